@@ -1,5 +1,6 @@
 -- Loose extents: which groups they are not in, and how marks change.
-use Rattle.std.proofs.Common.{◌≡◌, ◌≢◌, inl, inr, ℕ, ◌<◌, ◌||◌, ◌&&◌, Bool, true, false, eqb, [], length, set, Some, sym, ap, subst, ◌∙◌, arith, true≢false}
+use Rattle.std.proofs.Common.{◌≡◌, ◌≢◌, inl, inr, ℕ, ◌<◌, ◌||◌, ◌&&◌, Bool, true, false, eqb, [], length, set, Some}
+use Rattle.std.proofs.Common.{sym, ap, subst, ◌∙◌, arith, true≢false}
 use Rattle.std.proofs.lemmas.List.{get_or-set_other}
 use Rattle.std.proofs.lemmas.Bool.Decides.{eqb_tells}
 use Rattle.ar_disks.specs.declared.address.Place.{Place}
@@ -18,7 +19,8 @@ pub record IsLooseThere (s : SetState) (p : Place) : Type 0 where
   pub there : HasExtent s p
   pub loose : is_loose s p ≡ true
 
-pub lowest_there : (s : SetState) (p : Place) → IsValidSet s → p.disk < length s.disks → lowest_loose s p.disk ≡ Some p.extent → IsLooseThere s p
+pub lowest_there : (s : SetState) (p : Place) → IsValidSet s → p.disk < length s.disks
+    → lowest_loose s p.disk ≡ Some p.extent → IsLooseThere s p
 lowest_there s p kept inside lowest =
     let is = lowest_loose-is s p.disk p.extent lowest in
     let below : p.disk < length s.loose = subst (λ n. p.disk < n) (sym kept.tables) inside in
@@ -28,7 +30,8 @@ lowest_there s p kept inside lowest =
     }
 
 -- a member of a group isn't loose, so no loose extent is one
-pub member_not_loose : (s : StoreState) (g i : ℕ) (p : Place) → IsSpace s → g < length s.book.groups → i < 4 → is_loose s.disks p ≡ true
+pub member_not_loose : (s : StoreState) (g i : ℕ) (p : Place) → IsSpace s → g < length s.book.groups → i < 4
+    → is_loose s.disks p ≡ true
     → member (members_of s g) i ≢ p
 member_not_loose s g i p space inside lt loose same =
     true≢false (sym loose ∙ ap (λ (x : Place). is_loose s.disks x) (sym same) ∙ (space.extents g i inside lt).used)
@@ -45,14 +48,16 @@ apart_tells p q ne = elim (eqb_tells p.disk q.disk) [
 pub loose_unused : (s : StoreState) (p : Place) → IsSpace s → is_loose s.disks p ≡ true → IsUnused s.book p
 loose_unused s p space loose g inside =
     let m = members_of s g in
-    let apart : (i : ℕ) → i < 4 → same_place (member m i) p ≡ false = λ i lt. apart_tells (member m i) p (member_not_loose s g i p space inside lt loose) in
+    let apart : (i : ℕ) → i < 4 → same_place (member m i) p ≡ false =
+    λ i lt. apart_tells (member m i) p (member_not_loose s g i p space inside lt loose) in
     ap (λ b. b || same_place m.second p || same_place m.third p || same_place m.fourth p) (apart 0 (omega arith))
     ∙ ap (λ b. b || same_place m.third p || same_place m.fourth p) (apart 1 (omega arith))
     ∙ ap (λ b. b || same_place m.fourth p) (apart 2 (omega arith))
     ∙ apart 3 (omega arith)
 
 -- an extent that isn't loose isn't after another was taken
-pub used_taken : (s : SetState) (q p : Place) → is_loose s p ≡ false → is_loose (taken s q.disk (Some q.extent)) p ≡ false
+pub used_taken : (s : SetState) (q p : Place) → is_loose s p ≡ false
+    → is_loose (taken s q.disk (Some q.extent)) p ≡ false
 used_taken s q p used = elim (tell_place p q) [
   | inl same ↦ ap (λ x. is_loose (taken s q.disk (Some q.extent)) x) same ∙ is_loose-taken s q
   | inr ne ↦ is_loose-marked_other s q p false ne ∙ used

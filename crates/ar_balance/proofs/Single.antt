@@ -45,36 +45,45 @@ most_single s a b one other = elim (eqb_tells a b) [
     by (inr x) (inr y) = (let p = x.1 in let q = y.1 in omega arith)
 
 -- of two lowest groups each is the other
-group_single : (t : Tables) (a b c d g h p q : ℕ) → a ≡ c → b ≡ d → CanShift t a b g p → ((k r : ℕ) → k < g → CanShift t a b k r → ⊥)
+group_single : (t : Tables) (a b c d g h p q : ℕ) → a ≡ c → b ≡ d → CanShift t a b g p
+    → ((k r : ℕ) → k < g → CanShift t a b k r → ⊥)
     → CanShift t c d h q → ((k r : ℕ) → k < h → CanShift t c d k r → ⊥) → g ≡ h
 group_single t a b c d g h p q on off can least other lowest = elim (cases_lt g h) [
   | inl lower ↦
       absurd (lowest g p lower (subst (λ n. CanShift t n d g p) on (subst (λ n. CanShift t a n g p) off can)))
   | inr le ↦ elim (cases_lt h g) [
     | inl lower ↦
-        absurd (least h q lower (subst (λ n. CanShift t n b h q) (sym on) (subst (λ n. CanShift t c n h q) (sym off) other)))
+        absurd (least h q lower
+        (subst (λ n. CanShift t n b h q) (sym on) (subst (λ n. CanShift t c n h q) (sym off) other)))
     | inr fewer ↦ omega arith
   ]
 ]
 
-pub shift_single : (s : StoreState) (g h p q : ℕ) (from leaves to goes : Place) → TablesAgree s.book → NamesShift s g p from to
+pub shift_single : (s : StoreState) (g h p q : ℕ) (from leaves to goes : Place) → TablesAgree s.book
+    → NamesShift s g p from to
     → NamesShift s h q leaves goes → IsOneShift g h p q from leaves to goes
 shift_single s g h p q from leaves to goes agree one other =
     let on = fewest_single s.disks from.disk leaves.disk one.fewest other.fewest in
     let off = most_single s.disks to.disk goes.disk one.most other.most in
-    let groups = group_single s.book from.disk to.disk leaves.disk goes.disk g h p q on off one.can one.least other.can other.least in
+    let groups =
+    group_single s.book from.disk to.disk leaves.disk goes.disk g h p q on off one.can one.least other.can
+    other.least in
     let m = members_of s g in
-    let there : (member m q).disk ≡ leaves.disk = ap (λ k. (member (members_of s k) q).disk) groups ∙ other.can.stands.disk in
+    let there : (member m q).disk ≡ leaves.disk =
+    ap (λ k. (member (members_of s k) q).disk) groups ∙ other.can.stands.disk in
     let positions : p ≡ q = elim (eqb_tells p q) [
       | inl same ↦ same.1
       | inr ne ↦
-          absurd (agree.groups.apart g one.can.there p q one.can.stands.range other.can.stands.range ne.1 (one.can.stands.disk ∙ on ∙ sym there))
+          absurd (agree.groups.apart g one.can.there p q one.can.stands.range other.can.stands.range ne.1
+          (one.can.stands.disk ∙ on ∙ sym there))
     ] in
     record {
       groups = groups;
       positions = positions;
-      sources = sym one.from_is ∙ ap (λ k. member (members_of s k) p) groups ∙ ap (λ k. member (members_of s h) k) positions ∙ other.from_is;
-      targets = place_is to goes off (same_Some to.extent goes.extent (sym one.to_is ∙ ap (λ d. lowest_loose s.disks d) off ∙ other.to_is));
+      sources = sym one.from_is ∙ ap (λ k. member (members_of s k) p) groups
+          ∙ ap (λ k. member (members_of s h) k) positions ∙ other.from_is;
+      targets = place_is to goes off
+          (same_Some to.extent goes.extent (sym one.to_is ∙ ap (λ d. lowest_loose s.disks d) off ∙ other.to_is));
     }
 
 -- Four numbers in ascending order are four others in ascending order, where each of the ones is among the others.
@@ -107,16 +116,20 @@ among_tells m d = elim (eqb_tells d m.first.disk) [
   ]
 ]
 
--- A disk of the one four that is none of the other comes before all of those, and so no disk of the other is none of the one.
-not_apart : (s : SetState) (m n : Members) (i j : ℕ) → AreFullest s m → AreFullest s n → i < 4 → j < 4 → (member m i).disk < length s.disks → (member n j).disk < length s.disks
+-- A disk of the one four that is none of the other comes before all of those, and so no disk of the other is none of
+-- the one.
+not_apart : (s : SetState) (m n : Members) (i j : ℕ) → AreFullest s m → AreFullest s n → i < 4 → j < 4
+    → (member m i).disk < length s.disks → (member n j).disk < length s.disks
     → IsNotAmong n (member m i).disk → IsNotAmong m (member n j).disk → ⊥
 not_apart s m n i j one other hi hj below_m below_n out_m out_n =
     by (one.fullest (member n j).disk i below_n hi out_n) (other.fullest (member m i).disk j below_m hj out_m)
   where
     by : (loose_count s (member n j).disk < loose_count s (member m i).disk)
-        ⊎ ((loose_count s (member n j).disk ≡ loose_count s (member m i).disk) × ((member m i).disk < (member n j).disk))
+        ⊎ ((loose_count s (member n j).disk ≡ loose_count s (member m i).disk)
+        × ((member m i).disk < (member n j).disk))
         → (loose_count s (member m i).disk < loose_count s (member n j).disk)
-        ⊎ ((loose_count s (member m i).disk ≡ loose_count s (member n j).disk) × ((member n j).disk < (member m i).disk)) → ⊥
+        ⊎ ((loose_count s (member m i).disk ≡ loose_count s (member n j).disk)
+        × ((member n j).disk < (member m i).disk)) → ⊥
     by (inl x) (inl y) = omega arith
     by (inl x) (inr y) = (let p = y.0 in omega arith)
     by (inr x) (inl y) = (let p = x.0 in omega arith)
@@ -143,10 +156,12 @@ all_or_one m n = elim (among_tells n m.first.disk) [
 ]
 
 -- where one four has a disk that the other hasn't, all disks of the other are of the one
-among_back : (s : SetState) (m n : Members) (i : ℕ) → AreFullest s m → AreFullest s n → i < 4 → IsNotAmong n (member m i).disk → AreAmong n m
+among_back : (s : SetState) (m n : Members) (i : ℕ) → AreFullest s m → AreFullest s n → i < 4
+    → IsNotAmong n (member m i).disk → AreAmong n m
 among_back s m n i one other hi out j hj = elim (among_tells m (member n j).disk) [
   | inl is ↦ is
-  | inr ne ↦ absurd (not_apart s m n i j one other hi hj (fullest_below s m one i hi) (fullest_below s n other j hj) out ne)
+  | inr ne ↦ absurd
+      (not_apart s m n i j one other hi hj (fullest_below s m one i hi) (fullest_below s n other j hj) out ne)
 ]
 
 -- the same disks in the same order
@@ -155,7 +170,8 @@ record AreSameDisks (m n : Members) : Type 0 where
 
 among_same : (s : SetState) (m n : Members) → AreFullest s m → AreFullest s n → AreAmong m n → AreSameDisks m n
 among_same s m n one other all =
-    let same = same_four m.first.disk m.second.disk m.third.disk m.fourth.disk n.first.disk n.second.disk n.third.disk n.fourth.disk
+    let same = same_four m.first.disk m.second.disk m.third.disk m.fourth.disk n.first.disk n.second.disk n.third.disk
+    n.fourth.disk
     one.ascending.0 one.ascending.1 one.ascending.2 other.ascending.0 other.ascending.1 other.ascending.2
     (all 0 (omega arith)) (all 1 (omega arith)) (all 2 (omega arith)) (all 3 (omega arith)) in
     record { disks = four_cases (λ i. (member m i).disk ≡ (member n i).disk) same.0 same.1 same.2 same.3 }
@@ -168,11 +184,13 @@ same_disks s m n one other = elim (all_or_one m n) [
       record { disks = λ i lt. sym (back.disks i lt) }
 ]
 
-same_member : (s : SetState) (m n : Members) → AreFullest s m → AreFullest s n → (i : ℕ) → i < 4 → member m i ≡ member n i
+same_member : (s : SetState) (m n : Members) → AreFullest s m → AreFullest s n → (i : ℕ) → i < 4
+    → member m i ≡ member n i
 same_member s m n one other i lt =
     let disk = (same_disks s m n one other).disks i lt in
     place_is (member m i) (member n i) disk
-    (same_Some (member m i).extent (member n i).extent (sym (one.lowest i lt) ∙ ap (λ d. lowest_loose s d) disk ∙ other.lowest i lt))
+    (same_Some (member m i).extent (member n i).extent (sym (one.lowest i lt) ∙ ap (λ d. lowest_loose s d) disk
+    ∙ other.lowest i lt))
 
 -- two groups of the fullest four are one
 pub forming_single : (s : SetState) (m n : Members) → AreFullest s m → AreFullest s n → m ≡ n

@@ -1,5 +1,6 @@
 -- A group's extent moves to another disk, or is left where it was as a disk faulted.
-use Rattle.std.proofs.Common.{◌≡◌, ◌≢◌, inl, inr, ℕ, ◌<◌, true, false, length, Some, refl, sym, ap, subst, ◌∙◌, arith, true≢false}
+use Rattle.std.proofs.Common.{◌≡◌, ◌≢◌, inl, inr, ℕ, ◌<◌, true, false, length, Some, refl, sym, ap, subst, ◌∙◌, arith}
+use Rattle.std.proofs.Common.{true≢false}
 use Rattle.std.proofs.lemmas.Bool.Decides.{eqb_tells}
 use Rattle.ar_disks.specs.declared.address.Members.{Members}
 use Rattle.ar_disks.specs.declared.address.Place.{Place}
@@ -12,7 +13,8 @@ use Rattle.ar_extents.specs.Health.{is_lost}
 use Rattle.ar_extents.specs.Set.{SetState, HasExtent, IsValidSet, IsSound, content}
 use Rattle.ar_extents.specs.Loose.{is_loose, taken}
 use Rattle.ar_extents.specs.Follows.{Anywhere}
-use Rattle.ar_extents.proofs.Follows.{keeps_disks, keeps_refl, follows_refl, follows_then, follows_loose, has_extent_then}
+use Rattle.ar_extents.proofs.Follows.{keeps_disks, keeps_refl, follows_refl, follows_then, follows_loose}
+use Rattle.ar_extents.proofs.Follows.{has_extent_then}
 use Rattle.ar_extents.proofs.LooseLemmas.{is_loose-taken, is_loose-marked_other}
 use Rattle.ar_book.specs.declared.class.Class.{Class}
 use Rattle.ar_book.specs.declared.class.Class.TheVariants.{Free, Mirrored, Parity}
@@ -20,7 +22,8 @@ use Rattle.ar_book.specs.Tables.{Tables, group_in, class_of}
 use Rattle.ar_book.specs.Changes.{shifted}
 use Rattle.ar_book.specs.Choices.{IsUnused}
 use Rattle.ar_book.proofs.GroupChanges.{member_same, member_other}
-use Rattle.ar_book.proofs.AfterForm.{shifted_group_count, shifted_class, shifted_key, shifted_members, shifted_members_other, shifted_agrees}
+use Rattle.ar_book.proofs.AfterForm.{shifted_group_count, shifted_class, shifted_key, shifted_members}
+use Rattle.ar_book.proofs.AfterForm.{shifted_members_other, shifted_agrees}
 use Rattle.ar_store.specs.Store.{store_of}
 use Rattle.ar_store.specs.Kept.{IsSpace}
 use Rattle.ar_store.proofs.Copies.{IsCopy}
@@ -38,10 +41,17 @@ whole_sound : (s : SetState) (p : Place) → s.health ≡ Whole → IsSound s p
 whole_sound s p whole = ap (λ (h : Health). is_lost h p.disk p.extent) whole
 
 -- what was written where no disk faulted, also where nothing was
-pub filled_written : (class : Class) (a b : SetState) (from to : Place) → a.health ≡ Whole → IsFilled class a b from to → HasWritten a b to
+pub filled_written : (class : Class) (a b : SetState) (from to : Place) → a.health ≡ Whole → IsFilled class a b from to
+    → HasWritten a b to
 filled_written Free a b from to whole same =
     subst (λ (x : SetState). HasWritten a x to) (sym same)
-    (record { follows = follows_refl a; loose = refl; keeps = keeps_refl (λ p. p ≢ to) a; health = whole; faults = λ d. refl })
+    (record {
+      follows = follows_refl a;
+      loose = refl;
+      keeps = keeps_refl (λ p. p ≢ to) a;
+      health = whole;
+      faults = λ d. refl;
+    })
 filled_written Mirrored a b from to whole all = all.copied.written
 filled_written Parity a b from to whole all = all.copied.written
 
@@ -57,7 +67,8 @@ record IsUsed (s : SetState) (p : Place) : Type 0 where
   there : HasExtent s p
   used : is_loose s p ≡ false
 
-module _ (a : SetState) (t : Tables) (g p : ℕ) (from to : Place) (kept : IsValidSet a) (space : IsSpace (store_of a t)) (names : NamesShift (store_of a t) g p from to) where
+module _ (a : SetState) (t : Tables) (g p : ℕ) (from to : Place) (kept : IsValidSet a) (space : IsSpace (store_of a t))
+    (names : NamesShift (store_of a t) g p from to) where
   -- the new extent is there, loose, and in no group
   pub target_there : HasExtent a to
   target_there = (lowest_there a to kept names.most.below names.to_is).there
@@ -70,10 +81,14 @@ module _ (a : SetState) (t : Tables) (g p : ℕ) (from to : Place) (kept : IsVal
 
   -- the old one is the group's
   pub source_there : HasExtent a from
-  source_there = subst (λ (x : Place). HasExtent a x) names.from_is (space.extents g p names.can.there names.can.stands.range).there
+  source_there =
+      subst (λ (x : Place). HasExtent a x) names.from_is
+      (space.extents g p names.can.there names.can.stands.range).there
 
   pub source_used : is_loose a from ≡ false
-  source_used = subst (λ (x : Place). is_loose a x ≡ false) names.from_is (space.extents g p names.can.there names.can.stands.range).used
+  source_used =
+      subst (λ (x : Place). is_loose a x ≡ false) names.from_is
+      (space.extents g p names.can.there names.can.stands.range).used
 
   pub ends_apart : from ≢ to
   ends_apart same = true≢false (sym target_loose ∙ ap (λ x. is_loose a x) (sym same) ∙ source_used)
@@ -94,7 +109,8 @@ module _ (a : SetState) (t : Tables) (g p : ℕ) (from to : Place) (kept : IsVal
         geometry = cut.follows.geometry;
         usable = λ j range sound. cut.follows.usable (member (group_in t.groups h).members j) sound;
         rows = λ j row range fits.
-            cut.keeps.rows (member (group_in t.groups h).members j) (member_not_loose (store_of a t) h j to space lt range target_loose) row;
+            cut.keeps.rows (member (group_in t.groups h).members j)
+            (member_not_loose (store_of a t) h j to space lt range target_loose) row;
       };
       extents = λ h i lt range.
           let q = member (group_in t.groups h).members i in
@@ -122,11 +138,13 @@ module _ (a : SetState) (t : Tables) (g p : ℕ) (from to : Place) (kept : IsVal
 
     -- of the others none became loose
     used_switched : (q : Place) → q ≢ from → is_loose b q ≡ false → is_loose (switched b from to) q ≡ false
-    used_switched q ne used = is_loose-marked_other (taken b to.disk (Some to.extent)) from q true ne ∙ used_taken b to q used
+    used_switched q ne used =
+        is_loose-marked_other (taken b to.disk (Some to.extent)) from q true ne ∙ used_taken b to q used
 
     target_used : is_loose (switched b from to) to ≡ false
     target_used =
-        is_loose-marked_other (taken b to.disk (Some to.extent)) from to true (λ same. ends_apart (sym same)) ∙ is_loose-taken b to
+        is_loose-marked_other (taken b to.disk (Some to.extent)) from to true (λ same. ends_apart (sym same))
+        ∙ is_loose-taken b to
 
     used_then : (q : Place) → q ≢ from → IsUsed a q → IsUsed (switched b from to) q
     used_then q ne was =
@@ -145,46 +163,55 @@ module _ (a : SetState) (t : Tables) (g p : ℕ) (from to : Place) (kept : IsVal
         record { there = record { disk = there.disk; extent = there.extent }; used = target_used }
 
     -- the group's extents
-    here_used : (i : ℕ) → i < 4 → IsUsed (switched b from to) (member (with_member (group_in t.groups g).members p to) i)
+    here_used : (i : ℕ) → i < 4
+        → IsUsed (switched b from to) (member (with_member (group_in t.groups g).members p to) i)
     here_used i range =
         let m = (group_in t.groups g).members in
         let lt = names.can.there in
         let at = names.can.stands.range in
         elim (eqb_tells i p) [
           | inl same ↦
-              subst (λ (x : Place). IsUsed (switched b from to) x) (sym (ap (λ k. member (with_member m p to) k) same.1 ∙ member_same m p to)) target_taken
+              subst (λ (x : Place). IsUsed (switched b from to) x)
+              (sym (ap (λ k. member (with_member m p to) k) same.1 ∙ member_same m p to)) target_taken
           | inr ne ↦
               subst (λ (x : Place). IsUsed (switched b from to) x) (sym (member_other m p i to at range ne.1))
               (used_then (member m i)
-              (λ is. space.tables.groups.apart g lt i p range at ne.1 (ap (λ (x : Place). x.disk) (is ∙ sym names.from_is)))
+              (λ is. space.tables.groups.apart g lt i p range at ne.1
+              (ap (λ (x : Place). x.disk) (is ∙ sym names.from_is)))
               (was_used g i lt range))
         ]
 
     -- and those of another
-    other_used : (h i : ℕ) → h < length t.groups → h ≢ g → i < 4 → IsUsed (switched b from to) (member (group_in t.groups h).members i)
+    other_used : (h i : ℕ) → h < length t.groups → h ≢ g → i < 4
+        → IsUsed (switched b from to) (member (group_in t.groups h).members i)
     other_used h i lt ne range =
         used_then (member (group_in t.groups h).members i)
         (λ is.
         let same = is ∙ sym names.from_is in
-        space.tables.groups.disjoint h g lt names.can.there ne i p range names.can.stands.range (ap (λ (x : Place). x.disk) same) (ap (λ (x : Place). x.extent) same))
+        space.tables.groups.disjoint h g lt names.can.there ne i p range names.can.stands.range
+        (ap (λ (x : Place). x.disk) same) (ap (λ (x : Place). x.extent) same))
         (was_used h i lt range)
 
-    all_used : (h i : ℕ) → h < length (shifted t g p to).groups → i < 4 → IsUsed (switched b from to) (member (group_in (shifted t g p to).groups h).members i)
+    all_used : (h i : ℕ) → h < length (shifted t g p to).groups → i < 4
+        → IsUsed (switched b from to) (member (group_in (shifted t g p to).groups h).members i)
     all_used h i lt range =
         let before : h < length t.groups = subst (λ n. h < n) (shifted_group_count t g p to) lt in
         elim (eqb_tells h g) [
           | inl same ↦
               subst (λ (x : Members). IsUsed (switched b from to) (member x i))
-              (sym (ap (λ k. (group_in (shifted t g p to).groups k).members) same.1 ∙ shifted_members t g p to names.can.there)) (here_used i range)
+              (sym (ap (λ k. (group_in (shifted t g p to).groups k).members) same.1
+              ∙ shifted_members t g p to names.can.there)) (here_used i range)
           | inr ne ↦
-              subst (λ (x : Members). IsUsed (switched b from to) (member x i)) (sym (shifted_members_other t g p to h ne.1)) (other_used h i before ne.1 range)
+              subst (λ (x : Members). IsUsed (switched b from to) (member x i))
+              (sym (shifted_members_other t g p to h ne.1)) (other_used h i before ne.1 range)
         ]
 
     -- what stands in the sets' extents is the same
     content_same : (q : Place) (row : ℕ) → content (switched b from to) q row ≡ content b q row
     content_same q row = (keeps_disks Anywhere b (switched b from to) refl).rows q tt row
 
-    here_copy : class_of t g ≢ Free → IsCopy a (switched b from to) (group_in t.groups g).members (with_member (group_in t.groups g).members p to)
+    here_copy : class_of t g ≢ Free
+        → IsCopy a (switched b from to) (group_in t.groups g).members (with_member (group_in t.groups g).members p to)
     here_copy taken_up =
         let m = (group_in t.groups g).members in
         let lt = names.can.there in
@@ -203,29 +230,35 @@ module _ (a : SetState) (t : Tables) (g p : ℕ) (from to : Place) (kept : IsVal
             | inr ne ↦
                 content_same (member (with_member m p to) j) row
                 ∙ ap (λ x. content b x row) (member_other m p j to at range ne.1)
-                ∙ written.keeps.rows (member m j) (member_not_loose (store_of a t) g j to space lt range target_loose) row
+                ∙ written.keeps.rows (member m j) (member_not_loose (store_of a t) g j to space lt range target_loose)
+                row
           ];
         }
 
-    other_copy : (h : ℕ) → h < length t.groups → IsCopy a (switched b from to) (group_in t.groups h).members (group_in t.groups h).members
+    other_copy : (h : ℕ) → h < length t.groups
+        → IsCopy a (switched b from to) (group_in t.groups h).members (group_in t.groups h).members
     other_copy h lt = record {
       geometry = written.follows.geometry;
       usable = λ j range sound. whole_sound a (member (group_in t.groups h).members j) names.whole;
       rows = λ j row range fits.
           content_same (member (group_in t.groups h).members j) row
-          ∙ written.keeps.rows (member (group_in t.groups h).members j) (member_not_loose (store_of a t) h j to space lt range target_loose) row;
+          ∙ written.keeps.rows (member (group_in t.groups h).members j)
+          (member_not_loose (store_of a t) h j to space lt range target_loose) row;
     }
 
     copies : (h : ℕ) → h < length t.groups → class_of t h ≢ Free
         → IsCopy a (switched b from to) (group_in t.groups h).members (group_in (shifted t g p to).groups h).members
     copies h lt taken_up = elim (eqb_tells h g) [
       | inl same ↦
-          (let P : ℕ → Type 0 = λ k. IsCopy a (switched b from to) (group_in t.groups k).members (group_in (shifted t g p to).groups k).members in
+          (let P : ℕ → Type 0 = λ k. IsCopy a (switched b from to) (group_in t.groups k).members
+          (group_in (shifted t g p to).groups k).members in
           subst P (sym same.1)
-          (subst (λ (x : Members). IsCopy a (switched b from to) (group_in t.groups g).members x) (sym (shifted_members t g p to names.can.there))
+          (subst (λ (x : Members). IsCopy a (switched b from to) (group_in t.groups g).members x)
+          (sym (shifted_members t g p to names.can.there))
           (here_copy (λ is. taken_up (ap (λ k. class_of t k) same.1 ∙ is)))))
       | inr ne ↦
-          subst (λ (x : Members). IsCopy a (switched b from to) (group_in t.groups h).members x) (sym (shifted_members_other t g p to h ne.1)) (other_copy h lt)
+          subst (λ (x : Members). IsCopy a (switched b from to) (group_in t.groups h).members x)
+          (sym (shifted_members_other t g p to h ne.1)) (other_copy h lt)
     ]
 
     switched_carried : IsCarried a (switched b from to) t (shifted t g p to)

@@ -25,12 +25,14 @@ pub record NamesForming (s : StoreState) (m : Members) : Type 0 where
 -- of the disks below a number, this one has the fewest unassigned extents, the lowest on ties
 pub record HasFewestBelow (s : SetState) (end d : ℕ) : Type 0 where
   pub below : d < end
-  pub fewest : (x : ℕ) → x < end → x ≢ d → (loose_count s d < loose_count s x) ⊎ ((loose_count s d ≡ loose_count s x) × (d < x))
+  pub fewest : (x : ℕ) → x < end → x ≢ d → (loose_count s d < loose_count s x)
+      ⊎ ((loose_count s d ≡ loose_count s x) × (d < x))
 
 -- the same with the most
 pub record HasMostBelow (s : SetState) (end d : ℕ) : Type 0 where
   pub below : d < end
-  pub most : (x : ℕ) → x < end → x ≢ d → (loose_count s x < loose_count s d) ⊎ ((loose_count s x ≡ loose_count s d) × (d < x))
+  pub most : (x : ℕ) → x < end → x ≢ d → (loose_count s x < loose_count s d)
+      ⊎ ((loose_count s x ≡ loose_count s d) × (d < x))
 
 -- the same of all disks
 abbrev pub HasFewest : SetState → ℕ → Type 0
@@ -71,7 +73,8 @@ pub record NamesShift (s : StoreState) (group position : ℕ) (from to : Place) 
 -- than two, or no group is on the one and not on the other.
 pub record IsEven (s : StoreState) : Type 0 where
   pub few : HasFewLoose s.disks
-  pub even : (a b group position : ℕ) → HasFewest s.disks a → HasMost s.disks b → loose_count s.disks a + 2 ≤ loose_count s.disks b
+  pub even : (a b group position : ℕ) → HasFewest s.disks a → HasMost s.disks b
+      → loose_count s.disks a + 2 ≤ loose_count s.disks b
       → CanShift s.book a b group position → ⊥
 
 -- the rule chooses nothing, as always unless all disks are healthy

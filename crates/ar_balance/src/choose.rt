@@ -74,7 +74,8 @@ pub(crate) fn next_shift<D: Disk>(space: &Space<D>, counts: &[u16]) -> Option<Sh
     requires counts { AreLooseCounts space.now.disks counts.now }
     requires whole { space.now.disks.health ≡ Whole }
     requires few { HasFewLoose space.now.disks }
-    ensures names { IfSome result (λ shift. NamesShift (store_in space.now) shift.group shift.position shift.from shift.to) }
+    ensures names { IfSome result
+        (λ shift. NamesShift (store_in space.now) shift.group shift.position shift.from shift.to) }
     ensures none { IfNone result (IsEven (store_in space.now)) }
 {
     let on = emptiest(&space.disks, counts);

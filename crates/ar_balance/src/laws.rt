@@ -1,5 +1,5 @@
-// Theorems about balancing that other crates use: its choice is unique, it ends, it idles only on even disks, and what a
-// shift costs.
+// Theorems about balancing that other crates use: its choice is unique, it ends, it idles only on even disks, and what
+// a shift costs.
 ghost use Rattle.std.specs.Prelude.{◌≡◌, ◌≢◌, ◌<◌, ◌≤◌, ◌+◌, [], ℕ};
 ghost use Rattle.ar_disks.specs.Geometry.{rows_of};
 ghost use Rattle.ar_disks.specs.declared.address.Members.{Members};
@@ -22,9 +22,11 @@ ghost use Rattle.ar_balance.specs.Measure.{balance_left};
 /// rule chooses. A call does nothing.
 pub fn rule_names_one_action()
     ensures forming { (s : StoreState) (m other : Members) → NamesForming s m → NamesForming s other → m ≡ other }
-    ensures shift { (s : StoreState) (g h p q : ℕ) (from leaves to goes : Place) → TablesAgree s.book → NamesShift s g p from to
+    ensures shift { (s : StoreState) (g h p q : ℕ) (from leaves to goes : Place) → TablesAgree s.book
+        → NamesShift s g p from to
         → NamesShift s h q leaves goes → IsOneShift g h p q from leaves to goes }
-    ensures not_both { (s : StoreState) (m : Members) (g p : ℕ) (from to : Place) → NamesForming s m → NamesShift s g p from to → ⊥ }
+    ensures not_both { (s : StoreState) (m : Members) (g p : ℕ) (from to : Place) → NamesForming s m
+        → NamesShift s g p from to → ⊥ }
 {}
 
 /// Balancing ends: each change of a table lowers `balance_left`, a natural number. A call does nothing.
@@ -38,8 +40,10 @@ pub fn balancing_ends()
 /// nothing.
 pub fn idle_is_even()
     ensures forming { (old new : StoreState) (m : Members) → IsBalanceIdle old new → NamesForming old m → ⊥ }
-    ensures shift { (old new : StoreState) (g p : ℕ) (from to : Place) → IsBalanceIdle old new → NamesShift old g p from to → ⊥ }
-    ensures even { (old new : StoreState) (a b g p : ℕ) → IsBalanceIdle old new → old.disks.health ≡ Whole → HasFewest old.disks a → HasMost old.disks b
+    ensures shift { (old new : StoreState) (g p : ℕ) (from to : Place) → IsBalanceIdle old new
+        → NamesShift old g p from to → ⊥ }
+    ensures even { (old new : StoreState) (a b g p : ℕ) → IsBalanceIdle old new → old.disks.health ≡ Whole
+        → HasFewest old.disks a → HasMost old.disks b
         → CanShift old.book a b g p → loose_count old.disks b ≤ loose_count old.disks a + 1 }
 {}
 

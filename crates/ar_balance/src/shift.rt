@@ -66,7 +66,8 @@ fn fill<D: Disk>(space: &mut Space<D>, shift: Shift, block: &mut Block) -> bool
     requires to { HasExtent space.old.disks shift.to }
     requires len { length block.old ≡ block_len_of space.old.disks.geometry }
 
-    ensures filled { IsTrue result → IsFilled (class_of space.old.book shift.group) space.old.disks space.new.disks shift.from shift.to }
+    ensures filled { IsTrue result
+        → IsFilled (class_of space.old.book shift.group) space.old.disks space.new.disks shift.from shift.to }
     ensures cut { result ≡ false → IsCutShort space.old.disks space.new.disks shift.from shift.to }
     ensures stopped { result ≡ false → IsStopped space.old.disks space.new.disks shift.from shift.to }
     ensures used { result ≡ false → class_of space.old.book shift.group ≢ Free }
@@ -88,7 +89,8 @@ fn switch<D: Disk>(space: &mut Space<D>, shift: Shift)
     requires there { shift.group < length space.old.book.groups }
     requires range { shift.position < 4 }
     requires unused { IsUnused space.old.book shift.to }
-    requires apart { (i : ℕ) → i < 4 → i ≢ shift.position → (member (group_in space.old.book.groups shift.group).members i).disk ≢ shift.to.disk }
+    requires apart { (i : ℕ) → i < 4 → i ≢ shift.position
+        → (member (group_in space.old.book.groups shift.group).members i).disk ≢ shift.to.disk }
 
     requires to { HasExtent space.old.disks shift.to }
     requires lowest { lowest_loose space.old.disks shift.to.disk ≡ Some shift.to.extent }

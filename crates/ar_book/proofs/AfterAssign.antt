@@ -1,5 +1,6 @@
 -- The tables after a block moved to an empty slot.
-use Rattle.std.proofs.Common.{◌≡◌, ◌≢◌, ℕ, ◌+◌, ◌-◌, ◌*◌, ◌<◌, ◌≤◌, Option, None, Some, length, get_or, set, refl, sym, ap, subst, ◌∙◌, arith}
+use Rattle.std.proofs.Common.{◌≡◌, ◌≢◌, ℕ, ◌+◌, ◌-◌, ◌*◌, ◌<◌, ◌≤◌, Option, None, Some, length, get_or, set, refl, sym}
+use Rattle.std.proofs.Common.{ap, subst, ◌∙◌, arith}
 use Rattle.std.specs.Map.{keys_of}
 use Rattle.std.proofs.Math.ListN.{length-set}
 use Rattle.std.proofs.lemmas.Map.{keys-set_value}
@@ -9,11 +10,14 @@ use Rattle.ar_disks.specs.declared.address.Key.{Key}
 use Rattle.ar_book.specs.declared.class.Class.TheVariants.{Free}
 use Rattle.ar_book.specs.declared.class.Slot.{Slot}
 use Rattle.ar_disks.specs.Addresses.{same_addr}
-use Rattle.ar_book.specs.Tables.{UnitTableState, Tables, group_in, key_in, unit_in, key_at, home, stamp_of, level, level_in, level_of, class_of, free_groups, reserved, room, HasBlock, HasSlot}
+use Rattle.ar_book.specs.Tables.{UnitTableState, Tables, group_in, key_in, unit_in, key_at, home, stamp_of, level}
+use Rattle.ar_book.specs.Tables.{level_in, level_of, class_of, free_groups, reserved, room, HasBlock, HasSlot}
 use Rattle.ar_book.specs.Changes.{named, vacated, assigned}
 use Rattle.ar_book.specs.Choices.{IsEmpty}
 use Rattle.ar_book.specs.Book.{TablesAgree}
-use Rattle.ar_book.proofs.GroupLemmas.{KeepsClass, class_kept, level_stays, named_size, named_members, named_class, named_other, vacated_size, vacated_members, vacated_class, vacated_same, vacated_other, vacated_emptied}
+use Rattle.ar_book.proofs.GroupLemmas.{KeepsClass, class_kept, level_stays, named_size, named_members, named_class}
+use Rattle.ar_book.proofs.GroupLemmas.{named_other, vacated_size, vacated_members, vacated_class, vacated_same}
+use Rattle.ar_book.proofs.GroupLemmas.{vacated_other, vacated_emptied}
 use Rattle.ar_book.proofs.FreeGroups.{free_in, named_free, vacated_free, vacated_free_same, vacated_free_more}
 use Rattle.ar_book.proofs.UnitLemmas.{unit_keeps, homed_same, homed_other, homed_reserved}
 use Rattle.ar_book.proofs.PlaceLemmas.{assigned_agrees}
@@ -31,18 +35,21 @@ module _ (t : Tables) (k : Key) (s : Slot) where
   -- each has its class, or is free where none of its slots names a block
   pub assigned_class : (g : ℕ) → KeepsClass (class_of t g) (group_in (assigned t k s).groups g)
   assigned_class g =
-      subst (λ c. KeepsClass c (group_in (assigned t k s).groups g)) (named_class t.groups s k g) (vacated_class (named t.groups s k) (home t k) g)
+      subst (λ c. KeepsClass c (group_in (assigned t k s).groups g)) (named_class t.groups s k g)
+      (vacated_class (named t.groups s k) (home t k) g)
 
   -- the class stays where a slot names a block
   pub assigned_class_named : (r : Slot) (j : Key) → key_at (assigned t k s) r ≡ Some j
       → class_of (assigned t k s) r.group ≡ class_of t r.group
-  assigned_class_named r j e = class_kept (class_of t r.group) (group_in (assigned t k s).groups r.group) r.slot j (assigned_class r.group) e
+  assigned_class_named r j e =
+      class_kept (class_of t r.group) (group_in (assigned t k s).groups r.group) r.slot j (assigned_class r.group) e
 
   -- no fewer groups are free
   pub assigned_free_groups : free_groups t ≤ free_groups (assigned t k s)
   assigned_free_groups =
       let first : free_in (named t.groups s k) ≡ free_in t.groups = named_free t.groups s k in
-      let rest : free_in (named t.groups s k) ≤ free_in (assigned t k s).groups = vacated_free (named t.groups s k) (home t k) in
+      let rest : free_in (named t.groups s k) ≤ free_in (assigned t k s).groups =
+      vacated_free (named t.groups s k) (home t k) in
       omega arith
 
   -- the units stay in their order
@@ -53,7 +60,8 @@ module _ (t : Tables) (k : Key) (s : Slot) where
 
   -- what is read of a unit besides its homes stays
   same_unit : {A : Type 0} (f : UnitTableState → A)
-      → f (record (unit_in t.units k.addr) { homes = set (unit_in t.units k.addr).homes k.rb (Some s) }) ≡ f (unit_in t.units k.addr)
+      → f (record (unit_in t.units k.addr) { homes = set (unit_in t.units k.addr).homes k.rb (Some s) })
+      ≡ f (unit_in t.units k.addr)
       → (a : Addr) → f (unit_in (assigned t k s).units a) ≡ f (unit_in t.units a)
   same_unit f e a =
       let u = unit_in t.units k.addr in
@@ -95,7 +103,8 @@ module _ (t : Tables) (k : Key) (s : Slot) (block : HasBlock t k) where
       ap (λ n. 3 * rows_of t.geometry * (n - 1) - reserved (assigned t k s)) (assigned_group_count t k s)
       ∙ ap (λ n. 3 * rows_of t.geometry * (length t.groups - 1) - n) assigned_reserved
 
-module _ (t : Tables) (k : Key) (s : Slot) (ok : TablesAgree t) (block : HasBlock t k) (slot : HasSlot t s) (empty : key_at t s ≡ None) where
+module _ (t : Tables) (k : Key) (s : Slot) (ok : TablesAgree t) (block : HasBlock t k) (slot : HasSlot t s)
+    (empty : key_at t s ≡ None) where
   -- the slot names the block
   pub assigned_key : key_at (assigned t k s) s ≡ Some k
   assigned_key = (assigned_agrees t k s ok block slot empty).agree.to_slot k s (assigned_home t k s block)
@@ -104,7 +113,8 @@ module _ (t : Tables) (k : Key) (s : Slot) (ok : TablesAgree t) (block : HasBloc
   pub assigned_key_left : (q : Slot) → home t k ≡ Some q → key_at (assigned t k s) q ≡ None
   assigned_key_left q had =
       subst (λ o. key_in (vacated (named t.groups s k) o) q ≡ None) (sym had)
-      (vacated_same (named t.groups s k) q (former_group t k s ok slot empty q had) (former_slot t k s ok slot empty q had))
+      (vacated_same (named t.groups s k) q (former_group t k s ok slot empty q had)
+      (former_slot t k s ok slot empty q had))
 
   -- each other slot names what it did
   pub assigned_key_other : (r : Slot) → r ≢ s → home t k ≢ Some r → key_at (assigned t k s) r ≡ key_at t r
@@ -113,7 +123,8 @@ module _ (t : Tables) (k : Key) (s : Slot) (ok : TablesAgree t) (block : HasBloc
       by : (o : Option Slot) → home t k ≡ o → key_in (vacated (named t.groups s k) o) r ≡ key_in t.groups r
       by None e = named_other t.groups s k slot.0 r ne
       by (Some q) e =
-          vacated_other (named t.groups s k) q (former_group t k s ok slot empty q e) r (λ same. other (e ∙ ap Some (sym same)))
+          vacated_other (named t.groups s k) q (former_group t k s ok slot empty q e) r
+          (λ same. other (e ∙ ap Some (sym same)))
           ∙ named_other t.groups s k slot.0 r ne
 
   -- its group keeps its class
@@ -121,7 +132,8 @@ module _ (t : Tables) (k : Key) (s : Slot) (ok : TablesAgree t) (block : HasBloc
   assigned_class_here = assigned_class_named t k s s k assigned_key
 
   -- the group that the block left is free where it is empty
-  pub assigned_class_left : (q : Slot) → home t k ≡ Some q → IsEmpty (assigned t k s) q.group → class_of (assigned t k s) q.group ≡ Free
+  pub assigned_class_left : (q : Slot) → home t k ≡ Some q → IsEmpty (assigned t k s) q.group
+      → class_of (assigned t k s) q.group ≡ Free
   assigned_class_left q had =
       subst
       (λ o. ((i : ℕ) → key_in (vacated (named t.groups s k) o) (record { group = q.group; slot = i }) ≡ None)
@@ -131,7 +143,8 @@ module _ (t : Tables) (k : Key) (s : Slot) (ok : TablesAgree t) (block : HasBloc
 
   -- the block stands at the level of the slot's class, and each other block where it did
   pub assigned_level : level (assigned t k s) k ≡ level_of (class_of t s.group)
-  assigned_level = ap (λ o. level_in (assigned t k s).groups o) (assigned_home t k s block) ∙ ap level_of assigned_class_here
+  assigned_level =
+      ap (λ o. level_in (assigned t k s).groups o) (assigned_home t k s block) ∙ ap level_of assigned_class_here
 
   pub assigned_level_other : (j : Key) → j ≢ k → level (assigned t k s) j ≡ level t j
   assigned_level_other j ne =
@@ -141,7 +154,8 @@ module _ (t : Tables) (k : Key) (s : Slot) (ok : TablesAgree t) (block : HasBloc
       (λ r e. assigned_class_named t k s r j ((assigned_agrees t k s ok block slot empty).agree.to_slot j r (same ∙ e)))
 
   -- as many groups are free where the group that the block left keeps its class, as where there is none
-  pub assigned_free_groups_same : ((q : Slot) → home t k ≡ Some q → class_of (assigned t k s) q.group ≡ class_of t q.group)
+  pub assigned_free_groups_same : ((q : Slot) → home t k ≡ Some q
+      → class_of (assigned t k s) q.group ≡ class_of t q.group)
       → free_groups (assigned t k s) ≡ free_groups t
   assigned_free_groups_same stays = by (home t k) refl ∙ named_free t.groups s k
     where
@@ -149,7 +163,8 @@ module _ (t : Tables) (k : Key) (s : Slot) (ok : TablesAgree t) (block : HasBloc
       by None e = refl
       by (Some q) e =
           vacated_free_same (named t.groups s k) q (former_group t k s ok slot empty q e)
-          (ap (λ o. (group_in (vacated (named t.groups s k) o) q.group).class) (sym e) ∙ stays q e ∙ sym (named_class t.groups s k q.group))
+          (ap (λ o. (group_in (vacated (named t.groups s k) o) q.group).class) (sym e) ∙ stays q e
+          ∙ sym (named_class t.groups s k q.group))
 
   -- and one more is free where that group is empty
   pub assigned_free_groups_more : (q : Slot) → home t k ≡ Some q → IsEmpty (assigned t k s) q.group

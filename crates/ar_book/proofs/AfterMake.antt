@@ -1,5 +1,6 @@
 -- The tables after a unit was made, has grown, or its mark was cleared.
-use Rattle.std.proofs.Common.{◌≡◌, ◌≢◌, ℕ, ◌+◌, ◌-◌, false, Some, None, IsSome, is_some, [], ◌∷◌, ◌++◌, cond, length, get_or, replicate, refl, sym, ap, subst, ◌∙◌, length-append, arith}
+use Rattle.std.proofs.Common.{◌≡◌, ◌≢◌, ℕ, ◌+◌, ◌-◌, false, Some, None, IsSome, is_some, [], ◌∷◌, ◌++◌, cond, length}
+use Rattle.std.proofs.Common.{get_or, replicate, refl, sym, ap, subst, ◌∙◌, length-append, arith}
 use Rattle.std.specs.List.{IsDistinct}
 use Rattle.std.specs.Map.{lookup, keys_of}
 use Rattle.std.specs.Option.{unwrap_or}
@@ -18,7 +19,8 @@ use Rattle.ar_book.specs.Book.{TablesAgree}
 use Rattle.ar_disks.proofs.Addresses.{addr_laws, addr_apart, same_addr_self}
 use Rattle.ar_book.proofs.Padding.{nothing, get_replicate, get_padded}
 use Rattle.ar_book.proofs.UnitLemmas.{unit_same, unit_other, unit_keeps, unit_sum}
-use Rattle.ar_book.proofs.UnitChanges.{keys_push, push_found, push_keeps, push_other, made_kept, grown_kept, unmarked_kept}
+use Rattle.ar_book.proofs.UnitChanges.{keys_push, push_found, push_keeps, push_other, made_kept, grown_kept}
+use Rattle.ar_book.proofs.UnitChanges.{unmarked_kept}
 use Rattle.ar_book.proofs.RefusalLemmas.{CanMake, can_make, CanGrow, can_grow}
 
 module _ (t : Tables) (a : Addr) (n : ℕ) where
@@ -30,7 +32,8 @@ module _ (t : Tables) (a : Addr) (n : ℕ) where
 
   pub made_stamp : (j : Key) → stamp_of (made t a n) j ≡ stamp_of t j
   made_stamp j =
-      push_keeps (λ u. get_or u.stamps j.rb 0) (same_addr j.addr) t.units a (new_unit t.geometry n) (get_replicate (blocks_of t.geometry n) j.rb 0)
+      push_keeps (λ u. get_or u.stamps j.rb 0) (same_addr j.addr) t.units a (new_unit t.geometry n)
+      (get_replicate (blocks_of t.geometry n) j.rb 0)
 
   pub made_level : (j : Key) → level (made t a n) j ≡ level t j
   made_level j = ap (λ o. level_in t.groups o) (made_home j)
@@ -39,10 +42,12 @@ module _ (t : Tables) (a : Addr) (n : ℕ) where
   pub made_unit : lookup (same_addr a) t.units ≡ None → unit_in (made t a n).units a ≡ new_unit t.geometry n
   made_unit fresh =
       ap (λ o. unwrap_or o no_unit)
-      (push_found (same_addr a) t.units a (new_unit t.geometry n) fresh ∙ ap (λ b. cond b (Some (new_unit t.geometry n)) None) (same_addr_self a))
+      (push_found (same_addr a) t.units a (new_unit t.geometry n) fresh
+      ∙ ap (λ b. cond b (Some (new_unit t.geometry n)) None) (same_addr_self a))
 
   pub made_unit_other : (b : Addr) → b ≢ a → unit_in (made t a n).units b ≡ unit_in t.units b
-  made_unit_other b ne = ap (λ o. unwrap_or o no_unit) (push_other (same_addr b) t.units a (new_unit t.geometry n) (addr_apart b a ne))
+  made_unit_other b ne =
+      ap (λ o. unwrap_or o no_unit) (push_other (same_addr b) t.units a (new_unit t.geometry n) (addr_apart b a ne))
 
   -- it is the last in order of making
   pub made_order : keys_of (made t a n).units ≡ keys_of t.units ++ a ∷ []
@@ -53,7 +58,8 @@ module _ (t : Tables) (a : Addr) (n : ℕ) where
   made_agrees ok granted =
       let can : CanMake t a n = can_make t a n ok granted in
       let new : IsDistinct same_addr (keys_of t.units ++ a ∷ []) =
-      IsDistinct-push addr_laws (keys_of t.units) a ok.units.distinct (sym (is_some-lookup (same_addr a) t.units) ∙ ap is_some can.fresh) in
+      IsDistinct-push addr_laws (keys_of t.units) a ok.units.distinct (sym (is_some-lookup (same_addr a) t.units)
+      ∙ ap is_some can.fresh) in
       (made_kept t (reserved t) a n (record { tables = ok; total = refl }) can.some can.few can.room
       (subst (λ l. IsDistinct same_addr l) (sym made_order) new)).tables
 
@@ -87,28 +93,34 @@ module _ (t : Tables) (a : Addr) (n : ℕ) where
     grown_unit_other b ne = unit_other t.units a (longer t.geometry (unit_in t.units a) n) there b (λ e. ne (sym e))
 
     -- the added blocks are reserved
-    pub grown_reserved : reserved (grown t a n) ≡ reserved t + (blocks_of t.geometry n - length (unit_in t.units a).homes)
+    pub grown_reserved : reserved (grown t a n) ≡ reserved t
+        + (blocks_of t.geometry n - length (unit_in t.units a).homes)
     grown_reserved =
         let u = unit_in t.units a in
         let more : ℕ = blocks_of t.geometry n - length u.homes in
         let all = unit_sum t.units a (longer t.geometry u n) there (λ x. length x.homes) in
         let size : length (u.homes ++ replicate more (nothing Slot)) ≡ length u.homes + more =
-        length-append u.homes (replicate more (nothing Slot)) ∙ ap (λ x. length u.homes + x) (length-replicate more (nothing Slot)) in
+        length-append u.homes (replicate more (nothing Slot))
+        ∙ ap (λ x. length u.homes + x) (length-replicate more (nothing Slot)) in
         omega arith
 
   -- the tables still agree where the growth is not refused
   pub grown_agrees : TablesAgree t → unit_grow_refusal t a n ≡ None → TablesAgree (grown t a n)
   grown_agrees ok granted =
       let can : CanGrow t a n = can_grow t a n ok granted in
-      (grown_kept t (reserved t) a n (record { tables = ok; total = refl }) can.there can.longer can.some can.few can.room).tables
+      (grown_kept t (reserved t) a n (record { tables = ok; total = refl }) can.there can.longer can.some can.few
+      can.room).tables
 
 module _ (t : Tables) (a : Addr) where
   -- each block has the home, the stamp and the level that it had
   pub unmarked_home : (j : Key) → home (unmarked t a) j ≡ home t j
-  unmarked_home j = unit_keeps (λ x. get_or x.homes j.rb None) t.units a (record (unit_in t.units a) { attention = false }) refl j.addr
+  unmarked_home j =
+      unit_keeps (λ x. get_or x.homes j.rb None) t.units a (record (unit_in t.units a) { attention = false }) refl
+      j.addr
 
   pub unmarked_stamp : (j : Key) → stamp_of (unmarked t a) j ≡ stamp_of t j
-  unmarked_stamp j = unit_keeps (λ x. get_or x.stamps j.rb 0) t.units a (record (unit_in t.units a) { attention = false }) refl j.addr
+  unmarked_stamp j =
+      unit_keeps (λ x. get_or x.stamps j.rb 0) t.units a (record (unit_in t.units a) { attention = false }) refl j.addr
 
   pub unmarked_level : (j : Key) → level (unmarked t a) j ≡ level t j
   unmarked_level j = ap (λ o. level_in t.groups o) (unmarked_home j)

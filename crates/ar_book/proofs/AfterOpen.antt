@@ -38,7 +38,8 @@ module _ (t : Tables) (g : ℕ) (c : Class) where
   pub opened_room : room (opened t g c) ≡ room t
   opened_room = ap (λ n. 3 * rows_of t.geometry * (n - 1) - reserved t) opened_group_count
 
-module _ (t : Tables) (g : ℕ) (c : Class) (ok : TablesAgree t) (inside : g < length t.groups) (free : class_of t g ≡ Free) where
+module _ (t : Tables) (g : ℕ) (c : Class) (ok : TablesAgree t) (inside : g < length t.groups) (free : class_of t g
+    ≡ Free) where
   -- the group's slots are all empty
   pub opened_empty : IsEmpty (opened t g c) g
   opened_empty i = opened_key t g c (record { group = g; slot = i }) ∙ free_empty t ok g free i

@@ -1,5 +1,6 @@
 -- The tables after a block left its home.
-use Rattle.std.proofs.Common.{◌≡◌, ◌≢◌, ℕ, ◌-◌, ◌*◌, ◌≤◌, Option, None, Some, length, get_or, set, refl, sym, ap, subst, ◌∙◌}
+use Rattle.std.proofs.Common.{◌≡◌, ◌≢◌, ℕ, ◌-◌, ◌*◌, ◌≤◌, Option, None, Some, length, get_or, set, refl, sym, ap, subst}
+use Rattle.std.proofs.Common.{◌∙◌}
 use Rattle.std.specs.Map.{keys_of}
 use Rattle.std.proofs.Math.ListN.{length-set}
 use Rattle.std.proofs.lemmas.Map.{keys-set_value}
@@ -8,10 +9,12 @@ use Rattle.ar_disks.specs.declared.address.Addr.{Addr}
 use Rattle.ar_disks.specs.declared.address.Key.{Key}
 use Rattle.ar_book.specs.declared.class.Slot.{Slot}
 use Rattle.ar_disks.specs.Addresses.{same_addr}
-use Rattle.ar_book.specs.Tables.{UnitTableState, Tables, group_in, key_in, unit_in, key_at, home, stamp_of, level, level_in, class_of, free_groups, reserved, room, HasBlock}
+use Rattle.ar_book.specs.Tables.{UnitTableState, Tables, group_in, key_in, unit_in, key_at, home, stamp_of, level}
+use Rattle.ar_book.specs.Tables.{level_in, class_of, free_groups, reserved, room, HasBlock}
 use Rattle.ar_book.specs.Changes.{vacated, released}
 use Rattle.ar_book.specs.Book.{TablesAgree}
-use Rattle.ar_book.proofs.GroupLemmas.{there_group, there_slot, KeepsClass, class_kept, level_stays, vacated_size, vacated_members, vacated_class, vacated_same, vacated_other}
+use Rattle.ar_book.proofs.GroupLemmas.{there_group, there_slot, KeepsClass, class_kept, level_stays, vacated_size}
+use Rattle.ar_book.proofs.GroupLemmas.{vacated_members, vacated_class, vacated_same, vacated_other}
 use Rattle.ar_book.proofs.FreeGroups.{vacated_free}
 use Rattle.ar_book.proofs.UnitLemmas.{unit_keeps, homed_same, homed_other, homed_reserved}
 use Rattle.ar_book.proofs.PlaceLemmas.{released_agrees}
@@ -29,8 +32,10 @@ module _ (t : Tables) (k : Key) where
   released_class g = vacated_class t.groups (home t k) g
 
   -- the class stays where a slot names a block
-  pub released_class_named : (r : Slot) (j : Key) → key_at (released t k) r ≡ Some j → class_of (released t k) r.group ≡ class_of t r.group
-  released_class_named r j e = class_kept (class_of t r.group) (group_in (released t k).groups r.group) r.slot j (released_class r.group) e
+  pub released_class_named : (r : Slot) (j : Key) → key_at (released t k) r ≡ Some j
+      → class_of (released t k) r.group ≡ class_of t r.group
+  released_class_named r j e =
+      class_kept (class_of t r.group) (group_in (released t k).groups r.group) r.slot j (released_class r.group) e
 
   -- no fewer groups are free
   pub released_free_groups : free_groups t ≤ free_groups (released t k)
@@ -44,9 +49,11 @@ module _ (t : Tables) (k : Key) where
 
   -- what is read of a unit besides its homes stays
   same_unit : {A : Type 0} (f : UnitTableState → A)
-      → f (record (unit_in t.units k.addr) { homes = set (unit_in t.units k.addr).homes k.rb None }) ≡ f (unit_in t.units k.addr)
+      → f (record (unit_in t.units k.addr) { homes = set (unit_in t.units k.addr).homes k.rb None })
+      ≡ f (unit_in t.units k.addr)
       → (a : Addr) → f (unit_in (released t k).units a) ≡ f (unit_in t.units a)
-  same_unit f e a = let u = unit_in t.units k.addr in unit_keeps f t.units k.addr (record u { homes = set u.homes k.rb None }) e a
+  same_unit f e a = let u =
+      unit_in t.units k.addr in unit_keeps f t.units k.addr (record u { homes = set u.homes k.rb None }) e a
 
   -- each unit has its length, its stamps and its mark, and as many blocks
   pub released_sectors : (a : Addr) → (unit_in (released t k).units a).sectors ≡ (unit_in t.units a).sectors
@@ -93,7 +100,8 @@ module _ (t : Tables) (k : Key) (ok : TablesAgree t) (block : HasBlock t k) wher
       by : (o : Option Slot) → home t k ≡ o → key_in (vacated t.groups o) r ≡ key_in t.groups r
       by None e = refl
       by (Some q) e =
-          vacated_other t.groups q (there_group t.groups q k (ok.agree.to_slot k q e)) r (λ same. other (e ∙ ap Some (sym same)))
+          vacated_other t.groups q (there_group t.groups q k (ok.agree.to_slot k q e)) r
+          (λ same. other (e ∙ ap Some (sym same)))
 
   -- each other block stands at the level that it had
   pub released_level_other : (j : Key) → j ≢ k → level (released t k) j ≡ level t j

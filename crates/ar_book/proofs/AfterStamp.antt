@@ -1,12 +1,14 @@
 -- The tables after a block got the next stamp.
-use Rattle.std.proofs.Common.{◌≡◌, ◌≢◌, ◌-◌, ◌*◌, ◌<◌, None, length, get_or, set, refl, sym, ap, subst, ◌∙◌, inl, inr, get_or-set_same, get_or-set_other, arith}
+use Rattle.std.proofs.Common.{◌≡◌, ◌≢◌, ◌-◌, ◌*◌, ◌<◌, None, length, get_or, set, refl, sym, ap, subst, ◌∙◌, inl, inr}
+use Rattle.std.proofs.Common.{get_or-set_same, get_or-set_other, arith}
 use Rattle.std.specs.Map.{keys_of}
 use Rattle.std.proofs.lemmas.Map.{keys-set_value}
 use Rattle.ar_disks.specs.Geometry.{rows_of}
 use Rattle.ar_disks.specs.declared.address.Addr.{Addr}
 use Rattle.ar_disks.specs.declared.address.Key.{Key}
 use Rattle.ar_disks.specs.Addresses.{same_addr}
-use Rattle.ar_book.specs.Tables.{UnitTableState, Tables, unit_in, home, stamp_of, level, level_in, reserved, room, HasBlock}
+use Rattle.ar_book.specs.Tables.{UnitTableState, Tables, unit_in, home, stamp_of, level, level_in, reserved, room}
+use Rattle.ar_book.specs.Tables.{HasBlock}
 use Rattle.ar_book.specs.Changes.{next_stamp, stamped}
 use Rattle.ar_book.specs.Book.{TablesAgree}
 use Rattle.ar_disks.proofs.Addresses.{addr_tells, make_key}
@@ -16,7 +18,8 @@ use Rattle.ar_book.proofs.UnitChanges.{restamped_kept, stamps_long}
 module _ (t : Tables) (k : Key) where
   -- what is read of a unit besides its stamps stays
   same_unit : {A : Type 0} (f : UnitTableState → A)
-      → f (record (unit_in t.units k.addr) { stamps = set (unit_in t.units k.addr).stamps k.rb (next_stamp t.puts) }) ≡ f (unit_in t.units k.addr)
+      → f (record (unit_in t.units k.addr) { stamps = set (unit_in t.units k.addr).stamps k.rb (next_stamp t.puts) })
+      ≡ f (unit_in t.units k.addr)
       → (a : Addr) → f (unit_in (stamped t k).units a) ≡ f (unit_in t.units a)
   same_unit f e a =
       let u = unit_in t.units k.addr in
@@ -68,7 +71,8 @@ module _ (t : Tables) (k : Key) (block : HasBlock t k) where
   pub stamped_reserved : reserved (stamped t k) ≡ reserved t
   stamped_reserved =
       let u = unit_in t.units k.addr in
-      let all = unit_sum t.units k.addr (record u { stamps = set u.stamps k.rb (next_stamp t.puts) }) (has_by_block t.units k.addr k.rb block) (λ x. length x.homes) in
+      let all = unit_sum t.units k.addr (record u { stamps = set u.stamps k.rb (next_stamp t.puts) })
+      (has_by_block t.units k.addr k.rb block) (λ x. length x.homes) in
       omega arith
 
   pub stamped_room : room (stamped t k) ≡ room t
@@ -78,9 +82,14 @@ module _ (t : Tables) (k : Key) (block : HasBlock t k) where
   pub stamped_stamp : TablesAgree t → stamp_of (stamped t k) k ≡ next_stamp t.puts
   stamped_stamp ok =
       let u = unit_in t.units k.addr in
-      ap (λ x. get_or x.stamps k.rb 0) (unit_same t.units k.addr (record u { stamps = set u.stamps k.rb (next_stamp t.puts) }) (has_by_block t.units k.addr k.rb block))
-      ∙ get_or-set_same u.stamps k.rb (next_stamp t.puts) 0 (stamps_long t (reserved t) k (record { tables = ok; total = refl }) block)
+      ap (λ x. get_or x.stamps k.rb 0)
+      (unit_same t.units k.addr (record u { stamps = set u.stamps k.rb (next_stamp t.puts) })
+      (has_by_block t.units k.addr k.rb block))
+      ∙ get_or-set_same u.stamps k.rb (next_stamp t.puts) 0
+      (stamps_long t (reserved t) k (record { tables = ok; total = refl }) block)
 
   -- the tables still agree
   pub stamped_agrees : TablesAgree t → TablesAgree (stamped t k)
-  stamped_agrees ok = (restamped_kept t (reserved t) (next_stamp t.puts) (next_stamp t.puts) k (record { tables = ok; total = refl }) block).tables
+  stamped_agrees ok =
+      (restamped_kept t (reserved t) (next_stamp t.puts) (next_stamp t.puts) k (record { tables = ok; total = refl })
+      block).tables

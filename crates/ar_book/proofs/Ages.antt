@@ -1,5 +1,6 @@
 -- The oldest mirrored block, by the choices at the root of the tree.
-use Rattle.std.proofs.Common.{◌≡◌, ℕ, zero, suc, ◌+◌, ◌<◌, ◌≤◌, ◌⊎◌, Bool, true, false, cond, ◌&&◌, ◌||◌, Option, None, Some, List, [], ◌∷◌, ◌++◌, length, take, get_or, map, refl, sym, ap, subst, ◌∙◌, arith}
+use Rattle.std.proofs.Common.{◌≡◌, ℕ, zero, suc, ◌+◌, ◌<◌, ◌≤◌, ◌⊎◌, Bool, true, false, cond, ◌&&◌, ◌||◌, Option, None}
+use Rattle.std.proofs.Common.{Some, List, [], ◌∷◌, ◌++◌, length, take, get_or, map, refl, sym, ap, subst, ◌∙◌, arith}
 use Rattle.std.specs.Prelude.{nat_lt, nat_le, ◌==◌}
 use Rattle.std.specs.Option.{option_map}
 use Rattle.std.proofs.lemmas.Bool.Decides.{nat_tests}
@@ -23,16 +24,20 @@ use Rattle.ar_book.specs.Index.{age_of, oldest_named, choices_by, leaves_from, l
 use Rattle.ar_book.proofs.Homes.{home_block, home_slot}
 
 -- the oldest of two lists
-oldest_both : (place : Addr → ℕ) (xs ys : List (Option Age)) → oldest place (xs ++ ys) ≡ older place (oldest place xs) (oldest place ys)
+oldest_both : (place : Addr → ℕ) (xs ys : List (Option Age))
+    → oldest place (xs ++ ys) ≡ older place (oldest place xs) (oldest place ys)
 oldest_both place [] ys = refl
-oldest_both place (x ∷ xs) ys = ap (older place x) (oldest_both place xs ys) ∙ sym (older_assoc place x (oldest place xs) (oldest place ys))
+oldest_both place (x ∷ xs) ys =
+    ap (older place x) (oldest_both place xs ys) ∙ sym (older_assoc place x (oldest place xs) (oldest place ys))
 
 map_both : (f : Option Key → Option Age) (xs ys : List (Option Key)) → map f (xs ++ ys) ≡ map f xs ++ map f ys
 map_both f [] ys = refl
 map_both f (x ∷ xs) ys = ap (λ l. f x ∷ l) (map_both f xs ys)
 
 -- one slot more
-pub oldest_more : (place : Addr → ℕ) (age : Key → Age) (slots : List (Option Key)) (i : ℕ) → i < length slots → oldest_named place age (take (i + 1) slots) ≡ older place (oldest_named place age (take i slots)) (option_map age (get_or slots i None))
+pub oldest_more : (place : Addr → ℕ) (age : Key → Age) (slots : List (Option Key)) (i : ℕ) → i < length slots
+    → oldest_named place age (take (i + 1) slots)
+    ≡ older place (oldest_named place age (take i slots)) (option_map age (get_or slots i None))
 oldest_more place age slots i h =
     ap (λ l. oldest_named place age l) (take_more slots i None h)
     ∙ ap (oldest place) (map_both (option_map age) (take i slots) (get_or slots i None ∷ []))
@@ -52,11 +57,13 @@ oldest_in_list place (o ∷ os) a e = by o (oldest place os) refl e (oldest_in_l
     later : (x : Option Age) → IsIn os a → IsIn (x ∷ os) a
     later x r = record { place = suc r.place; inside = omega (arith, r.inside); is = r.is }
 
-    two : (b c : Age) (t : Bool) → oldest place os ≡ Some c → Some (cond t b c) ≡ Some a → ((d : Age) → oldest place os ≡ Some d → IsIn os d) → IsIn (Some b ∷ os) a
+    two : (b c : Age) (t : Bool) → oldest place os ≡ Some c → Some (cond t b c) ≡ Some a
+        → ((d : Age) → oldest place os ≡ Some d → IsIn os d) → IsIn (Some b ∷ os) a
     two b c true f h rest = record { place = 0; inside = omega arith; is = h }
     two b c false f h rest = later (Some b) (rest a (f ∙ h))
 
-    by : (o r : Option Age) → oldest place os ≡ r → older place o r ≡ Some a → ((d : Age) → oldest place os ≡ Some d → IsIn os d) → IsIn (o ∷ os) a
+    by : (o r : Option Age) → oldest place os ≡ r → older place o r ≡ Some a
+        → ((d : Age) → oldest place os ≡ Some d → IsIn os d) → IsIn (o ∷ os) a
     by None r f h rest = later None (rest a (f ∙ h))
     by (Some b) None f h rest = record { place = 0; inside = omega arith; is = h }
     by (Some b) (Some c) f h rest = two b c (is_no_newer place b c) f h rest
@@ -67,10 +74,12 @@ record IsLeast (place : Addr → ℕ) (o : Option Age) (b : Age) : Type 0 where
   is : o ≡ Some first
   least : is_no_newer place first b ≡ true
 
-oldest_least : (place : Addr → ℕ) (os : List (Option Age)) (i : ℕ) (b : Age) → get_or os i None ≡ Some b → IsLeast place (oldest place os) b
+oldest_least : (place : Addr → ℕ) (os : List (Option Age)) (i : ℕ) (b : Age) → get_or os i None ≡ Some b
+    → IsLeast place (oldest place os) b
 oldest_least place [] zero b e = absurd (none-some b e)
 oldest_least place [] (suc i) b e = absurd (none-some b e)
-oldest_least place (o ∷ os) zero b e = subst (λ x. IsLeast place (older place x (oldest place os)) b) (sym e) (by (oldest place os))
+oldest_least place (o ∷ os) zero b e =
+    subst (λ x. IsLeast place (older place x (oldest place os)) b) (sym e) (by (oldest place os))
   where
     two : (c : Age) (t : Bool) → is_no_newer place b c ≡ t → IsLeast place (Some (cond t b c)) b
     two c true f = record { first = b; is = refl; least = ages_self place b }
@@ -81,45 +90,54 @@ oldest_least place (o ∷ os) zero b e = subst (λ x. IsLeast place (older place
     by (Some c) = two c (is_no_newer place b c) refl
 oldest_least place (o ∷ os) (suc i) b e = by o (oldest place os) (oldest_least place os i b e)
   where
-    two : (c d : Age) (t : Bool) → is_no_newer place c d ≡ t → is_no_newer place d b ≡ true → IsLeast place (Some (cond t c d)) b
+    two : (c d : Age) (t : Bool) → is_no_newer place c d ≡ t → is_no_newer place d b ≡ true
+        → IsLeast place (Some (cond t c d)) b
     two c d true f h = record { first = c; is = refl; least = ages_trans place c d b f h }
     two c d false f h = record { first = d; is = refl; least = h }
 
     by : (o r : Option Age) → IsLeast place r b → IsLeast place (older place o r) b
     by None r l = l
     by (Some c) None l = absurd (none-some l.first l.is)
-    by (Some c) (Some d) l = two c d (is_no_newer place c d) refl (subst (λ x. is_no_newer place x b ≡ true) (sym (same_Some d l.first l.is)) l.least)
+    by (Some c) (Some d) l =
+        two c d (is_no_newer place c d) refl
+        (subst (λ x. is_no_newer place x b ≡ true) (sym (same_Some d l.first l.is)) l.least)
 
 -- the oldest at the root is that of the leaves
-search_oldest : (place : Addr → ℕ) (cs : List Choices) → (search_all place cs).oldest ≡ oldest place (map (λ c. c.oldest) cs)
+search_oldest : (place : Addr → ℕ) (cs : List Choices)
+    → (search_all place cs).oldest ≡ oldest place (map (λ c. c.oldest) cs)
 search_oldest place [] = refl
 search_oldest place (c ∷ cs) = ap (older place c.oldest) (search_oldest place cs)
 
-leaf_oldest : (g : Geometry) (place : Addr → ℕ) (age : Key → Age) (n i : ℕ) (gs : List GroupState) (a : Age) → get_or (map (λ c. c.oldest) (leaves_from g place age n gs)) i None ≡ Some a
+leaf_oldest : (g : Geometry) (place : Addr → ℕ) (age : Key → Age) (n i : ℕ) (gs : List GroupState) (a : Age)
+    → get_or (map (λ c. c.oldest) (leaves_from g place age n gs)) i None ≡ Some a
     → ((group_in gs i).class ≡ Mirrored) × (oldest_named place age (group_in gs i).slots ≡ Some a)
 leaf_oldest g place age n zero [] a e = absurd (none-some a e)
 leaf_oldest g place age n (suc i) [] a e = absurd (none-some a e)
 leaf_oldest g place age n zero (x ∷ gs) a e = by x.class e
   where
-    by : (c : Class) → (choices_by c g place age n x).oldest ≡ Some a → (c ≡ Mirrored) × (oldest_named place age x.slots ≡ Some a)
+    by : (c : Class) → (choices_by c g place age n x).oldest ≡ Some a
+        → (c ≡ Mirrored) × (oldest_named place age x.slots ≡ Some a)
     by Free f = absurd (none-some a f)
     by Mirrored f = (refl, f)
     by Parity f = absurd (none-some a f)
 leaf_oldest g place age n (suc i) (x ∷ gs) a e = leaf_oldest g place age (suc n) i gs a e
 
-oldest_leaf : (g : Geometry) (place : Addr → ℕ) (age : Key → Age) (n i : ℕ) (gs : List GroupState) (a : Age) → i < length gs → (group_in gs i).class ≡ Mirrored → oldest_named place age (group_in gs i).slots ≡ Some a
+oldest_leaf : (g : Geometry) (place : Addr → ℕ) (age : Key → Age) (n i : ℕ) (gs : List GroupState) (a : Age)
+    → i < length gs → (group_in gs i).class ≡ Mirrored → oldest_named place age (group_in gs i).slots ≡ Some a
     → get_or (map (λ c. c.oldest) (leaves_from g place age n gs)) i None ≡ Some a
 oldest_leaf g place age n i [] a h m e = absurd (omega arith)
 oldest_leaf g place age n zero (x ∷ gs) a h m e = ap (λ c. (choices_by c g place age n x).oldest) m ∙ e
 oldest_leaf g place age n (suc i) (x ∷ gs) a h m e = oldest_leaf g place age (suc n) i gs a (omega arith) m e
 
-pub slot_age : (age : Key → Age) (slots : List (Option Key)) (i : ℕ) → get_or (map (option_map age) slots) i None ≡ option_map age (get_or slots i None)
+pub slot_age : (age : Key → Age) (slots : List (Option Key)) (i : ℕ)
+    → get_or (map (option_map age) slots) i None ≡ option_map age (get_or slots i None)
 slot_age age [] zero = refl
 slot_age age [] (suc i) = refl
 slot_age age (o ∷ slots) zero = refl
 slot_age age (o ∷ slots) (suc i) = slot_age age slots i
 
-pub named_key : (f : Key → Age) (o : Option Key) (a : Age) → option_map f o ≡ Some a → (k : Key) × (o ≡ Some k) × (f k ≡ a)
+pub named_key : (f : Key → Age) (o : Option Key) (a : Age) → option_map f o ≡ Some a
+    → (k : Key) × (o ≡ Some k) × (f k ≡ a)
 named_key f None a e = absurd (none-some a e)
 named_key f (Some k) a e = (k, refl, same_Some (f k) a e)
 
@@ -132,11 +150,16 @@ module _ (t : Tables) (ok : TablesAgree t) where
 
   found_key : (a : Age) → best ≡ Some a → (k : Key) × (age_of t.units k ≡ a) × IsMirrored t k
   found_key a e =
-      let in_all = oldest_in_list (place_in t.units) all a (sym (search_oldest (place_in t.units) (leaves_of t.geometry t.units t.groups)) ∙ e) in
+      let in_all =
+      oldest_in_list (place_in t.units) all a
+      (sym (search_oldest (place_in t.units) (leaves_of t.geometry t.units t.groups)) ∙ e) in
       let leaf = leaf_oldest t.geometry (place_in t.units) (age_of t.units) 0 in_all.place t.groups a in_all.is in
-      let in_slots = oldest_in_list (place_in t.units) (map (option_map (age_of t.units)) (group_in t.groups in_all.place).slots) a leaf.1 in
+      let in_slots =
+      oldest_in_list (place_in t.units) (map (option_map (age_of t.units)) (group_in t.groups in_all.place).slots) a
+      leaf.1 in
       let slot : Slot = record { group = in_all.place; slot = in_slots.place } in
-      let k = named_key (age_of t.units) (key_at t slot) a (sym (slot_age (age_of t.units) (group_in t.groups in_all.place).slots in_slots.place) ∙ in_slots.is) in
+      let k = named_key (age_of t.units) (key_at t slot) a
+      (sym (slot_age (age_of t.units) (group_in t.groups in_all.place).slots in_slots.place) ∙ in_slots.is) in
       let at : home t k.0 ≡ Some slot = ok.agree.to_home k.0 slot k.1 in
       (k.0, k.2, record { block = home_block t k.0 slot at; level = ap (level_in t.groups) at ∙ ap level_of leaf.0 })
 
@@ -144,7 +167,8 @@ module _ (t : Tables) (ok : TablesAgree t) where
   oldest_found a e = let k = found_key a e in subst (λ x. IsMirrored t x) (ap (λ y. y.key) k.1) k.2
 
   -- a mirrored block has a home in a mirrored group
-  home_of : (k : Key) (o : Option Slot) → level_in t.groups o ≡ MirroredLevel → (s : Slot) × (o ≡ Some s) × (class_of t s.group ≡ Mirrored)
+  home_of : (k : Key) (o : Option Slot) → level_in t.groups o ≡ MirroredLevel
+      → (s : Slot) × (o ≡ Some s) × (class_of t s.group ≡ Mirrored)
   home_of k None e = absurd (unplaced e)
     where
       unplaced : Unplaced ≡ MirroredLevel → ⊥
@@ -162,9 +186,11 @@ module _ (t : Tables) (ok : TablesAgree t) where
       let s : Slot = h.0 in
       let at : key_at t s ≡ Some j = ok.agree.to_slot j s h.1 in
       let inside : s.group < length t.groups = (home_slot t ok j s h.1).0 in
-      let slots = oldest_least (place_in t.units) (map (option_map (age_of t.units)) (group_in t.groups s.group).slots) s.slot (age_of t.units j)
+      let slots = oldest_least (place_in t.units) (map (option_map (age_of t.units)) (group_in t.groups s.group).slots)
+      s.slot (age_of t.units j)
       (slot_age (age_of t.units) (group_in t.groups s.group).slots s.slot ∙ ap (option_map (age_of t.units)) at) in
-      let leaf = oldest_leaf t.geometry (place_in t.units) (age_of t.units) 0 s.group t.groups slots.first inside h.2 slots.is in
+      let leaf = oldest_leaf t.geometry (place_in t.units) (age_of t.units) 0 s.group t.groups slots.first inside h.2
+      slots.is in
       let top = oldest_least (place_in t.units) all s.group slots.first leaf in
       record {
         first = top.first;
@@ -178,7 +204,8 @@ module _ (t : Tables) (ok : TablesAgree t) where
   newer : (k j : Key) → is_no_newer (place_in t.units) (age_of t.units k) (age_of t.units j) ≡ true → IsNoNewer t k j
   newer k j e = numbers (stamp_of t k) (place_of t k.addr) k.rb (stamp_of t j) (place_of t j.addr) j.rb e
     where
-      numbers : (a b c x y z : ℕ) → (nat_lt a x || ((a == x) && (nat_lt b y || ((b == y) && nat_le c z)))) ≡ true → (a < x) ⊎ ((a ≡ x) × ((b < y) ⊎ ((b ≡ y) × (c ≤ z))))
+      numbers : (a b c x y z : ℕ) → (nat_lt a x || ((a == x) && (nat_lt b y || ((b == y) && nat_le c z)))) ≡ true
+          → (a < x) ⊎ ((a ≡ x) × ((b < y) ⊎ ((b ≡ y) × (c ≤ z))))
       numbers a b c x y z e = grind (arith, nat_tests)
 
   pub oldest_first : (a : Age) → best ≡ Some a → (j : Key) → IsMirrored t j → IsNoNewer t a.key j
@@ -186,7 +213,8 @@ module _ (t : Tables) (ok : TablesAgree t) where
       let k = found_key a e in
       let l = least_of j m in
       let same : a ≡ l.first = same_Some a l.first (sym e ∙ l.is) in
-      let first : is_no_newer (place_in t.units) (age_of t.units k.0) (age_of t.units j) ≡ true = ap (λ x. is_no_newer (place_in t.units) x (age_of t.units j)) (k.1 ∙ same) ∙ l.least in
+      let first : is_no_newer (place_in t.units) (age_of t.units k.0) (age_of t.units j) ≡ true =
+      ap (λ x. is_no_newer (place_in t.units) x (age_of t.units j)) (k.1 ∙ same) ∙ l.least in
       subst (λ x. IsNoNewer t x j) (ap (λ y. y.key) k.1) (newer k.0 j first)
 
 -- an element, whatever stands for none

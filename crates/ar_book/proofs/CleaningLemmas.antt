@@ -1,5 +1,8 @@
--- A group's blocks and holes are its slots: so all of its blocks fit in the holes of its class's other groups or those of none do.
-use Rattle.std.proofs.Common.{◌≡◌, ◌≢◌, ◌⊎◌, ℕ, zero, suc, ◌<◌, ◌≤◌, ◌+◌, ◌-◌, ◌*◌, true, false, if◌then◌else◌, cond, Option, None, Some, is_some, IsSome, IfSome, IfNone, List, [], ◌∷◌, length, take, get_or, sum_by, count_by, refl, sym, ap, subst, inl, inr, arith}
+-- A group's blocks and holes are its slots: so all of its blocks fit in the holes of its class's other groups or those
+-- of none do.
+use Rattle.std.proofs.Common.{◌≡◌, ◌≢◌, ◌⊎◌, ℕ, zero, suc, ◌<◌, ◌≤◌, ◌+◌, ◌-◌, ◌*◌, true, false, if◌then◌else◌, cond}
+use Rattle.std.proofs.Common.{Option, None, Some, is_some, IsSome, IfSome, IfNone, List, [], ◌∷◌, length, take, get_or}
+use Rattle.std.proofs.Common.{sum_by, count_by, refl, sym, ap, subst, inl, inr, arith}
 use Rattle.std.proofs.lemmas.List.{take_all}
 use Rattle.std.proofs.lemmas.List.Sums.{sum_by-cons}
 use Rattle.ar_disks.specs.Geometry.{rows_of}
@@ -11,7 +14,8 @@ use Rattle.ar_book.specs.declared.class.Class.TheVariants.{Free, Mirrored, Parit
 use Rattle.ar_book.specs.declared.class.Slot.{Slot}
 use Rattle.ar_book.specs.Tables.{GroupState, Tables, group_in, class_of, slots_of, used}
 use Rattle.ar_book.specs.Book.{TablesAgree}
-use Rattle.ar_book.specs.Cleaning.{same_class, holes_in, holes_of, IsInUse, CanBeEmptied, IsEmptiest, IsEmptiestBelow, IsHoleBeside}
+use Rattle.ar_book.specs.Cleaning.{same_class, holes_in, holes_of, IsInUse, CanBeEmptied, IsEmptiest, IsEmptiestBelow}
+use Rattle.ar_book.specs.Cleaning.{IsHoleBeside}
 use Rattle.ar_book.proofs.GroupLemmas.{empty_unused}
 use Rattle.ar_book.proofs.PlaceLemmas.{slots_within}
 
@@ -40,10 +44,12 @@ unfolding one_if
 is_one x e = ap (λ c. cond {A = ℕ} c 1 0) e
 
 -- no more slots name a block than there are before a number, where none from there on does
-pub count_at_most : (ks : List (Option Key)) (n : ℕ) → ((i : ℕ) (k : Key) → get_or ks i None ≡ Some k → i < n) → count_by is_some ks ≤ n
+pub count_at_most : (ks : List (Option Key)) (n : ℕ) → ((i : ℕ) (k : Key) → get_or ks i None ≡ Some k → i < n)
+    → count_by is_some ks ≤ n
 count_at_most [] n within = omega arith
 count_at_most (x ∷ ks) zero within =
-    let none = empty_unused (x ∷ ks) (λ i. never_some (get_or (x ∷ ks) i None) (λ k e. let past = within i k e in absurd (omega arith))) in
+    let none = empty_unused (x ∷ ks)
+    (λ i. never_some (get_or (x ∷ ks) i None) (λ k e. let past = within i k e in absurd (omega arith))) in
     omega arith
 count_at_most (x ∷ ks) (suc n) within =
     let head = head_and_rest x ks in
@@ -52,7 +58,8 @@ count_at_most (x ∷ ks) (suc n) within =
     omega arith
 
 -- and no fewer, where each before it does
-pub count_at_least : (ks : List (Option Key)) (n : ℕ) → n ≤ length ks → ((i : ℕ) → i < n → IsSome (get_or ks i None)) → n ≤ count_by is_some ks
+pub count_at_least : (ks : List (Option Key)) (n : ℕ) → n ≤ length ks → ((i : ℕ) → i < n → IsSome (get_or ks i None))
+    → n ≤ count_by is_some ks
 count_at_least [] n h all = omega arith
 count_at_least (x ∷ ks) zero h all = omega arith
 count_at_least (x ∷ ks) (suc n) h all =
@@ -62,7 +69,8 @@ count_at_least (x ∷ ks) (suc n) h all =
     omega arith
 
 -- a sum of which all terms but one are 0 is that one
-all_zero : (f : GroupState → ℕ) (gs : List GroupState) → ((h : ℕ) → h < length gs → f (group_in gs h) ≡ 0) → sum_by f gs ≡ 0
+all_zero : (f : GroupState → ℕ) (gs : List GroupState) → ((h : ℕ) → h < length gs → f (group_in gs h) ≡ 0)
+    → sum_by f gs ≡ 0
 all_zero f [] zeros = refl
 all_zero f (x ∷ gs) zeros =
     let head = sum_by-cons f x gs in
@@ -70,7 +78,8 @@ all_zero f (x ∷ gs) zeros =
     let rest = all_zero f gs (λ h l. zeros (suc h) (omega arith)) in
     omega arith
 
-others_zero : (f : GroupState → ℕ) (gs : List GroupState) (g : ℕ) → ((h : ℕ) → h < length gs → h ≢ g → f (group_in gs h) ≡ 0) → sum_by f gs ≤ f (group_in gs g)
+others_zero : (f : GroupState → ℕ) (gs : List GroupState) (g : ℕ)
+    → ((h : ℕ) → h < length gs → h ≢ g → f (group_in gs h) ≡ 0) → sum_by f gs ≤ f (group_in gs g)
 others_zero f [] g zeros = omega arith
 others_zero f (x ∷ gs) zero zeros =
     let head = sum_by-cons f x gs in
@@ -108,8 +117,10 @@ class_tells Parity Mirrored = inr refl
 class_tells Parity Parity = inl (refl, refl)
 
 -- the holes of a group of the class, and of another
-pub holes_here : (geo : Geometry) (c : Class) (x : GroupState) → x.class ≡ c → holes_in geo c x ≡ slots_of geo c - used x
-holes_here geo c x e = ap (λ b. if b then slots_of geo c - used x else 0) (subst (λ d. same_class c d ≡ true) (sym e) (same_class_self c))
+pub holes_here : (geo : Geometry) (c : Class) (x : GroupState) → x.class ≡ c
+    → holes_in geo c x ≡ slots_of geo c - used x
+holes_here geo c x e =
+    ap (λ b. if b then slots_of geo c - used x else 0) (subst (λ d. same_class c d ≡ true) (sym e) (same_class_self c))
 
 pub holes_elsewhere : (geo : Geometry) (c : Class) (x : GroupState) → x.class ≢ c → holes_in geo c x ≡ 0
 holes_elsewhere geo c x ne = elim (class_tells c x.class) [
@@ -120,10 +131,13 @@ holes_elsewhere geo c x ne = elim (class_tells c x.class) [
 module _ (t : Tables) (ok : TablesAgree t) where
   -- a group has no more blocks than slots
   pub used_within : (g : ℕ) → used (group_in t.groups g) ≤ slots_of t.geometry (class_of t g)
-  used_within g = count_at_most (group_in t.groups g).slots (slots_of t.geometry (class_of t g)) (λ i k e. ok.groups.within (record { group = g; slot = i }) k e)
+  used_within g =
+      count_at_most (group_in t.groups g).slots (slots_of t.geometry (class_of t g))
+      (λ i k e. ok.groups.within (record { group = g; slot = i }) k e)
 
   -- its blocks and holes are its slots
-  pub blocks_and_holes : (c : Class) (g : ℕ) → class_of t g ≡ c → used (group_in t.groups g) + holes_in t.geometry c (group_in t.groups g) ≡ slots_of t.geometry c
+  pub blocks_and_holes : (c : Class) (g : ℕ) → class_of t g ≡ c
+      → used (group_in t.groups g) + holes_in t.geometry c (group_in t.groups g) ≡ slots_of t.geometry c
   blocks_and_holes c g e =
       let within : used (group_in t.groups g) ≤ slots_of t.geometry (class_of t g) = used_within g in
       let slots : slots_of t.geometry (class_of t g) ≡ slots_of t.geometry c = ap (λ d. slots_of t.geometry d) e in
@@ -144,20 +158,26 @@ module _ (t : Tables) (ok : TablesAgree t) where
       omega arith
 
   -- and then one of the others has a hole
-  pub some_beside : (c : Class) (g : ℕ) → CanBeEmptied t c g → ((s : Slot) → s.group < length t.groups → IsHoleBeside t c g s → ⊥) → ⊥
+  pub some_beside : (c : Class) (g : ℕ) → CanBeEmptied t c g
+      → ((s : Slot) → s.group < length t.groups → IsHoleBeside t c g s → ⊥) → ⊥
   some_beside c g can never =
-      let few : holes_of t c ≤ holes_in t.geometry c (group_in t.groups g) = others_zero (holes_in t.geometry c) t.groups g (λ h l ne. full h l ne) in
+      let few : holes_of t c ≤ holes_in t.geometry c (group_in t.groups g) =
+      others_zero (holes_in t.geometry c) t.groups g (λ h l ne. full h l ne) in
       let some = can.has.some in
       let fit = can.fit in
       omega arith
     where
-      none_at : (h : ℕ) → h < length t.groups → h ≢ g → class_of t h ≡ c → holes_in t.geometry c (group_in t.groups h) ≡ 0
+      none_at : (h : ℕ) → h < length t.groups → h ≢ g → class_of t h ≡ c
+          → holes_in t.geometry c (group_in t.groups h) ≡ 0
       none_at h l ne e =
           let here = holes_here t.geometry c (group_in t.groups h) e in
           let long : length (group_in t.groups h).slots ≡ 3 * rows_of t.geometry = ok.groups.long h l in
           let most : slots_of t.geometry c ≤ 3 * rows_of t.geometry = slots_within t.geometry c in
-          let all : slots_of t.geometry c ≤ used (group_in t.groups h) = count_at_least (group_in t.groups h).slots (slots_of t.geometry c) (omega arith)
-          (λ i li. never_none (get_or (group_in t.groups h).slots i None) (λ n. never (record { group = h; slot = i }) l (record { hole = record { group = l; class = e; slot = li; empty = n }; beside = ne }))) in
+          let all : slots_of t.geometry c ≤ used (group_in t.groups h) =
+          count_at_least (group_in t.groups h).slots (slots_of t.geometry c) (omega arith)
+          (λ i li. never_none (get_or (group_in t.groups h).slots i None)
+          (λ n. never (record { group = h; slot = i }) l
+          (record { hole = record { group = l; class = e; slot = li; empty = n }; beside = ne }))) in
           omega arith
 
       full : (h : ℕ) → h < length t.groups → h ≢ g → holes_in t.geometry c (group_in t.groups h) ≡ 0
@@ -167,14 +187,16 @@ module _ (t : Tables) (ok : TablesAgree t) where
       ]
 
   -- once all groups are seen
-  pub emptiest_of_all : (c : Class) (n : ℕ) (o : Option ℕ) → slots_of t.geometry c ≤ holes_of t c → length t.groups ≤ n → IsEmptiestBelow t c n o → IfSome o (IsEmptiest t c)
+  pub emptiest_of_all : (c : Class) (n : ℕ) (o : Option ℕ) → slots_of t.geometry c ≤ holes_of t c → length t.groups ≤ n
+      → IsEmptiestBelow t c n o → IfSome o (IsEmptiest t c)
   emptiest_of_all c n None enough h old = tt
   emptiest_of_all c n (Some g) enough h old = record {
     can = can_be_emptied c g old.found.0 enough;
     least = λ i can. old.least i can.has (let there = can.has.there in omega arith);
   }
 
-  pub none_of_all : (c : Class) (n : ℕ) (o : Option ℕ) → length t.groups ≤ n → IsEmptiestBelow t c n o → IfNone o ((g : ℕ) → CanBeEmptied t c g → ⊥)
+  pub none_of_all : (c : Class) (n : ℕ) (o : Option ℕ) → length t.groups ≤ n → IsEmptiestBelow t c n o
+      → IfNone o ((g : ℕ) → CanBeEmptied t c g → ⊥)
   none_of_all c n None h old = λ g can. old.least g can.has (let there = can.has.there in omega arith)
   none_of_all c n (Some k) h old = tt
 
@@ -186,5 +208,6 @@ pub record HasWalked (t : Tables) (c : Class) (to sum : ℕ) (o : Option ℕ) (b
   pub steps : count ≡ before + to
 
 -- those of all groups
-pub all_holes : (t : Tables) (c : Class) (n : ℕ) → length t.groups ≤ n → sum_by (holes_in t.geometry c) (take n t.groups) ≡ holes_of t c
+pub all_holes : (t : Tables) (c : Class) (n : ℕ) → length t.groups ≤ n
+    → sum_by (holes_in t.geometry c) (take n t.groups) ≡ holes_of t c
 all_holes t c n h = ap (sum_by (holes_in t.geometry c)) (take_all n t.groups h)

@@ -1,5 +1,7 @@
 -- The tables after each home of a unit is vacated.
-use Rattle.std.proofs.Common.{◌≡◌, ◌≢◌, ℕ, zero, suc, ◌<◌, ◌≤◌, ◌+◌, ◌-◌, ◌*◌, Bool, true, false, cond, Option, None, Some, is_some, IsSome, List, [], ◌∷◌, length, get_or, take, fold, sum_by, count_by, refl, sym, ap, subst, ◌∙◌, inl, inr, arith, true≢false}
+use Rattle.std.proofs.Common.{◌≡◌, ◌≢◌, ℕ, zero, suc, ◌<◌, ◌≤◌, ◌+◌, ◌-◌, ◌*◌, Bool, true, false, cond, Option, None}
+use Rattle.std.proofs.Common.{Some, is_some, IsSome, List, [], ◌∷◌, length, get_or, take, fold, sum_by, count_by, refl}
+use Rattle.std.proofs.Common.{sym, ap, subst, ◌∙◌, inl, inr, arith, true≢false}
 use Rattle.std.specs.List.{IsDistinct, AllByRecursion}
 use Rattle.std.specs.Set.{remove_key}
 use Rattle.std.specs.Map.{lookup, remove_entry, keys_of, values_of}
@@ -16,12 +18,15 @@ use Rattle.ar_disks.specs.declared.address.Key.{Key}
 use Rattle.ar_disks.specs.declared.geometry.Geometry.{Geometry}
 use Rattle.ar_book.specs.declared.class.Slot.{Slot}
 use Rattle.ar_disks.specs.Addresses.{same_addr}
-use Rattle.ar_book.specs.Tables.{GroupState, UnitTableState, Tables, no_unit, group_in, key_in, unit_in, home_in, key_at, home, stamp_of, level_in, level, class_of, free_groups, used, placed, reserved}
+use Rattle.ar_book.specs.Tables.{GroupState, UnitTableState, Tables, no_unit, group_in, key_in, unit_in, home_in}
+use Rattle.ar_book.specs.Tables.{key_at, home, stamp_of, level_in, level, class_of, free_groups, used, placed, reserved}
 use Rattle.ar_book.specs.Changes.{vacated, dropped}
 use Rattle.ar_book.specs.Book.{GroupsStand, IsValidUnit, AreHomes, TablesAgree, BookAgrees}
 use Rattle.ar_disks.proofs.Addresses.{addr_laws, addr_tells, addr_apart, same_addr_of}
 use Rattle.ar_book.proofs.Keys.{slot_tells}
-use Rattle.ar_book.proofs.GroupLemmas.{there_group, there_slot, KeepsClass, class_kept, level_stays, vacated_size, vacated_members, vacated_class, vacated_same, vacated_other, vacated_count, vacated_shape, vacated_stand}
+use Rattle.ar_book.proofs.GroupLemmas.{there_group, there_slot, KeepsClass, class_kept, level_stays, vacated_size}
+use Rattle.ar_book.proofs.GroupLemmas.{vacated_members, vacated_class, vacated_same, vacated_other, vacated_count}
+use Rattle.ar_book.proofs.GroupLemmas.{vacated_shape, vacated_stand}
 use Rattle.ar_book.proofs.FreeGroups.{free_in, vacated_free}
 use Rattle.ar_book.proofs.UnitLemmas.{found_in}
 
@@ -50,7 +55,8 @@ suc_same : (i j : ℕ) → suc i ≡ suc j → i ≡ j
 suc_same i j e = omega arith
 
 -- the homes behind the first, once it is vacated
-rest_after : (gs : List GroupState) (q : Slot) (hs : List (Option Slot)) → AreHomes gs (Some q ∷ hs) → AreHomes (vacated gs (Some q)) hs
+rest_after : (gs : List GroupState) (q : Slot) (hs : List (Option Slot)) → AreHomes gs (Some q ∷ hs)
+    → AreHomes (vacated gs (Some q)) hs
 rest_after gs q hs ok =
     let key = some_value (key_in gs q) (ok.there 0 q refl) in
     let inside : q.group < length gs = there_group gs q key.0 key.1 in
@@ -78,14 +84,20 @@ emptied [] gs ok = record {
   free = omega arith;
   stand = λ geo h. h;
 }
-emptied (None ∷ hs) gs ok = over (emptied hs gs (record { there = λ i s e. ok.there (suc i) s e; apart = λ i j s e f. suc_same i j (ok.apart (suc i) (suc j) s e f) }))
+emptied (None ∷ hs) gs ok =
+    over (emptied hs gs
+    (record {
+      there = λ i s e. ok.there (suc i) s e;
+      apart = λ i j s e f. suc_same i j (ok.apart (suc i) (suc j) s e f);
+    }))
   where
     over : Emptied gs hs (fold vacated gs hs) → Emptied gs (None ∷ hs) (fold vacated gs hs)
     over r = record {
       size = r.size;
       shape = r.shape;
       count =
-          let head : count_by is_some (None ∷ hs) ≡ 0 + count_by is_some hs = sum_by-cons (λ (o : Option Slot). cond {A = ℕ} (is_some o) 1 0) None hs in
+          let head : count_by is_some (None ∷ hs) ≡ 0 + count_by is_some hs =
+          sum_by-cons (λ (o : Option Slot). cond {A = ℕ} (is_some o) 1 0) None hs in
           let all = r.count in
           omega arith;
       kept = λ s f. r.kept s (λ i e. f (suc i) e);
@@ -102,7 +114,8 @@ emptied (None ∷ hs) gs ok = over (emptied hs gs (record { there = λ i s e. ok
         gone (suc i) s e = r.gone i s e
 emptied (Some q ∷ hs) gs ok = over (emptied hs (vacated gs (Some q)) (rest_after gs q hs ok))
   where
-    over : Emptied (vacated gs (Some q)) hs (fold vacated (vacated gs (Some q)) hs) → Emptied gs (Some q ∷ hs) (fold vacated (vacated gs (Some q)) hs)
+    over : Emptied (vacated gs (Some q)) hs (fold vacated (vacated gs (Some q)) hs)
+        → Emptied gs (Some q ∷ hs) (fold vacated (vacated gs (Some q)) hs)
     over r =
         let key = some_value (key_in gs q) (ok.there 0 q refl) in
         let inside : q.group < length gs = there_group gs q key.0 key.1 in
@@ -111,7 +124,8 @@ emptied (Some q ∷ hs) gs ok = over (emptied hs (vacated gs (Some q)) (rest_aft
           size = r.size ∙ vacated_size gs (Some q);
           shape = λ i. r.shape i ∙ vacated_shape gs q inside i;
           count =
-              let head : count_by is_some (Some q ∷ hs) ≡ 1 + count_by is_some hs = sum_by-cons (λ (o : Option Slot). cond {A = ℕ} (is_some o) 1 0) (Some q) hs in
+              let head : count_by is_some (Some q ∷ hs) ≡ 1 + count_by is_some hs =
+              sum_by-cons (λ (o : Option Slot). cond {A = ℕ} (is_some o) 1 0) (Some q) hs in
               let all = r.count in
               let one = vacated_count gs q inside slot key.0 key.1 in
               omega arith;
@@ -124,14 +138,17 @@ emptied (Some q ∷ hs) gs ok = over (emptied hs (vacated gs (Some q)) (rest_aft
           stand = λ geo h. r.stand geo (vacated_stand gs q inside geo h);
         }
       where
-        still_empty : q.group < length gs → q.slot < length (group_in gs q.group).slots → (s : Slot) → key_in gs s ≡ None → key_in (vacated gs (Some q)) s ≡ None
+        still_empty : q.group < length gs → q.slot < length (group_in gs q.group).slots → (s : Slot)
+            → key_in gs s ≡ None → key_in (vacated gs (Some q)) s ≡ None
         still_empty inside slot s e = elim (slot_tells s q) [
           | inl same ↦ subst (λ x. key_in (vacated gs (Some q)) x ≡ None) (sym same) (vacated_same gs q inside slot)
           | inr other ↦ vacated_other gs q inside s other ∙ e
         ]
 
-        class : (i : ℕ) → KeepsClass (group_in (vacated gs (Some q)) i).class (group_in (fold vacated (vacated gs (Some q)) hs) i)
-            → KeepsClass (group_in gs i).class (group_in (vacated gs (Some q)) i) → KeepsClass (group_in gs i).class (group_in (fold vacated (vacated gs (Some q)) hs) i)
+        class : (i : ℕ)
+            → KeepsClass (group_in (vacated gs (Some q)) i).class (group_in (fold vacated (vacated gs (Some q)) hs) i)
+            → KeepsClass (group_in gs i).class (group_in (vacated gs (Some q)) i)
+            → KeepsClass (group_in gs i).class (group_in (fold vacated (vacated gs (Some q)) hs) i)
         class i later first = elim later [
           | inl same ↦ elim first [
             | inl was ↦ inl (same ∙ was)
@@ -140,9 +157,11 @@ emptied (Some q ∷ hs) gs ok = over (emptied hs (vacated gs (Some q)) (rest_aft
           | inr free ↦ inr free
         ]
 
-        gone : q.group < length gs → q.slot < length (group_in gs q.group).slots → (i : ℕ) (s : Slot) → get_or (Some q ∷ hs) i None ≡ Some s → key_in (fold vacated (vacated gs (Some q)) hs) s ≡ None
+        gone : q.group < length gs → q.slot < length (group_in gs q.group).slots → (i : ℕ) (s : Slot)
+            → get_or (Some q ∷ hs) i None ≡ Some s → key_in (fold vacated (vacated gs (Some q)) hs) s ≡ None
         gone inside slot zero s e =
-            let here : key_in (vacated gs (Some q)) s ≡ None = subst (λ x. key_in (vacated gs (Some q)) x ≡ None) (same_Some q s e) (vacated_same gs q inside slot) in
+            let here : key_in (vacated gs (Some q)) s ≡ None =
+            subst (λ x. key_in (vacated gs (Some q)) x ≡ None) (same_Some q s e) (vacated_same gs q inside slot) in
             r.kept s (λ i f. zero_is_not i (ok.apart 0 (suc i) s e f)) ∙ here
           where
             zero_is_not : (i : ℕ) → 0 ≡ suc i → ⊥
@@ -150,7 +169,8 @@ emptied (Some q ∷ hs) gs ok = over (emptied hs (vacated gs (Some q)) (rest_aft
         gone inside slot (suc i) s e = r.gone i s e
 
 -- the first of these homes
-pub take_some : (n : ℕ) (hs : List (Option Slot)) (i : ℕ) (s : Slot) → get_or (take n hs) i None ≡ Some s → get_or hs i None ≡ Some s
+pub take_some : (n : ℕ) (hs : List (Option Slot)) (i : ℕ) (s : Slot) → get_or (take n hs) i None ≡ Some s
+    → get_or hs i None ≡ Some s
 take_some zero [] i s e = e
 take_some zero (h ∷ hs) i s e = absurd (none-some s e)
 take_some (suc n) [] i s e = e
@@ -164,14 +184,16 @@ first_homes gs hs n ok = record {
 }
 
 -- a home behind the first n is there once those are vacated
-pub next_group : (gs : List GroupState) (hs : List (Option Slot)) (n : ℕ) (s : Slot) → AreHomes gs hs → get_or hs n None ≡ Some s → s.group < length (fold vacated gs (take n hs))
+pub next_group : (gs : List GroupState) (hs : List (Option Slot)) (n : ℕ) (s : Slot) → AreHomes gs hs
+    → get_or hs n None ≡ Some s → s.group < length (fold vacated gs (take n hs))
 next_group gs hs n s ok e =
     let r = emptied (take n hs) gs (first_homes gs hs n ok) in
     let key = some_value (key_in gs s) (ok.there n s e) in
     let inside : s.group < length gs = there_group gs s key.0 key.1 in
     omega (arith, r.size, inside)
 
-pub next_slot : (gs : List GroupState) (hs : List (Option Slot)) (n : ℕ) (s : Slot) → AreHomes gs hs → get_or hs n None ≡ Some s → s.slot < length (group_in (fold vacated gs (take n hs)) s.group).slots
+pub next_slot : (gs : List GroupState) (hs : List (Option Slot)) (n : ℕ) (s : Slot) → AreHomes gs hs
+    → get_or hs n None ≡ Some s → s.slot < length (group_in (fold vacated gs (take n hs)) s.group).slots
 next_slot gs hs n s ok e =
     let r = emptied (take n hs) gs (first_homes gs hs n ok) in
     let key = some_value (key_in gs s) (ok.there n s e) in
@@ -181,14 +203,16 @@ next_slot gs hs n s ok e =
 -- the homes of a unit
 pub unit_homes : (t : Tables) (a : Addr) → TablesAgree t → AreHomes t.groups (unit_in t.units a).homes
 unit_homes t a ok = record {
-  there = λ i s e. some_is (key_in t.groups s) (record { addr = a; rb = i }) (ok.agree.to_slot (record { addr = a; rb = i }) s e);
+  there = λ i s e. some_is (key_in t.groups s) (record { addr = a; rb = i })
+      (ok.agree.to_slot (record { addr = a; rb = i }) s e);
   apart = λ i j s e f.
       ap (λ k. k.rb) (same_Some (record { addr = a; rb = i }) (record { addr = a; rb = j })
       (sym (ok.agree.to_slot (record { addr = a; rb = i }) s e) ∙ ok.agree.to_slot (record { addr = a; rb = j }) s f));
 }
 
 -- the other addresses keep their order, and stay distinct
-pub removed_keys : (test : Addr → Bool) (us : List (Addr × UnitTableState)) → keys_of (remove_entry test us) ≡ remove_key test (keys_of us)
+pub removed_keys : (test : Addr → Bool) (us : List (Addr × UnitTableState))
+    → keys_of (remove_entry test us) ≡ remove_key test (keys_of us)
 removed_keys test [] = refl
 removed_keys test (x ∷ us) = by (test x.0) (removed_keys test us)
   where
@@ -197,18 +221,21 @@ removed_keys test (x ∷ us) = by (test x.0) (removed_keys test us)
     by true e = refl
     by false e = ap (λ l. x.0 ∷ l) e
 
-pub removed_distinct : (test : Addr → Bool) (us : List (Addr × UnitTableState)) → IsDistinct same_addr (keys_of us) → IsDistinct same_addr (keys_of (remove_entry test us))
+pub removed_distinct : (test : Addr → Bool) (us : List (Addr × UnitTableState)) → IsDistinct same_addr (keys_of us)
+    → IsDistinct same_addr (keys_of (remove_entry test us))
 removed_distinct test [] distinct = distinct
 removed_distinct test (x ∷ us) distinct =
     by (test x.0) (removed_distinct test us (IsDistinct-tail same_addr x.0 (keys_of us) distinct))
   where
-    by : (b : Bool) → IsDistinct same_addr (keys_of (remove_entry test us)) → IsDistinct same_addr (keys_of (cond b us (x ∷ remove_entry test us)))
+    by : (b : Bool) → IsDistinct same_addr (keys_of (remove_entry test us))
+        → IsDistinct same_addr (keys_of (cond b us (x ∷ remove_entry test us)))
     by true rest = IsDistinct-tail same_addr x.0 (keys_of us) distinct
     by false rest =
         IsDistinct-cons same_addr x.0 (keys_of (remove_entry test us))
         (still_apart test us (IsDistinct-head same_addr x.0 (keys_of us) distinct)) rest
       where
-        still_apart : (p : Addr → Bool) (vs : List (Addr × UnitTableState)) → AllByRecursion (λ y. same_addr x.0 y ≡ false) (keys_of vs)
+        still_apart : (p : Addr → Bool) (vs : List (Addr × UnitTableState))
+            → AllByRecursion (λ y. same_addr x.0 y ≡ false) (keys_of vs)
             → AllByRecursion (λ y. same_addr x.0 y ≡ false) (keys_of (remove_entry p vs))
         still_apart p [] h = h
         still_apart p (v ∷ vs) h = one (p v.0) (still_apart p vs h.1)
@@ -223,7 +250,8 @@ module _ (t : Tables) (a : Addr) (ok : TablesAgree t) where
   after : Emptied t.groups (unit_in t.units a).homes (fold vacated t.groups (unit_in t.units a).homes)
   after = emptied (unit_in t.units a).homes t.groups (unit_homes t a ok)
 
-  found : (b : Addr) → lookup (same_addr b) (remove_entry (same_addr a) t.units) ≡ cond (same_addr a b) None (lookup (same_addr b) t.units)
+  found : (b : Addr) → lookup (same_addr b) (remove_entry (same_addr a) t.units)
+      ≡ cond (same_addr a b) None (lookup (same_addr b) t.units)
   found b = lookup-remove_entry addr_laws (same_addr a) (addr_laws.congr a) b t.units ok.units.distinct
 
   -- the unit's own blocks have no home
@@ -235,7 +263,8 @@ module _ (t : Tables) (a : Addr) (ok : TablesAgree t) where
   -- the other units are as before
   pub dropped_unit_other : (b : Addr) → b ≢ a → unit_in (remove_entry (same_addr a) t.units) b ≡ unit_in t.units b
   dropped_unit_other b ne =
-      ap (λ o. unwrap_or o no_unit) (found b ∙ ap (λ c. cond c None (lookup (same_addr b) t.units)) (addr_apart a b (λ e. ne (sym e))))
+      ap (λ o. unwrap_or o no_unit) (found b
+      ∙ ap (λ c. cond c None (lookup (same_addr b) t.units)) (addr_apart a b (λ e. ne (sym e))))
 
   -- so their blocks have the homes and stamps that they had
   pub dropped_home_other : (k : Key) → k.addr ≢ a → home_in (remove_entry (same_addr a) t.units) k ≡ home_in t.units k
@@ -245,33 +274,40 @@ module _ (t : Tables) (a : Addr) (ok : TablesAgree t) where
   dropped_stamp_other k ne = ap (λ u. get_or u.stamps k.rb 0) (dropped_unit_other k.addr ne)
 
   -- a slot of another unit's block is none of the homes, so it still names that block
-  not_home : (s : Slot) (k : Key) → k.addr ≢ a → key_in t.groups s ≡ Some k → (i : ℕ) → get_or (unit_in t.units a).homes i None ≡ Some s → ⊥
+  not_home : (s : Slot) (k : Key) → k.addr ≢ a → key_in t.groups s ≡ Some k → (i : ℕ)
+      → get_or (unit_in t.units a).homes i None ≡ Some s → ⊥
   not_home s k ne e i f =
       let own : Key = record { addr = a; rb = i } in
       ne (ap (λ x. x.addr) (same_Some k own (sym e ∙ ok.agree.to_slot own s f)))
 
-  pub dropped_key_other : (s : Slot) (k : Key) → k.addr ≢ a → key_in t.groups s ≡ Some k → key_in (fold vacated t.groups (unit_in t.units a).homes) s ≡ Some k
+  pub dropped_key_other : (s : Slot) (k : Key) → k.addr ≢ a → key_in t.groups s ≡ Some k
+      → key_in (fold vacated t.groups (unit_in t.units a).homes) s ≡ Some k
   dropped_key_other s k ne e = after.kept s (not_home s k ne e) ∙ e
 
-  to_slot : (k : Key) (s : Slot) → home_in (remove_entry (same_addr a) t.units) k ≡ Some s → key_in (fold vacated t.groups (unit_in t.units a).homes) s ≡ Some k
+  to_slot : (k : Key) (s : Slot) → home_in (remove_entry (same_addr a) t.units) k ≡ Some s
+      → key_in (fold vacated t.groups (unit_in t.units a).homes) s ≡ Some k
   to_slot k s e = elim (addr_tells k.addr a) [
     | inl y ↦ absurd (none-some s (sym (dropped_home_own k y.1) ∙ e))
     | inr d ↦ dropped_key_other s k d.1 (ok.agree.to_slot k s (sym (dropped_home_other k d.1) ∙ e))
   ]
 
-  to_home : (k : Key) (s : Slot) → key_in (fold vacated t.groups (unit_in t.units a).homes) s ≡ Some k → home_in (remove_entry (same_addr a) t.units) k ≡ Some s
+  to_home : (k : Key) (s : Slot) → key_in (fold vacated t.groups (unit_in t.units a).homes) s ≡ Some k
+      → home_in (remove_entry (same_addr a) t.units) k ≡ Some s
   to_home k s e = by (key_in t.groups s) refl
     where
       by : (o : Option Key) → key_in t.groups s ≡ o → home_in (remove_entry (same_addr a) t.units) k ≡ Some s
       by None was =
-          absurd (none-some k (sym was ∙ sym (after.kept s (λ i f. true≢false (sym ((unit_homes t a ok).there i s f) ∙ ap is_some was))) ∙ e))
+          absurd (none-some k (sym was
+          ∙ sym (after.kept s (λ i f. true≢false (sym ((unit_homes t a ok).there i s f) ∙ ap is_some was))) ∙ e))
       by (Some j) was = elim (addr_tells j.addr a) [
         | inl y ↦
             let h : home_in t.units j ≡ Some s = ok.agree.to_home j s was in
-            absurd (none-some k (sym (after.gone j.rb s (sym (ap (λ b. get_or (unit_in t.units b).homes j.rb None) y.1) ∙ h)) ∙ e))
+            absurd (none-some k
+            (sym (after.gone j.rb s (sym (ap (λ b. get_or (unit_in t.units b).homes j.rb None) y.1) ∙ h)) ∙ e))
         | inr d ↦
             let same : j ≡ k = same_Some j k (sym (dropped_key_other s j d.1 was) ∙ e) in
-            subst (λ x. home_in (remove_entry (same_addr a) t.units) x ≡ Some s) same (dropped_home_other j d.1 ∙ ok.agree.to_home j s was)
+            subst (λ x. home_in (remove_entry (same_addr a) t.units) x ≡ Some s) same (dropped_home_other j d.1
+            ∙ ok.agree.to_home j s was)
       ]
 
   -- no slot names a block that it did not name
@@ -294,8 +330,10 @@ module _ (t : Tables) (a : Addr) (ok : TablesAgree t) where
   pub dropped_class : (g : ℕ) → KeepsClass (class_of t g) (group_in (dropped t a).groups g)
   dropped_class g = after.class g
 
-  pub dropped_class_named : (s : Slot) (k : Key) → key_at (dropped t a) s ≡ Some k → class_of (dropped t a) s.group ≡ class_of t s.group
-  dropped_class_named s k e = class_kept (class_of t s.group) (group_in (dropped t a).groups s.group) s.slot k (after.class s.group) e
+  pub dropped_class_named : (s : Slot) (k : Key) → key_at (dropped t a) s ≡ Some k
+      → class_of (dropped t a) s.group ≡ class_of t s.group
+  dropped_class_named s k e =
+      class_kept (class_of t s.group) (group_in (dropped t a).groups s.group) s.slot k (after.class s.group) e
 
   -- no fewer groups are free
   pub dropped_free_groups : free_groups t ≤ free_groups (dropped t a)
@@ -305,16 +343,19 @@ module _ (t : Tables) (a : Addr) (ok : TablesAgree t) where
   pub dropped_level_other : (k : Key) → k.addr ≢ a → level (dropped t a) k ≡ level t k
   dropped_level_other k ne =
       ap (λ o. level_in (dropped t a).groups o) (dropped_home_other k ne)
-      ∙ level_stays t.groups (dropped t a).groups (home t k) (λ s e. dropped_class_named s k (dropped_key_other s k ne (ok.agree.to_slot k s e)))
+      ∙ level_stays t.groups (dropped t a).groups (home t k)
+      (λ s e. dropped_class_named s k (dropped_key_other s k ne (ok.agree.to_slot k s e)))
 
   -- and the other units keep their order
   pub dropped_order : keys_of (dropped t a).units ≡ remove_key (same_addr a) (keys_of t.units)
   dropped_order = removed_keys (same_addr a) t.units
 
   module _ (there : IsSome (lookup (same_addr a) t.units)) where
-    sums : (f : UnitTableState → ℕ) → sum_by f (values_of (remove_entry (same_addr a) t.units)) + f (unit_in t.units a) ≡ sum_by f (values_of t.units)
+    sums : (f : UnitTableState → ℕ) → sum_by f (values_of (remove_entry (same_addr a) t.units)) + f (unit_in t.units a)
+        ≡ sum_by f (values_of t.units)
     sums f =
-        ap (λ o. sum_by f (values_of (remove_entry (same_addr a) t.units)) + unwrap_or (option_map f o) 0) (sym (found_in t.units a there))
+        ap (λ o. sum_by f (values_of (remove_entry (same_addr a) t.units)) + unwrap_or (option_map f o) 0)
+        (sym (found_in t.units a there))
         ∙ sum_by-remove_entry f (same_addr a) t.units
 
     -- the unit's blocks are no longer reserved
@@ -331,7 +372,8 @@ module _ (t : Tables) (a : Addr) (ok : TablesAgree t) where
           groups = after.stand t.geometry ok.groups;
           units = record {
             distinct = removed_distinct (same_addr a) t.units ok.units.distinct;
-            whole = All-map-remove_entry (same_addr a) (λ (x : Addr × UnitTableState). x.1) (IsValidUnit t.geometry) t.units ok.units.whole;
+            whole = All-map-remove_entry (same_addr a) (λ (x : Addr × UnitTableState). x.1) (IsValidUnit t.geometry)
+                t.units ok.units.whole;
           };
           agree = record { to_slot = to_slot; to_home = to_home; counted = omega arith };
           room = less (3 * rows_of t.geometry) (length t.groups) _ (reserved t) _ _ after.size total ok.room;
@@ -347,8 +389,10 @@ module _ (t : Tables) (a : Addr) (ok : TablesAgree t) where
     homes_fit n e = let total = dropped_reserved in omega arith
 
 -- the unit that was found
-pub found_is : (us : List (Addr × UnitTableState)) (a : Addr) (u : UnitTableState) → lookup (same_addr a) us ≡ Some u → unit_in us a ≡ u
+pub found_is : (us : List (Addr × UnitTableState)) (a : Addr) (u : UnitTableState) → lookup (same_addr a) us ≡ Some u
+    → unit_in us a ≡ u
 found_is us a u e = ap (λ o. unwrap_or o no_unit) e
 
-pub found_there : (us : List (Addr × UnitTableState)) (a : Addr) (u : UnitTableState) → lookup (same_addr a) us ≡ Some u → IsSome (lookup (same_addr a) us)
+pub found_there : (us : List (Addr × UnitTableState)) (a : Addr) (u : UnitTableState) → lookup (same_addr a) us ≡ Some u
+    → IsSome (lookup (same_addr a) us)
 found_there us a u e = ap is_some e

@@ -1,5 +1,6 @@
 -- How many groups are free, before and after a change of one.
-use Rattle.std.proofs.Common.{◌≡◌, ◌≢◌, ℕ, ◌+◌, ◌<◌, ◌≤◌, cond, Option, None, Some, List, length, set, count_by, refl, sym, ap, ◌∙◌, inl, inr, arith}
+use Rattle.std.proofs.Common.{◌≡◌, ◌≢◌, ℕ, ◌+◌, ◌<◌, ◌≤◌, cond, Option, None, Some, List, length, set, count_by, refl}
+use Rattle.std.proofs.Common.{sym, ap, ◌∙◌, inl, inr, arith}
 use Rattle.std.proofs.lemmas.Bool.{cases_lt}
 use Rattle.std.proofs.lemmas.List.{set_past}
 use Rattle.std.proofs.lemmas.List.Sums.{sum_by-set}
@@ -35,7 +36,8 @@ put_counts : (gs : List GroupState) (g : ℕ) (x : GroupState) → g < length gs
 put_counts gs g x inside = sum_by-set (λ (y : GroupState). one_if_free y.class) gs g x no_group inside
 
 -- where it has the class of the former one the count stays
-pub put_free_same : (gs : List GroupState) (g : ℕ) (x : GroupState) → x.class ≡ (group_in gs g).class → free_in (set gs g x) ≡ free_in gs
+pub put_free_same : (gs : List GroupState) (g : ℕ) (x : GroupState) → x.class ≡ (group_in gs g).class
+    → free_in (set gs g x) ≡ free_in gs
 put_free_same gs g x e = elim (cases_lt g (length gs)) [
   | inl inside ↦
       let all = put_counts gs g x inside in
@@ -45,7 +47,8 @@ put_free_same gs g x e = elim (cases_lt g (length gs)) [
 ]
 
 -- a free group that is put in the place of an open one is one more
-pub put_free_more : (gs : List GroupState) (g : ℕ) (x : GroupState) → g < length gs → (group_in gs g).class ≢ Free → x.class ≡ Free
+pub put_free_more : (gs : List GroupState) (g : ℕ) (x : GroupState) → g < length gs → (group_in gs g).class ≢ Free
+    → x.class ≡ Free
     → free_in (set gs g x) ≡ free_in gs + 1
 put_free_more gs g x inside taken e =
     let all = put_counts gs g x inside in
@@ -54,7 +57,8 @@ put_free_more gs g x inside taken e =
     omega arith
 
 -- an open group that is put in the place of a free one is one less
-pub put_free_less : (gs : List GroupState) (g : ℕ) (x : GroupState) → g < length gs → (group_in gs g).class ≡ Free → x.class ≢ Free
+pub put_free_less : (gs : List GroupState) (g : ℕ) (x : GroupState) → g < length gs → (group_in gs g).class ≡ Free
+    → x.class ≢ Free
     → free_in (set gs g x) + 1 ≡ free_in gs
 put_free_less gs g x inside e taken =
     let all = put_counts gs g x inside in
@@ -74,14 +78,16 @@ vacated_free gs (Some s) =
     let new : GroupState = with_hole (group_in gs s.group) s.slot in
     elim (cases_lt s.group (length gs)) [
       | inl inside ↦ elim (freed_keeps old) [
-        | inl same ↦ let e : free_in (set gs s.group new) ≡ free_in gs = put_free_same gs s.group new same in omega arith
+        | inl same ↦ let e : free_in (set gs s.group new) ≡ free_in gs =
+            put_free_same gs s.group new same in omega arith
         | inr free ↦
             let all = put_counts gs s.group new inside in
             let one : one_if_free new.class ≡ 1 = ap one_if_free free.0 in
             let most : one_if_free (group_in gs s.group).class ≤ 1 = at_most_one (group_in gs s.group).class in
             omega arith
       ]
-      | inr past ↦ let e : free_in (set gs s.group new) ≡ free_in gs = ap free_in (set_past gs s.group new past) in omega arith
+      | inr past ↦ let e : free_in (set gs s.group new) ≡ free_in gs =
+          ap free_in (set_past gs s.group new past) in omega arith
     ]
 
 -- and as many are free where the slot's group keeps its class
@@ -98,4 +104,5 @@ pub vacated_free_more : (gs : List GroupState) (s : Slot) → s.group < length g
     → free_in (vacated gs (Some s)) ≡ free_in gs + 1
 vacated_free_more gs s inside taken empty =
     let new : GroupState = with_hole (group_in gs s.group) s.slot in
-    put_free_more gs s.group new inside taken (sym (ap (λ y. y.class) (put_same gs s.group new inside)) ∙ vacated_emptied gs s inside empty)
+    put_free_more gs s.group new inside taken (sym (ap (λ y. y.class) (put_same gs s.group new inside))
+    ∙ vacated_emptied gs s inside empty)

@@ -1,5 +1,7 @@
 -- The book's invariant after a change of one group's use, of one extent, or of how many groups there are.
-use Rattle.std.proofs.Common.{◌≡◌, ◌≢◌, ℕ, zero, suc, ◌<◌, ◌≤◌, ◌+◌, ◌-◌, ◌*◌, ◌^◌, true, false, ◌||◌, None, Some, is_some, List, [], ◌∷◌, ◌++◌, length, get_or, set, sum_by, count_by, refl, sym, ap, subst, ◌∙◌, inl, inr, arith, true≢false, length-append, eq-eqb}
+use Rattle.std.proofs.Common.{◌≡◌, ◌≢◌, ℕ, zero, suc, ◌<◌, ◌≤◌, ◌+◌, ◌-◌, ◌*◌, ◌^◌, true, false, ◌||◌, None, Some}
+use Rattle.std.proofs.Common.{is_some, List, [], ◌∷◌, ◌++◌, length, get_or, set, sum_by, count_by, refl, sym, ap, subst}
+use Rattle.std.proofs.Common.{◌∙◌, inl, inr, arith, true≢false, length-append, eq-eqb}
 use Rattle.std.proofs.Math.ListN.{length-set, length-replicate}
 use Rattle.std.proofs.Math.Nat.{mul-le-mul_left}
 use Rattle.std.proofs.lemmas.Option.{none-some}
@@ -15,7 +17,8 @@ use Rattle.ar_disks.specs.declared.address.Members.{Members}
 use Rattle.ar_book.specs.declared.class.Class.{Class}
 use Rattle.ar_book.specs.declared.class.Class.TheVariants.{Free}
 use Rattle.ar_book.specs.declared.class.Slot.{Slot}
-use Rattle.ar_book.specs.Tables.{GroupState, Tables, no_group, group_in, key_in, key_at, class_of, used, slots_of, reserved}
+use Rattle.ar_book.specs.Tables.{GroupState, Tables, no_group, group_in, key_in, key_at, class_of, used, slots_of}
+use Rattle.ar_book.specs.Tables.{reserved}
 use Rattle.ar_book.specs.Changes.{opened, free_group, formed, shifted}
 use Rattle.ar_disks.specs.Addresses.{same_place}
 use Rattle.ar_book.specs.Choices.{IsUnused, AreUnused}
@@ -25,13 +28,16 @@ use Rattle.ar_book.proofs.GroupLemmas.{put_keeps, stand_put, disjoint_flips}
 use Rattle.ar_book.proofs.AgreeLemmas.{agree_same}
 
 -- a group is put whose slots are those of the one that stood there: each slot names what it did
-pub put_keys : (gs : List GroupState) (g : ℕ) (x : GroupState) → x.slots ≡ (group_in gs g).slots → (s : Slot) → key_in (set gs g x) s ≡ key_in gs s
+pub put_keys : (gs : List GroupState) (g : ℕ) (x : GroupState) → x.slots ≡ (group_in gs g).slots → (s : Slot)
+    → key_in (set gs g x) s ≡ key_in gs s
 put_keys gs g x same s = ap (λ l. get_or l s.slot None) (put_keeps (λ y. y.slots) gs g x same s.group)
 
-module _ (t : Tables) (n g : ℕ) (x : GroupState) (ok : BookAgrees t n) (inside : g < length t.groups) (same : x.slots ≡ (group_in t.groups g).slots) where
+module _ (t : Tables) (n g : ℕ) (x : GroupState) (ok : BookAgrees t n) (inside : g < length t.groups) (same : x.slots
+    ≡ (group_in t.groups g).slots) where
   count : sum_by used (set t.groups g x) ≡ sum_by used t.groups
   count =
-      let all : sum_by used (set t.groups g x) + used (group_in t.groups g) ≡ sum_by used t.groups + used x = sum_by-set used t.groups g x no_group inside in
+      let all : sum_by used (set t.groups g x) + used (group_in t.groups g) ≡ sum_by used t.groups + used x =
+      sum_by-set used t.groups g x no_group inside in
       let here : used x ≡ used (group_in t.groups g) = ap (λ l. count_by is_some l) same in
       omega arith
 
@@ -40,14 +46,16 @@ module _ (t : Tables) (n g : ℕ) (x : GroupState) (ok : BookAgrees t n) (inside
     tables = record {
       groups = stand;
       units = ok.tables.units;
-      agree = agree_same t.groups (set t.groups g x) t.units t.units ok.tables.agree (put_keys t.groups g x same) (λ k. refl) count refl;
+      agree = agree_same t.groups (set t.groups g x) t.units t.units ok.tables.agree (put_keys t.groups g x same)
+          (λ k. refl) count refl;
       room = subst (λ m. reserved t ≤ 3 * rows_of t.geometry * (m - 1)) (sym (length-set t.groups g x)) ok.tables.room;
     };
     total = ok.total;
   }
 
 -- a free group is opened
-pub opened_kept : (t : Tables) (n g : ℕ) (c : Class) → BookAgrees t n → g < length t.groups → class_of t g ≡ Free → BookAgrees (opened t g c) n
+pub opened_kept : (t : Tables) (n g : ℕ) (c : Class) → BookAgrees t n → g < length t.groups → class_of t g ≡ Free
+    → BookAgrees (opened t g c) n
 opened_kept t n g c ok inside free =
     let old = group_in t.groups g in
     let x : GroupState = record old { class = c } in
@@ -69,7 +77,8 @@ member_same m (suc zero) x = refl
 member_same m (suc (suc zero)) x = refl
 member_same m (suc (suc (suc p))) x = refl
 
-pub member_other : (m : Members) (p j : ℕ) (x : Place) → p < 4 → j < 4 → j ≢ p → member (with_member m p x) j ≡ member m j
+pub member_other : (m : Members) (p j : ℕ) (x : Place) → p < 4 → j < 4 → j ≢ p
+    → member (with_member m p x) j ≡ member m j
 member_other m zero zero x hp hj ne = absurd (ne refl)
 member_other m zero (suc zero) x hp hj ne = refl
 member_other m zero (suc (suc zero)) x hp hj ne = refl
@@ -92,10 +101,15 @@ pub stands_on_member : (m : Members) (x : Place) (j : ℕ) → same_place (membe
 stands_on_member m x zero e = or_left _ _ (or_left _ _ (or_left _ _ e))
 stands_on_member m x (suc zero) e = or_left _ _ (or_left _ _ (or_right (same_place m.first x) _ e))
 stands_on_member m x (suc (suc zero)) e = or_left _ _ (or_right (same_place m.first x || same_place m.second x) _ e)
-stands_on_member m x (suc (suc (suc j))) e = or_right (same_place m.first x || same_place m.second x || same_place m.third x) _ e
+stands_on_member m x (suc (suc (suc j))) e =
+    or_right (same_place m.first x || same_place m.second x || same_place m.third x) _ e
 
-pub not_member : (m : Members) (x : Place) → stands_on m x ≡ false → (j : ℕ) → (member m j).disk ≡ x.disk → (member m j).extent ≢ x.extent
-not_member m x unused j d e = true≢false (sym (stands_on_member m x j (and_from _ _ (eq-eqb (member m j).disk x.disk d) (eq-eqb (member m j).extent x.extent e))) ∙ unused)
+pub not_member : (m : Members) (x : Place) → stands_on m x ≡ false → (j : ℕ) → (member m j).disk ≡ x.disk
+    → (member m j).extent ≢ x.extent
+not_member m x unused j d e =
+    true≢false (sym
+    (stands_on_member m x j (and_from _ _ (eq-eqb (member m j).disk x.disk d) (eq-eqb (member m j).extent x.extent e)))
+    ∙ unused)
 
 -- a group with another extent
 module _ (t : Tables) (n g p : ℕ) (x : Place) (ok : BookAgrees t n) (inside : g < length t.groups) (range : p < 4)
@@ -116,23 +130,29 @@ module _ (t : Tables) (n g p : ℕ) (x : Place) (ok : BookAgrees t n) (inside : 
               (sym (ap (λ y. y.disk) (member_other m p i x range hi a.1)) ∙ e
               ∙ ap (λ k. (member (with_member m p x) k).disk) b.1 ∙ ap (λ y. y.disk) (member_same m p x))
           | inr b ↦ λ e. ok.tables.groups.apart g inside i j hi hj ne
-              (sym (ap (λ y. y.disk) (member_other m p i x range hi a.1)) ∙ e ∙ ap (λ y. y.disk) (member_other m p j x range hj b.1))
+              (sym (ap (λ y. y.disk) (member_other m p i x range hi a.1)) ∙ e
+              ∙ ap (λ y. y.disk) (member_other m p j x range hj b.1))
         ]
       ]
 
-  still_disjoint : (i : ℕ) → i < length t.groups → i ≢ g → AreDisjoint (group_in t.groups i).members (with_member (group_in t.groups g).members p x)
+  still_disjoint : (i : ℕ) → i < length t.groups → i ≢ g
+      → AreDisjoint (group_in t.groups i).members (with_member (group_in t.groups g).members p x)
   still_disjoint i hi ne a b ha hb =
       let m : Members = (group_in t.groups g).members in
       elim (eqb_tells b p) [
         | inl q ↦
-            let here : member (with_member m p x) b ≡ x = ap (λ k. member (with_member m p x) k) q.1 ∙ member_same m p x in
-            λ d e. not_member (group_in t.groups i).members x (unused i hi) a (d ∙ ap (λ y. y.disk) here) (e ∙ ap (λ y. y.extent) here)
+            let here : member (with_member m p x) b ≡ x =
+            ap (λ k. member (with_member m p x) k) q.1 ∙ member_same m p x in
+            λ d e. not_member (group_in t.groups i).members x (unused i hi) a (d ∙ ap (λ y. y.disk) here) (e
+            ∙ ap (λ y. y.extent) here)
         | inr q ↦
             let here : member (with_member m p x) b ≡ member m b = member_other m p b x range hb q.1 in
-            λ d e. ok.tables.groups.disjoint i g hi inside ne a b ha hb (d ∙ ap (λ y. y.disk) here) (e ∙ ap (λ y. y.extent) here)
+            λ d e. ok.tables.groups.disjoint i g hi inside ne a b ha hb (d ∙ ap (λ y. y.disk) here) (e
+            ∙ ap (λ y. y.extent) here)
       ]
 
-  still_first : (q : ℕ) → ((with_member (group_in t.groups g).members q x).first.disk < 2 ^ 8) × ((with_member (group_in t.groups g).members q x).first.extent < 2 ^ 16)
+  still_first : (q : ℕ) → ((with_member (group_in t.groups g).members q x).first.disk < 2 ^ 8)
+      × ((with_member (group_in t.groups g).members q x).first.extent < 2 ^ 16)
   still_first zero = (disk, extent)
   still_first (suc zero) = ok.tables.groups.first g inside
   still_first (suc (suc zero)) = ok.tables.groups.first g inside
@@ -149,10 +169,12 @@ module _ (t : Tables) (n g p : ℕ) (x : Place) (ok : BookAgrees t n) (inside : 
       still_apart still_disjoint (still_first p))
 
 -- the groups with one more: those that were there, and the new one
-pub formed_group_below : (t : Tables) (m : Members) (i : ℕ) → i < length t.groups → group_in (formed t m).groups i ≡ group_in t.groups i
+pub formed_group_below : (t : Tables) (m : Members) (i : ℕ) → i < length t.groups
+    → group_in (formed t m).groups i ≡ group_in t.groups i
 formed_group_below t m i h = get_or_append_left t.groups (free_group m (3 * rows_of t.geometry) ∷ []) no_group i h
 
-pub formed_group_last : (t : Tables) (m : Members) (i : ℕ) → length t.groups ≡ i → group_in (formed t m).groups i ≡ free_group m (3 * rows_of t.geometry)
+pub formed_group_last : (t : Tables) (m : Members) (i : ℕ) → length t.groups ≡ i
+    → group_in (formed t m).groups i ≡ free_group m (3 * rows_of t.geometry)
 formed_group_last t m i e = get_or_push t.groups (free_group m (3 * rows_of t.geometry)) no_group i e
 
 pub formed_group_count : (t : Tables) (m : Members) → length (formed t m).groups ≡ length t.groups + 1
@@ -163,14 +185,16 @@ pub formed_keys : (t : Tables) (m : Members) (s : Slot) → key_at (formed t m) 
 formed_keys t m s = elim (cases_lt s.group (length t.groups)) [
   | inl h ↦ ap (λ y. get_or y.slots s.slot None) (formed_group_below t m s.group h)
   | inr h ↦
-      let past : key_in t.groups s ≡ None = ap (λ y. get_or y.slots s.slot None) (get_or_past t.groups s.group no_group h) in
+      let past : key_in t.groups s ≡ None =
+      ap (λ y. get_or y.slots s.slot None) (get_or_past t.groups s.group no_group h) in
       elim (eqb_tells (length t.groups) s.group) [
         | inl e ↦
             ap (λ y. get_or y.slots s.slot None) (formed_group_last t m s.group e.1)
             ∙ get_replicate (3 * rows_of t.geometry) s.slot (nothing Key)
             ∙ sym past
         | inr d ↦
-            ap (λ y. get_or y.slots s.slot None) (get_or_past (formed t m).groups s.group no_group (omega (arith, formed_group_count t m, h, d.1)))
+            ap (λ y. get_or y.slots s.slot None)
+            (get_or_past (formed t m).groups s.group no_group (omega (arith, formed_group_count t m, h, d.1)))
             ∙ sym past
       ]
 ]
@@ -179,17 +203,21 @@ formed_keys t m s = elim (cases_lt s.group (length t.groups)) [
 module _ (t : Tables) (n : ℕ) (m : Members) (ok : BookAgrees t n) (apart : AreApart m)
     (fresh : (i : ℕ) → i < length t.groups → AreDisjoint (group_in t.groups i).members m)
     (disk : m.first.disk < 2 ^ 8) (extent : m.first.extent < 2 ^ 16) where
-  low : (i : ℕ) → i < length t.groups → group_in (t.groups ++ free_group m (3 * rows_of t.geometry) ∷ []) i ≡ group_in t.groups i
+  low : (i : ℕ) → i < length t.groups → group_in (t.groups ++ free_group m (3 * rows_of t.geometry) ∷ []) i
+      ≡ group_in t.groups i
   low = formed_group_below t m
 
-  top : (i : ℕ) → length t.groups ≡ i → group_in (t.groups ++ free_group m (3 * rows_of t.geometry) ∷ []) i ≡ free_group m (3 * rows_of t.geometry)
+  top : (i : ℕ) → length t.groups ≡ i → group_in (t.groups ++ free_group m (3 * rows_of t.geometry) ∷ []) i
+      ≡ free_group m (3 * rows_of t.geometry)
   top = formed_group_last t m
 
   size : length (t.groups ++ free_group m (3 * rows_of t.geometry) ∷ []) ≡ length t.groups + 1
   size = formed_group_count t m
 
   -- whatever holds of each group and of the new one holds of all
-  each : (P : GroupState → Type 0) → ((i : ℕ) → i < length t.groups → P (group_in t.groups i)) → P (free_group m (3 * rows_of t.geometry)) → (i : ℕ) → i < length t.groups + 1 → P (group_in (t.groups ++ free_group m (3 * rows_of t.geometry) ∷ []) i)
+  each : (P : GroupState → Type 0) → ((i : ℕ) → i < length t.groups → P (group_in t.groups i))
+      → P (free_group m (3 * rows_of t.geometry)) → (i : ℕ) → i < length t.groups + 1
+      → P (group_in (t.groups ++ free_group m (3 * rows_of t.geometry) ∷ []) i)
   each P old last i h = elim (cases_lt i (length t.groups)) [
     | inl l ↦ subst P (sym (low i l)) (old i l)
     | inr l ↦ subst P (sym (top i (omega arith))) last
@@ -200,40 +228,50 @@ module _ (t : Tables) (n : ℕ) (m : Members) (ok : BookAgrees t n) (apart : Are
       let gs = ok.tables.groups in
       let all = t.groups ++ free_group m (3 * rows_of t.geometry) ∷ [] in
       record {
-        long = λ i h. each (λ y. length y.slots ≡ 3 * rows_of t.geometry) gs.long (length-replicate (3 * rows_of t.geometry) (nothing Key)) i (omega (arith, size, h));
+        long = λ i h. each (λ y. length y.slots ≡ 3 * rows_of t.geometry) gs.long
+            (length-replicate (3 * rows_of t.geometry) (nothing Key)) i (omega (arith, size, h));
         within = λ s k e.
             let f : key_in t.groups s ≡ Some k = sym (formed_keys t m s) ∙ e in
             elim (cases_lt s.group (length t.groups)) [
               | inl h ↦ subst (λ y. s.slot < slots_of t.geometry y.class) (sym (low s.group h)) (gs.within s k f)
-              | inr h ↦ absurd (none-some k (sym (ap (λ y. get_or y.slots s.slot None) (get_or_past t.groups s.group no_group h)) ∙ f))
+              | inr h ↦ absurd
+                  (none-some k (sym (ap (λ y. get_or y.slots s.slot None) (get_or_past t.groups s.group no_group h))
+                  ∙ f))
             ];
         apart = λ i h. each (λ y. AreApart y.members) gs.apart apart i (omega (arith, size, h));
         disjoint = λ i j hi hj ne. elim (cases_lt i (length t.groups)) [
           | inl a ↦ elim (cases_lt j (length t.groups)) [
             | inl b ↦ subst (λ y. AreDisjoint y.members (group_in all j).members) (sym (low i a))
-                (subst (λ y. AreDisjoint (group_in t.groups i).members y.members) (sym (low j b)) (gs.disjoint i j a b ne))
+                (subst (λ y. AreDisjoint (group_in t.groups i).members y.members) (sym (low j b))
+                (gs.disjoint i j a b ne))
             | inr b ↦ subst (λ y. AreDisjoint y.members (group_in all j).members) (sym (low i a))
-                (subst (λ y. AreDisjoint (group_in t.groups i).members y.members) (sym (top j (omega (arith, size, hj, b)))) (fresh i a))
+                (subst (λ y. AreDisjoint (group_in t.groups i).members y.members)
+                (sym (top j (omega (arith, size, hj, b)))) (fresh i a))
           ]
           | inr a ↦ elim (cases_lt j (length t.groups)) [
-            | inl b ↦ subst (λ y. AreDisjoint y.members (group_in all j).members) (sym (top i (omega (arith, size, hi, a))))
-                (subst (λ y. AreDisjoint m y.members) (sym (low j b)) (disjoint_flips (group_in t.groups j).members m (fresh j b)))
+            | inl b ↦ subst (λ y. AreDisjoint y.members (group_in all j).members)
+                (sym (top i (omega (arith, size, hi, a))))
+                (subst (λ y. AreDisjoint m y.members) (sym (low j b))
+                (disjoint_flips (group_in t.groups j).members m (fresh j b)))
             | inr b ↦ absurd (ne (omega (arith, size, hi, hj, a, b)))
           ]
         ];
-        first = λ i h. each (λ y. (y.members.first.disk < 2 ^ 8) × (y.members.first.extent < 2 ^ 16)) gs.first (disk, extent) i (omega (arith, size, h));
+        first = λ i h. each (λ y. (y.members.first.disk < 2 ^ 8)
+            × (y.members.first.extent < 2 ^ 16)) gs.first (disk, extent) i (omega (arith, size, h));
       }
 
   pub formed_kept : BookAgrees (formed t m) n
   formed_kept =
       let all = t.groups ++ free_group m (3 * rows_of t.geometry) ∷ [] in
       let none : used (free_group m (3 * rows_of t.geometry)) ≡ 0 = count_none Key (3 * rows_of t.geometry) in
-      let count : sum_by used all ≡ sum_by used t.groups + used (free_group m (3 * rows_of t.geometry)) = sum_by_push used t.groups (free_group m (3 * rows_of t.geometry)) in
+      let count : sum_by used all ≡ sum_by used t.groups + used (free_group m (3 * rows_of t.geometry)) =
+      sum_by_push used t.groups (free_group m (3 * rows_of t.geometry)) in
       record {
         tables = record {
           groups = formed_stand;
           units = ok.tables.units;
-          agree = agree_same t.groups all t.units t.units ok.tables.agree (formed_keys t m) (λ k. refl) (omega arith) refl;
+          agree = agree_same t.groups all t.units t.units ok.tables.agree (formed_keys t m) (λ k. refl) (omega arith)
+              refl;
           room = more_room (rows_of t.geometry) (length t.groups) (length all) (reserved t) size ok.tables.room;
         };
         total = ok.total;
@@ -245,11 +283,13 @@ module _ (t : Tables) (n : ℕ) (m : Members) (ok : BookAgrees t n) (apart : Are
           omega (arith, mul-le-mul_left (3 * e) le)
 
 -- four extents that are in no group are members of none
-pub unused_disjoint : (t : Tables) (m : Members) → AreUnused t m → (i : ℕ) → i < length t.groups → AreDisjoint (group_in t.groups i).members m
+pub unused_disjoint : (t : Tables) (m : Members) → AreUnused t m → (i : ℕ) → i < length t.groups
+    → AreDisjoint (group_in t.groups i).members m
 unused_disjoint t m unused i h j k hj hk e = not_member (group_in t.groups i).members (member m k) (unused k hk i h) j e
 
 -- four extents are in no group where none of them is
-pub four_unused : (t : Tables) (m : Members) → IsUnused t m.first → IsUnused t m.second → IsUnused t m.third → IsUnused t m.fourth → AreUnused t m
+pub four_unused : (t : Tables) (m : Members) → IsUnused t m.first → IsUnused t m.second → IsUnused t m.third
+    → IsUnused t m.fourth → AreUnused t m
 four_unused t m a b c d zero h = a
 four_unused t m a b c d (suc zero) h = b
 four_unused t m a b c d (suc (suc zero)) h = c

@@ -1,5 +1,8 @@
 -- What a change of one group leaves in the list of groups.
-use Rattle.std.proofs.Common.{◌≡◌, ◌≢◌, ℕ, suc, ◌+◌, ◌-◌, ◌*◌, ◌^◌, ◌<◌, ◌≤◌, ◌⊎◌, Bool, true, false, cond, eqb, if◌then◌else◌, Option, None, Some, is_some, List, [], ◌∷◌, length, get_or, set, map, All, sum_by, count_by, refl, sym, ap, subst, ◌∙◌, inl, inr, arith, get_or-set_same, get_or-set_other, eq-eqb}
+use Rattle.std.proofs.Common.{◌≡◌, ◌≢◌, ℕ, suc, ◌+◌, ◌-◌, ◌*◌, ◌^◌, ◌<◌, ◌≤◌, ◌⊎◌, Bool, true, false, cond, eqb}
+use Rattle.std.proofs.Common.{if◌then◌else◌, Option, None, Some, is_some, List, [], ◌∷◌, length, get_or, set, map, All}
+use Rattle.std.proofs.Common.{sum_by, count_by, refl, sym, ap, subst, ◌∙◌, inl, inr, arith, get_or-set_same}
+use Rattle.std.proofs.Common.{get_or-set_other, eq-eqb}
 use Rattle.std.proofs.lemmas.List.{get_or_past, set_past}
 use Rattle.std.proofs.lemmas.List.Sums.{sum_by-set, sum_by-cons, get_or-le-sum_by}
 use Rattle.std.proofs.lemmas.Option.{none-some}
@@ -31,10 +34,12 @@ pub there_group : (gs : List GroupState) (s : Slot) (k : Key) → key_in gs s �
 there_group gs s k e =
     elim (cases_lt s.group (length gs)) [
       | inl h ↦ h
-      | inr h ↦ absurd (none-some k (sym (ap (λ x. get_or x.slots s.slot None) (get_or_past gs s.group no_group h)) ∙ e))
+      | inr h ↦ absurd
+          (none-some k (sym (ap (λ x. get_or x.slots s.slot None) (get_or_past gs s.group no_group h)) ∙ e))
     ]
 
-pub there_slot : (gs : List GroupState) (s : Slot) (k : Key) → key_in gs s ≡ Some k → s.slot < length (group_in gs s.group).slots
+pub there_slot : (gs : List GroupState) (s : Slot) (k : Key) → key_in gs s ≡ Some k
+    → s.slot < length (group_in gs s.group).slots
 there_slot gs s k e =
     elim (cases_lt s.slot (length (group_in gs s.group).slots)) [
       | inl h ↦ h
@@ -46,11 +51,14 @@ pub put_same : (gs : List GroupState) (g : ℕ) (x : GroupState) → g < length 
 put_same gs g x h = get_or-set_same gs g x no_group h
 
 -- the others stay
-pub put_other : (gs : List GroupState) (g : ℕ) (x : GroupState) (i : ℕ) → i ≢ g → group_in (set gs g x) i ≡ group_in gs i
+pub put_other : (gs : List GroupState) (g : ℕ) (x : GroupState) (i : ℕ) → i ≢ g
+    → group_in (set gs g x) i ≡ group_in gs i
 put_other gs g x i ne = get_or-set_other gs g i x no_group ne
 
--- what holds between a group and the one that is put in its place, and between each group and itself, holds for all before and after
-pub put_relates : (R : GroupState → GroupState → Type 0) → ((y : GroupState) → R y y) → (gs : List GroupState) (g : ℕ) (x : GroupState)
+-- what holds between a group and the one that is put in its place, and between each group and itself, holds for all
+-- before and after
+pub put_relates : (R : GroupState → GroupState → Type 0) → ((y : GroupState) → R y y)
+    → (gs : List GroupState) (g : ℕ) (x : GroupState)
     → R (group_in gs g) x → (i : ℕ) → R (group_in gs i) (group_in (set gs g x) i)
 put_relates R same gs g x h i = elim (cases_lt g (length gs)) [
   | inl inside ↦ elim (eqb_tells i g) [
@@ -63,12 +71,14 @@ put_relates R same gs g x h i = elim (cases_lt g (length gs)) [
 ]
 
 -- what the group that is put has as the former one stays in all
-pub put_keeps : {A : Type 0} (f : GroupState → A) (gs : List GroupState) (g : ℕ) (x : GroupState) → f x ≡ f (group_in gs g)
+pub put_keeps : {A : Type 0} (f : GroupState → A) (gs : List GroupState) (g : ℕ) (x : GroupState)
+    → f x ≡ f (group_in gs g)
     → (i : ℕ) → f (group_in (set gs g x) i) ≡ f (group_in gs i)
 put_keeps f gs g x e i = put_relates (λ a b. f b ≡ f a) (λ y. refl) gs g x e i
 
 -- one slot of one group is another, and no other slot
-module _ (gs : List GroupState) (s : Slot) (x : GroupState) (o : Option Key) (inside : s.group < length gs) (is : x.slots ≡ set (group_in gs s.group).slots s.slot o) where
+module _ (gs : List GroupState) (s : Slot) (x : GroupState) (o : Option Key) (inside : s.group < length gs)
+    (is : x.slots ≡ set (group_in gs s.group).slots s.slot o) where
   pub slot_same : s.slot < length (group_in gs s.group).slots → key_in (set gs s.group x) s ≡ o
   slot_same h =
       ap (λ y. get_or y.slots s.slot None) (put_same gs s.group x inside)
@@ -89,19 +99,24 @@ module _ (gs : List GroupState) (s : Slot) (x : GroupState) (o : Option Key) (in
       ]
 
   -- the slots that name a block are one more, or one fewer, as this one does and did
-  pub slot_count : s.slot < length (group_in gs s.group).slots → sum_by used (set gs s.group x) + cond (is_some (key_in gs s)) 1 0 ≡ sum_by used gs + cond (is_some o) 1 0
+  pub slot_count : s.slot < length (group_in gs s.group).slots
+      → sum_by used (set gs s.group x) + cond (is_some (key_in gs s)) 1 0 ≡ sum_by used gs + cond (is_some o) 1 0
   slot_count h =
-      let one : count_by is_some (set (group_in gs s.group).slots s.slot o) + cond (is_some (key_in gs s)) 1 0 ≡ used (group_in gs s.group) + cond (is_some o) 1 0 =
+      let one : count_by is_some (set (group_in gs s.group).slots s.slot o) + cond (is_some (key_in gs s)) 1 0
+      ≡ used (group_in gs s.group) + cond (is_some o) 1 0 =
       sum_by-set (λ k. cond (is_some k) 1 0) (group_in gs s.group).slots s.slot o None h in
-      let here : used x ≡ count_by is_some (set (group_in gs s.group).slots s.slot o) = ap (λ l. count_by is_some l) is in
-      let all : sum_by used (set gs s.group x) + used (group_in gs s.group) ≡ sum_by used gs + used x = sum_by-set used gs s.group x no_group inside in
+      let here : used x ≡ count_by is_some (set (group_in gs s.group).slots s.slot o) =
+      ap (λ l. count_by is_some l) is in
+      let all : sum_by used (set gs s.group x) + used (group_in gs s.group) ≡ sum_by used gs + used x =
+      sum_by-set used gs s.group x no_group inside in
       omega arith
 
 -- the groups stand where the one that was put does
 pub disjoint_flips : (m n : Members) → AreDisjoint m n → AreDisjoint n m
 disjoint_flips m n d i j hi hj e f = d j i hj hi (sym e) (sym f)
 
-module _ (geo : Geometry) (gs : List GroupState) (ok : GroupsStand geo gs) (g : ℕ) (x : GroupState) (inside : g < length gs) where
+module _ (geo : Geometry) (gs : List GroupState) (ok : GroupsStand geo gs) (g : ℕ) (x : GroupState)
+    (inside : g < length gs) where
   pub stand_put : length x.slots ≡ 3 * rows_of geo
       → ((i : ℕ) (k : Key) → get_or x.slots i None ≡ Some k → i < slots_of geo x.class)
       → AreApart x.members
@@ -120,10 +135,12 @@ module _ (geo : Geometry) (gs : List GroupState) (ok : GroupsStand geo gs) (g : 
         within = λ s k e. elim (eqb_tells s.group g) [
           | inl q ↦
               let here : group_in (set gs g x) s.group ≡ x = ap (λ j. group_in (set gs g x) j) q.1 ∙ same in
-              subst (λ y. s.slot < slots_of geo y.class) (sym here) (within s.slot k (sym (ap (λ y. get_or y.slots s.slot None) here) ∙ e))
+              subst (λ y. s.slot < slots_of geo y.class) (sym here)
+              (within s.slot k (sym (ap (λ y. get_or y.slots s.slot None) here) ∙ e))
           | inr n ↦
               let here = other s.group n.1 in
-              subst (λ y. s.slot < slots_of geo y.class) (sym here) (ok.within s k (sym (ap (λ y. get_or y.slots s.slot None) here) ∙ e))
+              subst (λ y. s.slot < slots_of geo y.class) (sym here)
+              (ok.within s k (sym (ap (λ y. get_or y.slots s.slot None) here) ∙ e))
         ];
         apart = λ i h. elim (eqb_tells i g) [
           | inl e ↦ subst (λ y. AreApart y.members) (sym (ap (λ j. group_in (set gs g x) j) e.1 ∙ same)) apart
@@ -132,21 +149,26 @@ module _ (geo : Geometry) (gs : List GroupState) (ok : GroupsStand geo gs) (g : 
         disjoint = λ i j hi hj ne. elim (eqb_tells i g) [
           | inl e ↦
               let j_other : j ≢ g = λ q. ne (e.1 ∙ sym q) in
-              subst (λ y. AreDisjoint y.members (group_in (set gs g x) j).members) (sym (ap (λ k. group_in (set gs g x) k) e.1 ∙ same))
+              subst (λ y. AreDisjoint y.members (group_in (set gs g x) j).members)
+              (sym (ap (λ k. group_in (set gs g x) k) e.1 ∙ same))
               (subst (λ y. AreDisjoint x.members y.members) (sym (other j j_other))
               (disjoint_flips (group_in gs j).members x.members (disjoint j (omega arith) j_other)))
           | inr n ↦ elim (eqb_tells j g) [
             | inl e ↦
-                subst (λ y. AreDisjoint (group_in (set gs g x) i).members y.members) (sym (ap (λ k. group_in (set gs g x) k) e.1 ∙ same))
+                subst (λ y. AreDisjoint (group_in (set gs g x) i).members y.members)
+                (sym (ap (λ k. group_in (set gs g x) k) e.1 ∙ same))
                 (subst (λ y. AreDisjoint y.members x.members) (sym (other i n.1)) (disjoint i (omega arith) n.1))
             | inr m ↦
                 subst (λ y. AreDisjoint y.members (group_in (set gs g x) j).members) (sym (other i n.1))
-                (subst (λ y. AreDisjoint (group_in gs i).members y.members) (sym (other j m.1)) (ok.disjoint i j (omega arith) (omega arith) ne))
+                (subst (λ y. AreDisjoint (group_in gs i).members y.members) (sym (other j m.1))
+                (ok.disjoint i j (omega arith) (omega arith) ne))
           ]
         ];
         first = λ i h. elim (eqb_tells i g) [
-          | inl e ↦ subst (λ y. (y.members.first.disk < 2 ^ 8) × (y.members.first.extent < 2 ^ 16)) (sym (ap (λ j. group_in (set gs g x) j) e.1 ∙ same)) first
-          | inr n ↦ subst (λ y. (y.members.first.disk < 2 ^ 8) × (y.members.first.extent < 2 ^ 16)) (sym (other i n.1)) (ok.first i (omega arith))
+          | inl e ↦ subst (λ y. (y.members.first.disk < 2 ^ 8)
+              × (y.members.first.extent < 2 ^ 16)) (sym (ap (λ j. group_in (set gs g x) j) e.1 ∙ same)) first
+          | inr n ↦ subst (λ y. (y.members.first.disk < 2 ^ 8)
+              × (y.members.first.extent < 2 ^ 16)) (sym (other i n.1)) (ok.first i (omega arith))
         ];
       }
 
@@ -169,8 +191,10 @@ freed_slots x = by (eqb (used x) 0)
 pub named_used : (x : GroupState) (i : ℕ) (k : Key) → get_or x.slots i None ≡ Some k → used x ≢ 0
 named_used x i k e z = elim (cases_lt i (length x.slots)) [
   | inl h ↦
-      let le : cond {A = ℕ} (is_some (get_or x.slots i None)) 1 0 ≤ used x = get_or-le-sum_by (λ o. cond (is_some o) 1 0) x.slots i None h in
-      let one : cond {A = ℕ} (is_some (get_or x.slots i None)) 1 0 ≡ 1 = ap (λ (o : Option Key). cond {A = ℕ} (is_some o) 1 0) e in
+      let le : cond {A = ℕ} (is_some (get_or x.slots i None)) 1 0 ≤ used x =
+      get_or-le-sum_by (λ o. cond (is_some o) 1 0) x.slots i None h in
+      let one : cond {A = ℕ} (is_some (get_or x.slots i None)) 1 0 ≡ 1 =
+      ap (λ (o : Option Key). cond {A = ℕ} (is_some o) 1 0) e in
       absurd (omega arith)
   | inr h ↦ absurd (none-some k (sym (get_or_past x.slots i None h) ∙ e))
 ]
@@ -187,7 +211,8 @@ unused_empty x z i = by (get_or x.slots i None) refl
 pub empty_unused : (ks : List (Option Key)) → ((i : ℕ) → get_or ks i None ≡ None) → count_by is_some ks ≡ 0
 empty_unused [] empty = refl
 empty_unused (x ∷ ks) empty =
-    let head : count_by is_some (x ∷ ks) ≡ cond {A = ℕ} (is_some x) 1 0 + count_by is_some ks = sum_by-cons (λ (o : Option Key). cond {A = ℕ} (is_some o) 1 0) x ks in
+    let head : count_by is_some (x ∷ ks) ≡ cond {A = ℕ} (is_some x) 1 0 + count_by is_some ks =
+    sum_by-cons (λ (o : Option Key). cond {A = ℕ} (is_some o) 1 0) x ks in
     let none : cond {A = ℕ} (is_some x) 1 0 ≡ 0 = ap (λ (o : Option Key). cond {A = ℕ} (is_some o) 1 0) (empty 0) in
     let rest = empty_unused ks (λ i. empty (suc i)) in
     omega arith
@@ -197,7 +222,8 @@ abbrev pub KeepsClass : Class → GroupState → Type 0
 KeepsClass c x = (x.class ≡ c) ⊎ ((x.class ≡ Free) × ((i : ℕ) → get_or x.slots i None ≡ None))
 
 -- so it has this class where a slot names a block
-pub class_kept : (c : Class) (x : GroupState) (i : ℕ) (k : Key) → KeepsClass c x → get_or x.slots i None ≡ Some k → x.class ≡ c
+pub class_kept : (c : Class) (x : GroupState) (i : ℕ) (k : Key) → KeepsClass c x → get_or x.slots i None ≡ Some k
+    → x.class ≡ c
 class_kept c x i k h e = elim h [ inl same ↦ same | inr free ↦ absurd (none-some k (sym (free.1 i) ∙ e)) ]
 
 -- freeing a group leaves its class where a slot names a block
@@ -213,7 +239,8 @@ freed_keeps x = elim (eqb_tells (used x) 0) [
 
 -- and makes it free where none does
 pub freed_empty : (x : GroupState) → ((i : ℕ) → get_or x.slots i None ≡ None) → (freed x).class ≡ Free
-freed_empty x empty = ap (λ b. (if b then record x { class = Free } else x).class) (eq-eqb (used x) 0 (empty_unused x.slots empty))
+freed_empty x empty =
+    ap (λ b. (if b then record x { class = Free } else x).class) (eq-eqb (used x) 0 (empty_unused x.slots empty))
 
 -- and only where no slot names a block
 pub freed_class : (x : GroupState) (i : ℕ) (k : Key) → get_or x.slots i None ≡ Some k → (freed x).class ≡ x.class
@@ -227,21 +254,25 @@ pub vacated_size : (gs : List GroupState) (o : Option Slot) → length (vacated 
 vacated_size gs None = refl
 vacated_size gs (Some s) = length-set gs s.group (with_hole (group_in gs s.group) s.slot)
 
-pub named_members : (gs : List GroupState) (s : Slot) (k : Key) (i : ℕ) → (group_in (named gs s k) i).members ≡ (group_in gs i).members
+pub named_members : (gs : List GroupState) (s : Slot) (k : Key) (i : ℕ)
+    → (group_in (named gs s k) i).members ≡ (group_in gs i).members
 named_members gs s k i = put_keeps (λ y. y.members) gs s.group (with_key (group_in gs s.group) s.slot k) refl i
 
-pub vacated_members : (gs : List GroupState) (o : Option Slot) (i : ℕ) → (group_in (vacated gs o) i).members ≡ (group_in gs i).members
+pub vacated_members : (gs : List GroupState) (o : Option Slot) (i : ℕ)
+    → (group_in (vacated gs o) i).members ≡ (group_in gs i).members
 vacated_members gs None i = refl
 vacated_members gs (Some s) i =
     put_keeps (λ y. y.members) gs s.group (with_hole (group_in gs s.group) s.slot)
     (freed_members (record (group_in gs s.group) { slots = set (group_in gs s.group).slots s.slot None })) i
 
 -- naming a block changes no class
-pub named_class : (gs : List GroupState) (s : Slot) (k : Key) (i : ℕ) → (group_in (named gs s k) i).class ≡ (group_in gs i).class
+pub named_class : (gs : List GroupState) (s : Slot) (k : Key) (i : ℕ)
+    → (group_in (named gs s k) i).class ≡ (group_in gs i).class
 named_class gs s k i = put_keeps (λ y. y.class) gs s.group (with_key (group_in gs s.group) s.slot k) refl i
 
 -- vacating a slot frees no group of which a slot still names a block
-pub vacated_class : (gs : List GroupState) (o : Option Slot) (i : ℕ) → KeepsClass (group_in gs i).class (group_in (vacated gs o) i)
+pub vacated_class : (gs : List GroupState) (o : Option Slot) (i : ℕ)
+    → KeepsClass (group_in gs i).class (group_in (vacated gs o) i)
 vacated_class gs None i = inl refl
 vacated_class gs (Some s) i =
     put_relates (λ a b. KeepsClass a.class b) (λ y. inl refl) gs s.group (with_hole (group_in gs s.group) s.slot)
@@ -255,10 +286,12 @@ module _ (gs : List GroupState) (s : Slot) (k : Key) (inside : s.group < length 
   pub named_other : (r : Slot) → r ≢ s → key_in (named gs s k) r ≡ key_in gs r
   named_other r ne = slot_other gs s (with_key (group_in gs s.group) s.slot k) (Some k) inside refl r ne
 
-  pub named_count : s.slot < length (group_in gs s.group).slots → key_in gs s ≡ None → sum_by used (named gs s k) ≡ sum_by used gs + 1
+  pub named_count : s.slot < length (group_in gs s.group).slots → key_in gs s ≡ None
+      → sum_by used (named gs s k) ≡ sum_by used gs + 1
   named_count h e =
       let all = slot_count gs s (with_key (group_in gs s.group) s.slot k) (Some k) inside refl h in
-      let none : cond {A = ℕ} (is_some (key_in gs s)) 1 0 ≡ 0 = ap (λ (o : Option Key). cond {A = ℕ} (is_some o) 1 0) e in
+      let none : cond {A = ℕ} (is_some (key_in gs s)) 1 0 ≡ 0 =
+      ap (λ (o : Option Key). cond {A = ℕ} (is_some o) 1 0) e in
       omega arith
 
   pub named_shape : (i : ℕ) → length (group_in (named gs s k) i).slots ≡ length (group_in gs i).slots
@@ -271,14 +304,16 @@ module _ (gs : List GroupState) (s : Slot) (k : Key) (inside : s.group < length 
     | inr n ↦ ap (λ y. length y.slots) (put_other gs s.group (with_key (group_in gs s.group) s.slot k) i n.1)
   ]
 
-  pub named_stand : (geo : Geometry) → GroupsStand geo gs → s.slot < slots_of geo (group_in gs s.group).class → GroupsStand geo (named gs s k)
+  pub named_stand : (geo : Geometry) → GroupsStand geo gs → s.slot < slots_of geo (group_in gs s.group).class
+      → GroupsStand geo (named gs s k)
   named_stand geo ok h =
       let old = group_in gs s.group in
       stand_put geo gs ok s.group (with_key old s.slot k) inside
       (length-set old.slots s.slot (Some k) ∙ ok.long s.group inside)
       (λ i j e. elim (eqb_tells i s.slot) [
         | inl q ↦ subst (λ n. n < slots_of geo old.class) (sym q.1) h
-        | inr n ↦ ok.within (record { group = s.group; slot = i }) j (sym (get_or-set_other old.slots s.slot i (Some k) None n.1) ∙ e)
+        | inr n ↦ ok.within (record { group = s.group; slot = i }) j
+            (sym (get_or-set_other old.slots s.slot i (Some k) None n.1) ∙ e)
       ])
       (ok.apart s.group inside)
       (λ i hi ne. ok.disjoint i s.group hi inside ne)
@@ -295,14 +330,17 @@ module _ (gs : List GroupState) (s : Slot) (inside : s.group < length gs) where
   pub vacated_other : (r : Slot) → r ≢ s → key_in (vacated gs (Some s)) r ≡ key_in gs r
   vacated_other r ne = slot_other gs s (with_hole (group_in gs s.group) s.slot) None inside is r ne
 
-  pub vacated_count : s.slot < length (group_in gs s.group).slots → (k : Key) → key_in gs s ≡ Some k → sum_by used (vacated gs (Some s)) + 1 ≡ sum_by used gs
+  pub vacated_count : s.slot < length (group_in gs s.group).slots → (k : Key) → key_in gs s ≡ Some k
+      → sum_by used (vacated gs (Some s)) + 1 ≡ sum_by used gs
   vacated_count h k e =
       let all = slot_count gs s (with_hole (group_in gs s.group) s.slot) None inside is h in
-      let one : cond {A = ℕ} (is_some (key_in gs s)) 1 0 ≡ 1 = ap (λ (o : Option Key). cond {A = ℕ} (is_some o) 1 0) e in
+      let one : cond {A = ℕ} (is_some (key_in gs s)) 1 0 ≡ 1 =
+      ap (λ (o : Option Key). cond {A = ℕ} (is_some o) 1 0) e in
       omega arith
 
   -- the group is free where none of its slots names a block any more
-  pub vacated_emptied : ((i : ℕ) → key_in (vacated gs (Some s)) (record { group = s.group; slot = i }) ≡ None) → (group_in (vacated gs (Some s)) s.group).class ≡ Free
+  pub vacated_emptied : ((i : ℕ) → key_in (vacated gs (Some s)) (record { group = s.group; slot = i }) ≡ None)
+      → (group_in (vacated gs (Some s)) s.group).class ≡ Free
   vacated_emptied empty =
       let new : GroupState = with_hole (group_in gs s.group) s.slot in
       let here : group_in (vacated gs (Some s)) s.group ≡ new = put_same gs s.group new inside in
@@ -334,7 +372,8 @@ module _ (gs : List GroupState) (s : Slot) (inside : s.group < length gs) where
       elim (eqb_tells i s.slot) [
         | inl q ↦ absurd (still i j q.1 f)
         | inr n ↦ subst (λ c. i < slots_of geo c) (sym (freed_class cleared i j f))
-            (ok.within (record { group = s.group; slot = i }) j (sym (get_or-set_other old.slots s.slot i None None n.1) ∙ f))
+            (ok.within (record { group = s.group; slot = i }) j (sym (get_or-set_other old.slots s.slot i None None n.1)
+            ∙ f))
       ])
       (subst (λ m. AreApart m) (sym members) (ok.apart s.group inside))
       (λ i hi ne. subst (λ m. AreDisjoint (group_in gs i).members m) (sym members) (ok.disjoint i s.group hi inside ne))
@@ -342,12 +381,18 @@ module _ (gs : List GroupState) (s : Slot) (inside : s.group < length gs) where
     where
       still : (i : ℕ) (j : Key) → i ≡ s.slot → get_or (set (group_in gs s.group).slots s.slot None) i None ≡ Some j → ⊥
       still i j q f = elim (cases_lt s.slot (length (group_in gs s.group).slots)) [
-        | inl h ↦ none-some j (sym (ap (λ n. get_or (set (group_in gs s.group).slots s.slot None) n None) q ∙ get_or-set_same (group_in gs s.group).slots s.slot None None h) ∙ f)
-        | inr h ↦ none-some j (sym (get_or_past (set (group_in gs s.group).slots s.slot None) i None (omega (arith, length-set (group_in gs s.group).slots s.slot None, q))) ∙ f)
+        | inl h ↦ none-some j
+            (sym (ap (λ n. get_or (set (group_in gs s.group).slots s.slot None) n None) q
+            ∙ get_or-set_same (group_in gs s.group).slots s.slot None None h) ∙ f)
+        | inr h ↦ none-some j
+            (sym (get_or_past (set (group_in gs s.group).slots s.slot None) i None
+            (omega (arith, length-set (group_in gs s.group).slots s.slot None, q))) ∙ f)
       ]
 
 -- a home stands at the level that it had where its group has its class
-pub level_stays : (gs new : List GroupState) (o : Option Slot) → ((s : Slot) → o ≡ Some s → (group_in new s.group).class ≡ (group_in gs s.group).class) → level_in new o ≡ level_in gs o
+pub level_stays : (gs new : List GroupState) (o : Option Slot)
+    → ((s : Slot) → o ≡ Some s → (group_in new s.group).class ≡ (group_in gs s.group).class)
+    → level_in new o ≡ level_in gs o
 level_stays gs new None class = refl
 level_stays gs new (Some s) class = ap level_of (class s refl)
 
@@ -359,7 +404,8 @@ pub few_groups : (geo : Geometry) (gs : List GroupState) → GroupsStand geo gs 
 unfolding code_of
 few_groups geo gs ok =
     let size : length (map code_of gs) ≡ length gs = length-map gs code_of in
-    let at : (i d : ℕ) → i < length gs → get_or (map code_of gs) i d ≡ code_of (group_in gs i) = λ i d h. get_or-map code_of gs i no_group d h in
+    let at : (i d : ℕ) → i < length gs → get_or (map code_of gs) i d ≡ code_of (group_in gs i) =
+    λ i d h. get_or-map code_of gs i no_group d h in
     let below : All (λ x. x < 16777216) (map code_of gs) = λ i d h.
     let f = ok.first i (omega arith) in
     let e = at i d (omega arith) in
@@ -377,14 +423,18 @@ few_groups geo gs ok =
       | inr other ↦ other.0
     ]) in
     let all = length-le_from_distinct_below (map code_of gs) 16777216 distinct
-    (λ q h. All-contains (λ x. x < 16777216) (map code_of gs) q below (Contains-from_any {eq = eqb} (λ x y e. eqb-true x y e) q (map code_of gs) h)) in
+    (λ q h. All-contains (λ x. x < 16777216) (map code_of gs) q below
+    (Contains-from_any {eq = eqb} (λ x y e. eqb-true x y e) q (map code_of gs) h)) in
     omega arith
 
 -- where no group is free the count is 0
-pub no_free : (gs : List GroupState) → ((h : ℕ) → h < length gs → (group_in gs h).class ≡ Free → ⊥) → count_by (λ (g : GroupState). is_free g.class) gs ≡ 0
+pub no_free : (gs : List GroupState) → ((h : ℕ) → h < length gs → (group_in gs h).class ≡ Free → ⊥)
+    → count_by (λ (g : GroupState). is_free g.class) gs ≡ 0
 no_free [] never = refl
 no_free (x ∷ gs) never =
-    let head : count_by (λ (g : GroupState). is_free g.class) (x ∷ gs) ≡ cond {A = ℕ} (is_free x.class) 1 0 + count_by (λ (g : GroupState). is_free g.class) gs = sum_by-cons (λ (g : GroupState). cond {A = ℕ} (is_free g.class) 1 0) x gs in
+    let head : count_by (λ (g : GroupState). is_free g.class) (x ∷ gs)
+    ≡ cond {A = ℕ} (is_free x.class) 1 0 + count_by (λ (g : GroupState). is_free g.class) gs =
+    sum_by-cons (λ (g : GroupState). cond {A = ℕ} (is_free g.class) 1 0) x gs in
     let rest = no_free gs (λ h l e. never (suc h) (omega arith) e) in
     let none : cond {A = ℕ} (is_free x.class) 1 0 ≡ 0 = by x.class (λ e. never 0 (omega arith) e) in
     omega arith

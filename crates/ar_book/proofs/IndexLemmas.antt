@@ -1,5 +1,7 @@
 -- The leaves of the tree, after one group was put, or the units changed.
-use Rattle.std.proofs.Common.{◌≡◌, ℕ, zero, suc, ◌+◌, ◌<◌, cond, Option, None, Some, is_some, List, [], ◌∷◌, ◌++◌, length, get_or, set, count_by, refl, sym, ap, subst, ◌∙◌, inl, inr, arith, get_or-set_same}
+use Rattle.std.proofs.Common.{◌≡◌, ℕ, zero, suc, ◌+◌, ◌<◌, cond, Option, None, Some, is_some, List, [], ◌∷◌, ◌++◌}
+use Rattle.std.proofs.Common.{length, get_or, set, count_by, refl, sym, ap, subst, ◌∙◌, inl, inr, arith}
+use Rattle.std.proofs.Common.{get_or-set_same}
 use Rattle.std.specs.Prelude.{nat_lt, if◌then◌else◌}
 use Rattle.std.specs.Map.{keys_of}
 use Rattle.std.specs.List.{position_or_len}
@@ -18,37 +20,50 @@ use Rattle.ar_book.specs.declared.class.Class.{Class}
 use Rattle.ar_book.specs.declared.class.Class.TheVariants.{Free, Mirrored, Parity}
 use Rattle.ar_disks.specs.Addresses.{same_addr}
 use Rattle.ar_book.specs.Tables.{GroupState, UnitTableState, Tables, no_group, group_in, unit_in, is_free, slots_of}
-use Rattle.ar_book.specs.Index.{age_of, oldest_named, choices_by, choices_in, choices_of, leaves_from, leaves_of, IsIndexed}
+use Rattle.ar_book.specs.Index.{age_of, oldest_named, choices_by, choices_in, choices_of, leaves_from, leaves_of}
+use Rattle.ar_book.specs.Index.{IsIndexed}
 
-pub leaves_length : (g : Geometry) (place : Addr → ℕ) (age : Key → Age) (n : ℕ) (gs : List GroupState) → length (leaves_from g place age n gs) ≡ length gs
+pub leaves_length : (g : Geometry) (place : Addr → ℕ) (age : Key → Age) (n : ℕ) (gs : List GroupState)
+    → length (leaves_from g place age n gs) ≡ length gs
 leaves_length g place age n [] = refl
 leaves_length g place age n (x ∷ gs) = ap suc (leaves_length g place age (suc n) gs)
 
 -- a leaf is that of its group
-pub leaf_at : (g : Geometry) (place : Addr → ℕ) (age : Key → Age) (n i : ℕ) (gs : List GroupState) → i < length gs → get_or (leaves_from g place age n gs) i nothing ≡ choices_in g place age (n + i) (group_in gs i)
+pub leaf_at : (g : Geometry) (place : Addr → ℕ) (age : Key → Age) (n i : ℕ) (gs : List GroupState) → i < length gs
+    → get_or (leaves_from g place age n gs) i nothing ≡ choices_in g place age (n + i) (group_in gs i)
 leaf_at g place age n i [] h = absurd (omega arith)
 leaf_at g place age n zero (x ∷ gs) h = ap (λ m. choices_in g place age m x) (let e : n ≡ n + 0 = omega arith in e)
-leaf_at g place age n (suc i) (x ∷ gs) h = leaf_at g place age (suc n) i gs (omega arith) ∙ ap (λ m. choices_in g place age m (group_in gs i)) (let e : suc n + i ≡ n + suc i = omega arith in e)
+leaf_at g place age n (suc i) (x ∷ gs) h =
+    leaf_at g place age (suc n) i gs (omega arith)
+    ∙ ap (λ m. choices_in g place age m (group_in gs i)) (let e : suc n + i ≡ n + suc i = omega arith in e)
 
 -- a group is put
-put_leaf : (g : Geometry) (place : Addr → ℕ) (age : Key → Age) (n i : ℕ) (gs : List GroupState) (x : GroupState) → leaves_from g place age n (set gs i x) ≡ set (leaves_from g place age n gs) i (choices_in g place age (n + i) x)
+put_leaf : (g : Geometry) (place : Addr → ℕ) (age : Key → Age) (n i : ℕ) (gs : List GroupState) (x : GroupState)
+    → leaves_from g place age n (set gs i x) ≡ set (leaves_from g place age n gs) i (choices_in g place age (n + i) x)
 put_leaf g place age n i [] x = nil i
   where
-    nil : (i : ℕ) → leaves_from g place age n (set (let e : List GroupState = [] in e) i x) ≡ set (let e : List Choices = [] in e) i (choices_in g place age (n + i) x)
+    nil : (i : ℕ) → leaves_from g place age n (set (let e : List GroupState = [] in e) i x)
+        ≡ set (let e : List Choices = [] in e) i (choices_in g place age (n + i) x)
     nil zero = refl
     nil (suc i) = refl
-put_leaf g place age n zero (y ∷ gs) x = ap (λ m. choices_in g place age m x ∷ leaves_from g place age (suc n) gs) (let e : n ≡ n + 0 = omega arith in e)
+put_leaf g place age n zero (y ∷ gs) x =
+    ap (λ m. choices_in g place age m x ∷ leaves_from g place age (suc n) gs) (let e : n ≡ n + 0 = omega arith in e)
 put_leaf g place age n (suc i) (y ∷ gs) x =
     ap (λ l. choices_in g place age n y ∷ l)
-    (put_leaf g place age (suc n) i gs x ∙ ap (λ m. set (leaves_from g place age (suc n) gs) i (choices_in g place age m x)) (let e : suc n + i ≡ n + suc i = omega arith in e))
+    (put_leaf g place age (suc n) i gs x
+    ∙ ap (λ m. set (leaves_from g place age (suc n) gs) i (choices_in g place age m x)) (let e : suc n + i
+    ≡ n + suc i = omega arith in e))
 
 -- the tree is right again once the leaf of a group that was put is
-pub refreshed : (g : Geometry) (units : List (Addr × UnitTableState)) (gs new : List GroupState) (index now : List Choices) (i : ℕ) (x : GroupState) → i < length gs
-    → index ≡ leaves_of g units gs → new ≡ set gs i x → now ≡ set index i (choices_of g units i (group_in new i)) → now ≡ leaves_of g units new
+pub refreshed : (g : Geometry) (units : List (Addr × UnitTableState)) (gs new : List GroupState)
+    (index now : List Choices) (i : ℕ) (x : GroupState) → i < length gs
+    → index ≡ leaves_of g units gs → new ≡ set gs i x → now ≡ set index i (choices_of g units i (group_in new i))
+    → now ≡ leaves_of g units new
 refreshed g units gs new index now i x inside before put e =
     let here : group_in new i ≡ x = ap (λ l. group_in l i) put ∙ get_or-set_same gs i x no_group inside in
     e ∙ ap (λ y. set index i (choices_of g units i y)) here ∙ ap (λ l. set l i (choices_of g units i x)) before
-    ∙ sym (put_leaf g (place_in units) (age_of units) 0 i gs x ∙ ap (λ m. set (leaves_of g units gs) i (choices_of g units m x)) (let z : 0 + i ≡ i = omega arith in z))
+    ∙ sym (put_leaf g (place_in units) (age_of units) 0 i gs x
+    ∙ ap (λ m. set (leaves_of g units gs) i (choices_of g units m x)) (let z : 0 + i ≡ i = omega arith in z))
     ∙ sym (ap (leaves_of g units) put)
 
 -- the units' order and all stamps stay
@@ -62,15 +77,21 @@ same_ages g units new gs stamps order =
     λ i. leaves_from g (places i) (ages i) 0 gs
 
 -- the ages of the blocks that slots name stay
-pub same_named : (place : Addr → ℕ) (f h : Key → Age) (slots : List (Option Key)) → ((i : ℕ) (k : Key) → get_or slots i None ≡ Some k → f k ≡ h k) → oldest_named place f slots ≡ oldest_named place h slots
+pub same_named : (place : Addr → ℕ) (f h : Key → Age) (slots : List (Option Key))
+    → ((i : ℕ) (k : Key) → get_or slots i None ≡ Some k → f k ≡ h k)
+    → oldest_named place f slots ≡ oldest_named place h slots
 same_named place f h [] same = refl
-same_named place f h (o ∷ slots) same = ap (λ a. older place a (oldest_named place f slots)) (by o (same 0)) ∙ ap (older place (option_map h o)) (same_named place f h slots (λ i. same (suc i)))
+same_named place f h (o ∷ slots) same =
+    ap (λ a. older place a (oldest_named place f slots)) (by o (same 0))
+    ∙ ap (older place (option_map h o)) (same_named place f h slots (λ i. same (suc i)))
   where
     by : (o : Option Key) → ((k : Key) → o ≡ Some k → f k ≡ h k) → option_map f o ≡ option_map h o
     by None e = refl
     by (Some k) e = ap Some (e k refl)
 
-pub same_choices : (g : Geometry) (place : Addr → ℕ) (f h : Key → Age) (n : ℕ) (x : GroupState) → ((i : ℕ) (k : Key) → get_or x.slots i None ≡ Some k → f k ≡ h k) → choices_in g place f n x ≡ choices_in g place h n x
+pub same_choices : (g : Geometry) (place : Addr → ℕ) (f h : Key → Age) (n : ℕ) (x : GroupState)
+    → ((i : ℕ) (k : Key) → get_or x.slots i None ≡ Some k → f k ≡ h k)
+    → choices_in g place f n x ≡ choices_in g place h n x
 same_choices g place f h n x same = by x.class
   where
     by : (c : Class) → choices_by c g place f n x ≡ choices_by c g place h n x
@@ -82,18 +103,25 @@ same_choices g place f h n x same = by x.class
     by Parity = refl
 
 -- a new group, free, behind the others
-pub leaves_push : (g : Geometry) (place : Addr → ℕ) (age : Key → Age) (n : ℕ) (gs : List GroupState) (x : GroupState) → leaves_from g place age n (gs ++ x ∷ []) ≡ leaves_from g place age n gs ++ choices_in g place age (n + length gs) x ∷ []
+pub leaves_push : (g : Geometry) (place : Addr → ℕ) (age : Key → Age) (n : ℕ) (gs : List GroupState) (x : GroupState)
+    → leaves_from g place age n (gs ++ x ∷ []) ≡ leaves_from g place age n gs
+    ++ choices_in g place age (n + length gs) x ∷ []
 leaves_push g place age n [] x = ap (λ m. choices_in g place age m x ∷ []) (let e : n ≡ n + 0 = omega arith in e)
 leaves_push g place age n (y ∷ gs) x =
-    ap (λ l. choices_in g place age n y ∷ l) (leaves_push g place age (suc n) gs x ∙ ap (λ m. leaves_from g place age (suc n) gs ++ choices_in g place age m x ∷ []) (let e : suc n + length gs ≡ n + length (y ∷ gs) = omega arith in e))
+    ap (λ l. choices_in g place age n y ∷ l) (leaves_push g place age (suc n) gs x
+    ∙ ap (λ m. leaves_from g place age (suc n) gs ++ choices_in g place age m x ∷ []) (let e : suc n + length gs
+    ≡ n + length (y ∷ gs) = omega arith in e))
 
 -- as many leaves are free as groups
-pub free_leaves : (g : Geometry) (place : Addr → ℕ) (age : Key → Age) (n : ℕ) (gs : List GroupState) → free_in (leaves_from g place age n gs) ≡ count_by (λ x. is_free x.class) gs
+pub free_leaves : (g : Geometry) (place : Addr → ℕ) (age : Key → Age) (n : ℕ) (gs : List GroupState)
+    → free_in (leaves_from g place age n gs) ≡ count_by (λ x. is_free x.class) gs
 free_leaves g place age n [] = refl
 free_leaves g place age n (x ∷ gs) =
-    let a = sum_by-cons (λ (c : Choices). cond {A = ℕ} (is_some c.free) 1 0) (choices_in g place age n x) (leaves_from g place age (suc n) gs) in
+    let a = sum_by-cons (λ (c : Choices). cond {A = ℕ} (is_some c.free) 1 0) (choices_in g place age n x)
+    (leaves_from g place age (suc n) gs) in
     let b = sum_by-cons (λ (y : GroupState). cond {A = ℕ} (is_free y.class) 1 0) x gs in
-    a ∙ ap (λ m. m + free_in (leaves_from g place age (suc n) gs)) (one x.class) ∙ ap (λ m. cond {A = ℕ} (is_free x.class) 1 0 + m) (free_leaves g place age (suc n) gs) ∙ sym b
+    a ∙ ap (λ m. m + free_in (leaves_from g place age (suc n) gs)) (one x.class)
+    ∙ ap (λ m. cond {A = ℕ} (is_free x.class) 1 0 + m) (free_leaves g place age (suc n) gs) ∙ sym b
   where
     one : (c : Class) → cond {A = ℕ} (is_some (choices_by c g place age n x).free) 1 0 ≡ cond {A = ℕ} (is_free c) 1 0
     one Free = refl
@@ -101,18 +129,24 @@ free_leaves g place age n (x ∷ gs) =
     one Parity = refl
 
 -- the ages of the blocks that groups name stay
-pub same_leaves : (g : Geometry) (place : Addr → ℕ) (f h : Key → Age) (n : ℕ) (gs : List GroupState) → ((i j : ℕ) (k : Key) → get_or (group_in gs i).slots j None ≡ Some k → f k ≡ h k) → leaves_from g place f n gs ≡ leaves_from g place h n gs
+pub same_leaves : (g : Geometry) (place : Addr → ℕ) (f h : Key → Age) (n : ℕ) (gs : List GroupState)
+    → ((i j : ℕ) (k : Key) → get_or (group_in gs i).slots j None ≡ Some k → f k ≡ h k)
+    → leaves_from g place f n gs ≡ leaves_from g place h n gs
 same_leaves g place f h n [] same = refl
 same_leaves g place f h n (x ∷ gs) same =
-    ap (λ c. c ∷ leaves_from g place f (suc n) gs) (same_choices g place f h n x (same 0)) ∙ ap (λ l. choices_in g place h n x ∷ l) (same_leaves g place f h (suc n) gs (λ i. same (suc i)))
+    ap (λ c. c ∷ leaves_from g place f (suc n) gs) (same_choices g place f h n x (same 0))
+    ∙ ap (λ l. choices_in g place h n x ∷ l) (same_leaves g place f h (suc n) gs (λ i. same (suc i)))
 
 -- a group that is put with the class and the slots of the former one changes no leaf
-pub same_leaf : (g : Geometry) (place : Addr → ℕ) (age : Key → Age) (i : ℕ) (gs : List GroupState) (x : GroupState) → x.class ≡ (group_in gs i).class → x.slots ≡ (group_in gs i).slots → leaves_from g place age 0 (set gs i x) ≡ leaves_from g place age 0 gs
+pub same_leaf : (g : Geometry) (place : Addr → ℕ) (age : Key → Age) (i : ℕ) (gs : List GroupState) (x : GroupState)
+    → x.class ≡ (group_in gs i).class → x.slots ≡ (group_in gs i).slots
+    → leaves_from g place age 0 (set gs i x) ≡ leaves_from g place age 0 gs
 same_leaf g place age i gs x class slots =
     elim (cases_lt i (length gs)) [
       | inl inside ↦
           put_leaf g place age 0 i gs x
-          ∙ ap (λ c. set (leaves_from g place age 0 gs) i c) (same_group (0 + i) ∙ sym (leaf_at g place age 0 i gs inside))
+          ∙ ap (λ c. set (leaves_from g place age 0 gs) i c) (same_group (0 + i)
+          ∙ sym (leaf_at g place age 0 i gs inside))
           ∙ set-get_or (leaves_from g place age 0 gs) i nothing
       | inr past ↦ ap (leaves_from g place age 0) (set_past gs i x past)
     ]
@@ -122,25 +156,48 @@ same_leaf g place age i gs x class slots =
       where
         by : (c : Class) → choices_by c g place age n x ≡ choices_by c g place age n (group_in gs i)
         by Free = refl
-        by Mirrored = λ j. record { mirrored = if nat_lt (count_by is_some (slots j)) (slots_of g (class j)) then Some n else None; parity = None; free = None; oldest = oldest_named place age (slots j) }
-        by Parity = λ j. record { mirrored = None; parity = if nat_lt (count_by is_some (slots j)) (slots_of g (class j)) then Some n else None; free = None; oldest = None }
+        by Mirrored =
+            λ j. record {
+              mirrored = if nat_lt (count_by is_some (slots j)) (slots_of g (class j)) then Some
+                  n else None;
+              parity = None;
+              free = None;
+              oldest = oldest_named place age (slots j);
+            }
+        by Parity = λ j. record {
+          mirrored = None;
+          parity =
+              if nat_lt (count_by is_some (slots j)) (slots_of g (class j)) then Some n else None;
+          free = None;
+          oldest =
+              None;
+        }
 
 -- the leaf of a group, among all
-pub leaf_of : (g : Geometry) (units : List (Addr × UnitTableState)) (gs : List GroupState) (i : ℕ) → i < length gs → get_or (leaves_of g units gs) i nothing ≡ choices_of g units i (group_in gs i)
-leaf_of g units gs i h = leaf_at g (place_in units) (age_of units) 0 i gs h ∙ ap (λ m. choices_of g units m (group_in gs i)) (let e : 0 + i ≡ i = omega arith in e)
+pub leaf_of : (g : Geometry) (units : List (Addr × UnitTableState)) (gs : List GroupState) (i : ℕ) → i < length gs
+    → get_or (leaves_of g units gs) i nothing ≡ choices_of g units i (group_in gs i)
+leaf_of g units gs i h =
+    leaf_at g (place_in units) (age_of units) 0 i gs h
+    ∙ ap (λ m. choices_of g units m (group_in gs i)) (let e : 0 + i ≡ i = omega arith in e)
 
 -- a tree with the leaf of each group is right
-pub all_leaves : (g : Geometry) (units : List (Addr × UnitTableState)) (gs : List GroupState) (index : List Choices) → length index ≡ length gs
-    → ((i : ℕ) → i < length gs → get_or index i nothing ≡ choices_of g units i (group_in gs i)) → index ≡ leaves_of g units gs
+pub all_leaves : (g : Geometry) (units : List (Addr × UnitTableState)) (gs : List GroupState) (index : List Choices)
+    → length index ≡ length gs
+    → ((i : ℕ) → i < length gs → get_or index i nothing ≡ choices_of g units i (group_in gs i))
+    → index ≡ leaves_of g units gs
 all_leaves g units gs index size each =
-    ext_get_or nothing index (leaves_of g units gs) (size ∙ sym (leaves_length g (place_in units) (age_of units) 0 gs)) (λ i h. each i (omega arith) ∙ sym (leaf_of g units gs i (omega arith)))
+    ext_get_or nothing index (leaves_of g units gs) (size ∙ sym (leaves_length g (place_in units) (age_of units) 0 gs))
+    (λ i h. each i (omega arith) ∙ sym (leaf_of g units gs i (omega arith)))
 
 -- the tree has as many leaves as there are groups
-pub index_length : (t : Tables) (n : ℕ) (index : TreeState) → IsIndexed t n index → length (leaves index) ≡ length t.groups
-index_length t n index ok = ap length ok.leaves ∙ leaves_length t.geometry (place_in t.units) (age_of t.units) 0 t.groups
+pub index_length : (t : Tables) (n : ℕ) (index : TreeState) → IsIndexed t n index
+    → length (leaves index) ≡ length t.groups
+index_length t n index ok =
+    ap length ok.leaves ∙ leaves_length t.geometry (place_in t.units) (age_of t.units) 0 t.groups
 
 -- a tree that is right for units is so for others in the same order
-pub same_order : (units new : List (Addr × UnitTableState)) (index : TreeState) → keys_of new ≡ keys_of units → IsRight (place_in units) index → IsRight (place_in new) index
+pub same_order : (units new : List (Addr × UnitTableState)) (index : TreeState) → keys_of new ≡ keys_of units
+    → IsRight (place_in units) index → IsRight (place_in new) index
 same_order units new index order ok = subst (λ (f : Addr → ℕ). IsRight f index) (sym places) ok
   where
     places : place_in new ≡ place_in units

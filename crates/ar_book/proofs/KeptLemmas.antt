@@ -10,19 +10,24 @@ use Rattle.ar_book.proofs.GroupLemmas.{there_group, there_slot, named_other}
 use Rattle.ar_book.proofs.UnitLemmas.{homed_reserved}
 use Rattle.ar_book.proofs.PlaceLemmas.{assigned_agrees, released_agrees}
 
-former : (t : Tables) (k : Key) (s : Slot) → TablesAgree t → HasSlot t s → key_at t s ≡ None → (q : Slot) → home t k ≡ Some q → key_in (named t.groups s k) q ≡ Some k
+former : (t : Tables) (k : Key) (s : Slot) → TablesAgree t → HasSlot t s → key_at t s ≡ None → (q : Slot)
+    → home t k ≡ Some q → key_in (named t.groups s k) q ≡ Some k
 former t k s ok slot empty q e =
     let before : key_in t.groups q ≡ Some k = ok.agree.to_slot k q e in
-    named_other t.groups s k slot.0 q (λ f. none-some k (sym empty ∙ ap (λ x. key_in t.groups x) (sym f) ∙ before)) ∙ before
+    named_other t.groups s k slot.0 q (λ f. none-some k (sym empty ∙ ap (λ x. key_in t.groups x) (sym f) ∙ before))
+    ∙ before
 
 -- a block that is assigned: its former slot is there when it is vacated
-pub former_group : (t : Tables) (k : Key) (s : Slot) → TablesAgree t → HasSlot t s → key_at t s ≡ None → (q : Slot) → home t k ≡ Some q → q.group < length (named t.groups s k)
+pub former_group : (t : Tables) (k : Key) (s : Slot) → TablesAgree t → HasSlot t s → key_at t s ≡ None → (q : Slot)
+    → home t k ≡ Some q → q.group < length (named t.groups s k)
 former_group t k s ok slot empty q e = there_group (named t.groups s k) q k (former t k s ok slot empty q e)
 
-pub former_slot : (t : Tables) (k : Key) (s : Slot) → TablesAgree t → HasSlot t s → key_at t s ≡ None → (q : Slot) → home t k ≡ Some q → q.slot < length (group_in (named t.groups s k) q.group).slots
+pub former_slot : (t : Tables) (k : Key) (s : Slot) → TablesAgree t → HasSlot t s → key_at t s ≡ None → (q : Slot)
+    → home t k ≡ Some q → q.slot < length (group_in (named t.groups s k) q.group).slots
 former_slot t k s ok slot empty q e = there_slot (named t.groups s k) q k (former t k s ok slot empty q e)
 
-pub assigned_kept : (t : Tables) (n : ℕ) (k : Key) (s : Slot) → BookAgrees t n → HasBlock t k → HasSlot t s → key_at t s ≡ None → BookAgrees (assigned t k s) n
+pub assigned_kept : (t : Tables) (n : ℕ) (k : Key) (s : Slot) → BookAgrees t n → HasBlock t k → HasSlot t s
+    → key_at t s ≡ None → BookAgrees (assigned t k s) n
 assigned_kept t n k s ok block slot empty = record {
   tables = assigned_agrees t k s ok.tables block slot empty;
   total = ok.total ∙ sym (homed_reserved t.units k (Some s) block);

@@ -9,6 +9,10 @@ make_slot s r p q = λ i. record { group = p i; slot = q i }
 pub slot_tells : (s r : Slot) → (s ≡ r) ⊎ (s ≢ r)
 slot_tells s r =
     elim (eqb_tells s.group r.group) [
-      | inl g ↦ elim (eqb_tells s.slot r.slot) [ inl e ↦ inl (make_slot s r g.1 e.1) | inr n ↦ inr (λ e. n.1 (ap (λ x. x.slot) e)) ]
+      | inl g ↦ elim (eqb_tells s.slot r.slot) [
+        | inl e ↦ inl (make_slot s r g.1 e.1)
+        | inr n ↦
+            inr (λ e. n.1 (ap (λ x. x.slot) e))
+      ]
       | inr n ↦ inr (λ e. n.1 (ap (λ x. x.group) e))
     ]

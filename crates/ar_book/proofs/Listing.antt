@@ -1,5 +1,6 @@
 -- The directory of units has the place of each.
-use Rattle.std.proofs.Common.{◌≡◌, if◌then◌else◌, ℕ, zero, suc, ◌+◌, ◌*◌, ◌<◌, ◌≤◌, Bool, true, false, not, cond, nat_lt}
+use Rattle.std.proofs.Common.{◌≡◌, if◌then◌else◌, ℕ, zero, suc, ◌+◌, ◌*◌, ◌<◌, ◌≤◌, Bool, true, false, not, cond}
+use Rattle.std.proofs.Common.{nat_lt}
 use Rattle.std.proofs.Common.{Option, None, Some, IsSome, is_some, List, [], ◌∷◌, ◌++◌, length, get_or, set, take}
 use Rattle.std.proofs.Common.{slice_get, position, replicate, refl, sym, ap, subst, ◌∙◌, inl, inr, arith, true≢false}
 use Rattle.std.proofs.Common.{get_or-set_same, get_or-set_other, lt-ltb, le-ltb, length-append, append_assoc, drop}
@@ -186,12 +187,14 @@ pub at_place : (es : List (Addr × UnitTableState)) (a : Addr) (place : ℕ)
 at_place es a place found = (Found-position (same_addr a) es place found).value
 
 -- a value written at the first place at which a test passes is that of its first entry
-put_first : {K X : Type 0} (test : K → Bool) (es : List (K × X)) (place : ℕ) (w : X) → position_or_len test (keys_of es) ≡ place
+put_first : {K X : Type 0} (test : K → Bool) (es : List (K × X)) (place : ℕ) (w : X)
+    → position_or_len test (keys_of es) ≡ place
     → set_value_at es place w ≡ set_value test es w
 put_first test [] place w first = refl
 put_first test (e ∷ es) place w first = by (test e.0) refl place first (λ i. put_first test es i w)
   where
-    next : (b : Bool) → test e.0 ≡ b → position_or_len test (keys_of (e ∷ es)) ≡ cond (not b) (1 + position_or_len test (keys_of es)) 0
+    next : (b : Bool) → test e.0 ≡ b → position_or_len test (keys_of (e ∷ es))
+        ≡ cond (not b) (1 + position_or_len test (keys_of es)) 0
     next b is = ap (λ b. cond (not b) (1 + position_or_len test (keys_of es)) 0) is
 
     set : (b : Bool) → test e.0 ≡ b → cond b ((e.0, w) ∷ es) (e ∷ set_value test es w) ≡ set_value test (e ∷ es) w
@@ -208,7 +211,8 @@ put_first test (e ∷ es) place w first = by (test e.0) refl place first (λ i. 
 -- a value written at the place of an address is that of its unit
 pub put_at_place : (es : List (Addr × UnitTableState)) (a : Addr) (place : ℕ) (u : UnitTableState)
     → position (same_addr a) (keys_of es) ≡ Some place → set_value_at es place u ≡ set_value (same_addr a) es u
-put_at_place es a place u found = put_first (same_addr a) es place u (Found-position (same_addr a) es place found).or_len
+put_at_place es a place u found =
+    put_first (same_addr a) es place u (Found-position (same_addr a) es place found).or_len
 
 -- the unit read at the place of an address
 pub unit_at_place : (es : List (Addr × UnitTableState)) (a : Addr) (place : ℕ) (u : UnitTableState)

@@ -11,13 +11,18 @@ use Rattle.ar_book.proofs.UnitLemmas.{has_by_block, unit_same}
 use Rattle.ar_book.proofs.AfterStamp.{stamped_home}
 
 -- of two values that a unit gets the second stays
-set_twice : (test : Addr → Bool) (us : List (Addr × UnitTableState)) (x y : UnitTableState) → set_value test (set_value test us x) y ≡ set_value test us y
+set_twice : (test : Addr → Bool) (us : List (Addr × UnitTableState)) (x y : UnitTableState)
+    → set_value test (set_value test us x) y ≡ set_value test us y
 set_twice test [] x y = refl
 set_twice test (e ∷ us) x y = by (test e.0) refl (set_twice test us x y)
   where
-    by : (b : Bool) → test e.0 ≡ b → set_value test (set_value test us x) y ≡ set_value test us y → set_value test (cond b ((e.0, x) ∷ us) (e ∷ set_value test us x)) y ≡ cond b ((e.0, y) ∷ us) (e ∷ set_value test us y)
+    by : (b : Bool) → test e.0 ≡ b → set_value test (set_value test us x) y ≡ set_value test us y
+        → set_value test (cond b ((e.0, x) ∷ us) (e ∷ set_value test us x)) y
+        ≡ cond b ((e.0, y) ∷ us) (e ∷ set_value test us y)
     by true t rest = ap (λ b. cond b ((e.0, y) ∷ us) ((e.0, x) ∷ set_value test us y)) t
-    by false t rest = ap (λ b. cond b ((e.0, y) ∷ set_value test us x) (e ∷ set_value test (set_value test us x) y)) t ∙ ap (λ l. e ∷ l) rest
+    by false t rest =
+        ap (λ b. cond b ((e.0, y) ∷ set_value test us x) (e ∷ set_value test (set_value test us x) y)) t
+        ∙ ap (λ l. e ∷ l) rest
 
 module _ (t : Tables) (k : Key) (s : Slot) (block : HasBlock t k) where
   abbrev u : UnitTableState
@@ -33,10 +38,13 @@ module _ (t : Tables) (k : Key) (s : Slot) (block : HasBlock t k) where
       let there = has_by_block t.units k.addr k.rb block in
       let stamp : UnitTableState = record u { stamps = set u.stamps k.rb last } in
       let home : UnitTableState = record u { homes = set u.homes k.rb (Some s) } in
-      ap (λ (x : UnitTableState). set_value p (set_value p t.units stamp) (record x { homes = set x.homes k.rb (Some s) })) (unit_same t.units k.addr stamp there)
+      ap (λ (x : UnitTableState). set_value p (set_value p t.units stamp)
+      (record x { homes = set x.homes k.rb (Some s) })) (unit_same t.units k.addr stamp there)
       ∙ set_twice p t.units stamp (record stamp { homes = set stamp.homes k.rb (Some s) })
       ∙ sym (set_twice p t.units home (record home { stamps = set home.stamps k.rb last }))
-      ∙ sym (ap (λ (x : UnitTableState). set_value p (set_value p t.units home) (record x { stamps = set x.stamps k.rb last })) (unit_same t.units k.addr home there))
+      ∙ sym (ap (λ (x : UnitTableState). set_value p (set_value p t.units home)
+      (record x { stamps = set x.stamps k.rb last })) (unit_same t.units k.addr home there))
 
   pub stamped_first : assigned (stamped t k) k s ≡ stamped (assigned t k s) k
-  stamped_first = λ i. record (stamped t k) { groups = vacated (named t.groups s k) (stamped_home t k k i); units = same_units i }
+  stamped_first =
+      λ i. record (stamped t k) { groups = vacated (named t.groups s k) (stamped_home t k k i); units = same_units i }

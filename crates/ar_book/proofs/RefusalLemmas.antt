@@ -1,5 +1,7 @@
 -- What is known where a making or a growth is not refused.
-use Rattle.std.proofs.Common.{◌≡◌, ◌≢◌, ℕ, ◌<◌, ◌≤◌, ◌+◌, ◌-◌, ◌*◌, ◌/◌, ◌%◌, ◌^◌, min, Bool, true, false, not, ◌||◌, nat_lt, nat_le, eqb, if◌then◌else◌, Option, None, Some, is_some, IsSome, Result, Ok, Err, OnOk, length, refl, sym, ◌∙◌, arith, true≢false}
+use Rattle.std.proofs.Common.{◌≡◌, ◌≢◌, ℕ, ◌<◌, ◌≤◌, ◌+◌, ◌-◌, ◌*◌, ◌/◌, ◌%◌, ◌^◌, min, Bool, true, false, not, ◌||◌}
+use Rattle.std.proofs.Common.{nat_lt, nat_le, eqb, if◌then◌else◌, Option, None, Some, is_some, IsSome, Result, Ok, Err}
+use Rattle.std.proofs.Common.{OnOk, length, refl, sym, ◌∙◌, arith, true≢false}
 use Rattle.std.specs.Map.{lookup}
 use Rattle.std.specs.Result.{is_err}
 use Rattle.std.proofs.lemmas.Option.{none-some}
@@ -17,13 +19,16 @@ use Rattle.ar_book.specs.Book.{TablesAgree, IsValidUnit}
 use Rattle.ar_book.proofs.PlaceLemmas.{unit_whole}
 use Rattle.ar_book.proofs.GroupLemmas.{few_groups, room_fits}
 
-three : (a b c : Bool) (x y z : Refusal) → (if a then Some x else if b then Some y else if c then Some z else None) ≡ None → (a ≡ false) × (b ≡ false) × (c ≡ false)
+three : (a b c : Bool) (x y z : Refusal) → (if a then Some x else if b then Some y else if c then Some z else None)
+    ≡ None → (a ≡ false) × (b ≡ false) × (c ≡ false)
 three true b c x y z e = absurd (none-some x (sym e))
 three false true c x y z e = absurd (none-some y (sym e))
 three false false true x y z e = absurd (none-some z (sym e))
 three false false false x y z e = (refl, refl, refl)
 
-four : (a b c d : Bool) (x y z w : Refusal) → (if a then Some x else if b then Some y else if c then Some z else if d then Some w else None) ≡ None → (a ≡ false) × (b ≡ false) × (c ≡ false) × (d ≡ false)
+four : (a b c d : Bool) (x y z w : Refusal)
+    → (if a then Some x else if b then Some y else if c then Some z else if d then Some w else None) ≡ None
+    → (a ≡ false) × (b ≡ false) × (c ≡ false) × (d ≡ false)
 four true b c d x y z w e = absurd (none-some x (sym e))
 four false b c d x y z w e = let p = three b c d y z w e in (refl, p.0, p.1, p.2)
 
@@ -36,12 +41,15 @@ not_false true e = refl
 not_false false e = absurd (true≢false e)
 
 -- so many more blocks fit
-fits : (t : Tables) (m : ℕ) → TablesAgree t → m ≤ room t → reserved t + m ≤ 3 * rows_of t.geometry * (length t.groups - 1)
+fits : (t : Tables) (m : ℕ) → TablesAgree t → m ≤ room t
+    → reserved t + m ≤ 3 * rows_of t.geometry * (length t.groups - 1)
 fits t m ok h = omega (arith, ok.room, h)
 
 -- and their number is one of 32 bits
-pub reserved_fits : (t : Tables) (m : ℕ) → TablesAgree t → reserved t + m ≤ 3 * rows_of t.geometry * (length t.groups - 1) → reserved t + m < 2 ^ 32
-reserved_fits t m ok h = omega (arith, h, room_fits t.geometry (length t.groups) (few_groups t.geometry t.groups ok.groups))
+pub reserved_fits : (t : Tables) (m : ℕ) → TablesAgree t
+    → reserved t + m ≤ 3 * rows_of t.geometry * (length t.groups - 1) → reserved t + m < 2 ^ 32
+reserved_fits t m ok h =
+    omega (arith, h, room_fits t.geometry (length t.groups) (few_groups t.geometry t.groups ok.groups))
 
 pub record CanMake (t : Tables) (a : Addr) (n : ℕ) : Type 0 where
   pub lun : a.lun ≤ 7
@@ -52,7 +60,8 @@ pub record CanMake (t : Tables) (a : Addr) (n : ℕ) : Type 0 where
 
 pub can_make : (t : Tables) (a : Addr) (n : ℕ) → TablesAgree t → unit_make_refusal t a n ≡ None → CanMake t a n
 can_make t a n ok e =
-    let p = four (nat_lt 7 a.lun) (has_unit t a) (eqb n 0 || nat_lt 1048576 n) (nat_lt (room t) (blocks_of t.geometry n)) BadLun Exists Size (NoRoom (room t)) e in
+    let p = four (nat_lt 7 a.lun) (has_unit t a) (eqb n 0 || nat_lt 1048576 n)
+    (nat_lt (room t) (blocks_of t.geometry n)) BadLun Exists Size (NoRoom (room t)) e in
     let size = or_parts (eqb n 0) (nat_lt 1048576 n) p.2 in
     let ne : n ≢ 0 = eqb-false n 0 size.0 in
     record {
@@ -69,7 +78,8 @@ pub record CanGrow (t : Tables) (a : Addr) (n : ℕ) : Type 0 where
   pub few : n ≤ 1048576
   pub longer : length (unit_in t.units a).homes ≤ blocks_of t.geometry n
   pub stamps : length (unit_in t.units a).stamps ≡ length (unit_in t.units a).homes
-  pub room : reserved t + (blocks_of t.geometry n - length (unit_in t.units a).homes) ≤ 3 * rows_of t.geometry * (length t.groups - 1)
+  pub room : reserved t + (blocks_of t.geometry n - length (unit_in t.units a).homes)
+      ≤ 3 * rows_of t.geometry * (length t.groups - 1)
 
 -- rounding up by a quotient and a remainder
 pub blocks_up : (g : Geometry) (n : ℕ) → n / sectors_of g + min 1 (n % sectors_of g) ≡ blocks_of g n
@@ -83,7 +93,8 @@ blocks_grow Small m n h = omega arith
 pub can_grow : (t : Tables) (a : Addr) (n : ℕ) → TablesAgree t → unit_grow_refusal t a n ≡ None → CanGrow t a n
 can_grow t a n ok e =
     let u = unit_in t.units a in
-    let p = three (not (has_unit t a)) (nat_le n u.sectors || nat_lt 1048576 n) (nat_lt (room t) (blocks_of t.geometry n - length u.homes)) Absent Size (NoRoom (room t)) e in
+    let p = three (not (has_unit t a)) (nat_le n u.sectors || nat_lt 1048576 n)
+    (nat_lt (room t) (blocks_of t.geometry n - length u.homes)) Absent Size (NoRoom (room t)) e in
     let size = or_parts (nat_le n u.sectors) (nat_lt 1048576 n) p.1 in
     let more : u.sectors < n = leb-false n u.sectors size.0 in
     let there : IsSome (lookup (same_addr a) t.units) = not_false (has_unit t a) p.0 in
@@ -95,7 +106,8 @@ can_grow t a n ok e =
       few = ltb-false 1048576 n size.1;
       longer = omega (arith, w.homes, grows);
       stamps = w.stamps ∙ sym w.homes;
-      room = fits t (blocks_of t.geometry n - length u.homes) ok (ltb-false (room t) (blocks_of t.geometry n - length u.homes) p.2);
+      room = fits t (blocks_of t.geometry n - length u.homes) ok
+          (ltb-false (room t) (blocks_of t.geometry n - length u.homes) p.2);
     }
 
 -- what holds at `Ok` holds where there is no error

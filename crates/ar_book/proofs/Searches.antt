@@ -1,5 +1,7 @@
 -- The choices at the root of the tree are those of plain searches over the groups.
-use Rattle.std.proofs.Common.{◌≡◌, ℕ, zero, suc, ◌+◌, ◌<◌, ◌≤◌, Bool, true, false, cond, ◌&&◌, Option, None, Some, is_some, IsSome, IfSome, IfNone, List, [], ◌∷◌, length, take, drop, get_or, count_by, refl, sym, ap, subst, ◌∙◌, inl, inr, true≢false, arith}
+use Rattle.std.proofs.Common.{◌≡◌, ℕ, zero, suc, ◌+◌, ◌<◌, ◌≤◌, Bool, true, false, cond, ◌&&◌, Option, None, Some}
+use Rattle.std.proofs.Common.{is_some, IsSome, IfSome, IfNone, List, [], ◌∷◌, length, take, drop, get_or, count_by}
+use Rattle.std.proofs.Common.{refl, sym, ap, subst, ◌∙◌, inl, inr, true≢false, arith}
 use Rattle.std.specs.Prelude.{nat_lt}
 use Rattle.std.specs.Option.{option_or}
 use Rattle.std.proofs.lemmas.Bool.{cases_lt, and_parts, and_from}
@@ -37,7 +39,8 @@ record IsFirst (p : GroupState → Bool) (n : ℕ) (gs : List GroupState) (m : �
   passes : p (group_in gs place) ≡ true
   least : (h : ℕ) → h < place → p (group_in gs h) ≡ false
 
-first_found : (p : GroupState → Bool) (n : ℕ) (gs : List GroupState) (m : ℕ) → first_where p n gs ≡ Some m → IsFirst p n gs m
+first_found : (p : GroupState → Bool) (n : ℕ) (gs : List GroupState) (m : ℕ) → first_where p n gs ≡ Some m
+    → IsFirst p n gs m
 first_found p n [] m e = absurd (none-some m e)
 first_found p n (x ∷ gs) m e = by (p x) refl e (first_found p (suc n) gs m)
   where
@@ -54,31 +57,45 @@ first_found p n (x ∷ gs) m e = by (p x) refl e (first_found p (suc n) gs m)
         before zero l = t
         before (suc h) l = r.least h (omega arith)
 
-    by : (b : Bool) → p x ≡ b → cond b (Some n) (first_where p (suc n) gs) ≡ Some m → (first_where p (suc n) gs ≡ Some m → IsFirst p (suc n) gs m) → IsFirst p n (x ∷ gs) m
-    by true t f rest = record { place = 0; is = omega (arith, same_Some n m f); inside = omega arith; passes = t; least = λ h l. absurd (omega arith) }
+    by : (b : Bool) → p x ≡ b → cond b (Some n) (first_where p (suc n) gs) ≡ Some m
+        → (first_where p (suc n) gs ≡ Some m → IsFirst p (suc n) gs m) → IsFirst p n (x ∷ gs) m
+    by true t f rest =
+        record {
+          place = 0;
+          is = omega (arith, same_Some n m f);
+          inside = omega arith;
+          passes = t;
+          least = λ h l. absurd (omega arith);
+        }
     by false t f rest = later t (rest f)
 
-first_none : (p : GroupState → Bool) (n : ℕ) (gs : List GroupState) → first_where p n gs ≡ None → (i : ℕ) → i < length gs → p (group_in gs i) ≡ false
+first_none : (p : GroupState → Bool) (n : ℕ) (gs : List GroupState) → first_where p n gs ≡ None → (i : ℕ)
+    → i < length gs → p (group_in gs i) ≡ false
 first_none p n [] e i h = absurd (omega arith)
 first_none p n (x ∷ gs) e i h = by (p x) refl e (first_none p (suc n) gs) i h
   where
-    by : (b : Bool) → p x ≡ b → cond b (Some n) (first_where p (suc n) gs) ≡ None → (first_where p (suc n) gs ≡ None → (i : ℕ) → i < length gs → p (group_in gs i) ≡ false)
+    by : (b : Bool) → p x ≡ b → cond b (Some n) (first_where p (suc n) gs) ≡ None
+        → (first_where p (suc n) gs ≡ None → (i : ℕ) → i < length gs → p (group_in gs i) ≡ false)
         → (i : ℕ) → i < length (x ∷ gs) → p (group_in (x ∷ gs) i) ≡ false
     by true t f rest i h = absurd (none-some n (sym f))
     by false t f rest zero h = t
     by false t f rest (suc i) h = rest f i (omega arith)
 
 -- a search for a choice that is each group's own number, or none
-module _ (g : Geometry) (place : Addr → ℕ) (age : Key → Age) (q : Choices → Option ℕ) (p : GroupState → Bool) (empty : q nothing ≡ None)
-    (joins : (a b : Choices) → q (join place a b) ≡ option_or (q a) (q b)) (own : (n : ℕ) (x : GroupState) → q (choices_in g place age n x) ≡ cond (p x) (Some n) None) where
-  search_first : (n : ℕ) (gs : List GroupState) → q (search_all place (leaves_from g place age n gs)) ≡ first_where p n gs
+module _ (g : Geometry) (place : Addr → ℕ) (age : Key → Age) (q : Choices → Option ℕ) (p : GroupState
+    → Bool) (empty : q nothing ≡ None)
+    (joins : (a b : Choices) → q (join place a b) ≡ option_or (q a) (q b)) (own : (n : ℕ) (x : GroupState)
+    → q (choices_in g place age n x) ≡ cond (p x) (Some n) None) where
+  search_first : (n : ℕ) (gs : List GroupState) → q (search_all place (leaves_from g place age n gs))
+      ≡ first_where p n gs
   search_first n [] = empty
   search_first n (x ∷ gs) =
       joins (choices_in g place age n x) (search_all place (leaves_from g place age (suc n) gs))
       ∙ ap (λ o. option_or o (q (search_all place (leaves_from g place age (suc n) gs)))) (own n x)
       ∙ pick (p x) ∙ ap (λ o. cond (p x) (Some n) o) (search_first (suc n) gs)
     where
-      pick : (b : Bool) → option_or (cond b (Some n) None) (q (search_all place (leaves_from g place age (suc n) gs))) ≡ cond b (Some n) (q (search_all place (leaves_from g place age (suc n) gs)))
+      pick : (b : Bool) → option_or (cond b (Some n) None) (q (search_all place (leaves_from g place age (suc n) gs)))
+          ≡ cond b (Some n) (q (search_all place (leaves_from g place age (suc n) gs)))
       pick true = refl
       pick false = refl
 
@@ -96,7 +113,8 @@ opens_by Parity Parity = true
 abbrev opens : Geometry → Class → GroupState → Bool
 opens g c x = opens_by c x.class && nat_lt (used x) (slots_of g x.class)
 
-open_joins : (place : Addr → ℕ) (c : Class) (a b : Choices) → open_in c (join place a b) ≡ option_or (open_in c a) (open_in c b)
+open_joins : (place : Addr → ℕ) (c : Class) (a b : Choices)
+    → open_in c (join place a b) ≡ option_or (open_in c a) (open_in c b)
 open_joins place Free a b = refl
 open_joins place Mirrored a b = refl
 open_joins place Parity a b = refl
@@ -106,10 +124,12 @@ open_nothing Free = refl
 open_nothing Mirrored = refl
 open_nothing Parity = refl
 
-open_own : (g : Geometry) (place : Addr → ℕ) (age : Key → Age) (c : Class) (n : ℕ) (x : GroupState) → open_in c (choices_in g place age n x) ≡ cond (opens g c x) (Some n) None
+open_own : (g : Geometry) (place : Addr → ℕ) (age : Key → Age) (c : Class) (n : ℕ) (x : GroupState)
+    → open_in c (choices_in g place age n x) ≡ cond (opens g c x) (Some n) None
 open_own g place age c n x = by c x.class
   where
-    by : (c d : Class) → open_in c (choices_by d g place age n x) ≡ cond (opens_by c d && nat_lt (used x) (slots_of g x.class)) (Some n) None
+    by : (c d : Class) → open_in c (choices_by d g place age n x)
+        ≡ cond (opens_by c d && nat_lt (used x) (slots_of g x.class)) (Some n) None
     by Free Free = refl
     by Free Mirrored = refl
     by Free Parity = refl
@@ -147,19 +167,27 @@ module _ (t : Tables) (ok : TablesAgree t) where
   -- all that name a block are among the first
   used_first : (i : ℕ) → i < length t.groups → used (group_in t.groups i) ≡ count_by is_some (take (end i) (slots i))
   used_first i h =
-      let split : count_by is_some (take (end i) (slots i)) + count_by is_some (drop (end i) (slots i)) ≡ used (group_in t.groups i) = sum_by-take-drop (λ (o : Option Key). cond {A = ℕ} (is_some o) 1 0) (slots i) (end i) in
+      let split : count_by is_some (take (end i) (slots i)) + count_by is_some (drop (end i) (slots i))
+      ≡ used (group_in t.groups i) =
+      sum_by-take-drop (λ (o : Option Key). cond {A = ℕ} (is_some o) 1 0) (slots i) (end i) in
       let none : count_by is_some (drop (end i) (slots i)) ≡ 0 = none_used (drop (end i) (slots i)) (λ j k e.
-      let within : end i + j < end i = ok.groups.within (record { group = i; slot = end i + j }) k (sym (get_or-drop (end i) (slots i) j None) ∙ e) in
+      let within : end i + j < end i =
+      ok.groups.within (record { group = i; slot = end i + j }) k (sym (get_or-drop (end i) (slots i) j None)
+      ∙ e) in
       absurd (omega arith)) in
       omega arith
 
   -- a group of which fewer slots name a block has a hole
-  pub some_hole : (i : ℕ) → i < length t.groups → used (group_in t.groups i) < end i → ((j : ℕ) → IsHoleOf t i j → ⊥) → ⊥
+  pub some_hole : (i : ℕ) → i < length t.groups → used (group_in t.groups i) < end i → ((j : ℕ) → IsHoleOf t i j → ⊥)
+      → ⊥
   some_hole i h few never =
       let count = used_first i h in
       let len : length (take (end i) (slots i)) ≡ end i = length-take-le (end i) (slots i) (long_enough i h) in
-      let full : count_by is_some (take (end i) (slots i)) ≡ length (take (end i) (slots i)) = all_used (take (end i) (slots i)) (λ j l.
-      named (get_or (take (end i) (slots i)) j None) (λ e. never j (record { slot = omega arith; empty = sym (get_or-take (end i) (slots i) j None (omega arith)) ∙ e }))) in
+      let full : count_by is_some (take (end i) (slots i)) ≡ length (take (end i) (slots i)) =
+      all_used (take (end i) (slots i)) (λ j l.
+      named (get_or (take (end i) (slots i)) j None)
+      (λ e. never j
+      (record { slot = omega arith; empty = sym (get_or-take (end i) (slots i) j None (omega arith)) ∙ e }))) in
       omega arith
     where
       named : (o : Option Key) → (o ≡ None → ⊥) → IsSome o
@@ -171,19 +199,23 @@ module _ (t : Tables) (ok : TablesAgree t) where
   hole_counts i j h hole =
       let count = used_first i h in
       let len : length (take (end i) (slots i)) ≡ end i = length-take-le (end i) (slots i) (long_enough i h) in
-      let here : get_or (take (end i) (slots i)) j None ≡ None = get_or-take (end i) (slots i) j None hole.slot ∙ hole.empty in
+      let here : get_or (take (end i) (slots i)) j None ≡ None =
+      get_or-take (end i) (slots i) j None hole.slot ∙ hole.empty in
       let fewer = some_left (take (end i) (slots i)) j (omega (arith, hole.slot)) here in
       omega arith
     where
-      some_left : (ks : List (Option Key)) (i : ℕ) → i < length ks → get_or ks i None ≡ None → count_by is_some ks < length ks
+      some_left : (ks : List (Option Key)) (i : ℕ) → i < length ks → get_or ks i None ≡ None
+          → count_by is_some ks < length ks
       some_left [] i h e = absurd (omega arith)
       some_left (k ∷ ks) zero h e =
-          let a : count_by is_some (k ∷ ks) ≡ cond {A = ℕ} (is_some k) 1 0 + count_by is_some ks = sum_by-cons (λ (o : Option Key). cond {A = ℕ} (is_some o) 1 0) k ks in
+          let a : count_by is_some (k ∷ ks) ≡ cond {A = ℕ} (is_some k) 1 0 + count_by is_some ks =
+          sum_by-cons (λ (o : Option Key). cond {A = ℕ} (is_some o) 1 0) k ks in
           let b : cond {A = ℕ} (is_some k) 1 0 ≡ 0 = ap (λ (o : Option Key). cond {A = ℕ} (is_some o) 1 0) e in
           let c = count_by-le-length is_some ks in
           omega arith
       some_left (k ∷ ks) (suc i) h e =
-          let a : count_by is_some (k ∷ ks) ≡ cond {A = ℕ} (is_some k) 1 0 + count_by is_some ks = sum_by-cons (λ (o : Option Key). cond {A = ℕ} (is_some o) 1 0) k ks in
+          let a : count_by is_some (k ∷ ks) ≡ cond {A = ℕ} (is_some k) 1 0 + count_by is_some ks =
+          sum_by-cons (λ (o : Option Key). cond {A = ℕ} (is_some o) 1 0) k ks in
           let b : cond {A = ℕ} (is_some k) 1 0 ≤ 1 = one (is_some k) in
           let c = some_left ks i (omega arith) e in
           omega arith
@@ -195,9 +227,11 @@ module _ (t : Tables) (ok : TablesAgree t) where
   -- a hole of a class is one of its group, which passes
   hole_opens : (c : Class) (s : Slot) → IsHole t c s → opens t.geometry c (group_in t.groups s.group) ≡ true
   hole_opens c s h =
-      let here : IsHoleOf t s.group s.slot = record { slot = subst (λ d. s.slot < slots_of t.geometry d) (sym h.class) h.slot; empty = h.empty } in
+      let here : IsHoleOf t s.group s.slot =
+      record { slot = subst (λ d. s.slot < slots_of t.geometry d) (sym h.class) h.slot; empty = h.empty } in
       let few = hole_counts s.group s.slot h.group here in
-      and_from _ _ (opens_same t.geometry c (class_of t s.group) s.slot h.class h.slot) ((Decides-ltb (used (group_in t.groups s.group)) (end s.group)).1 few)
+      and_from _ _ (opens_same t.geometry c (class_of t s.group) s.slot h.class h.slot)
+      ((Decides-ltb (used (group_in t.groups s.group)) (end s.group)).1 few)
 
   -- the lowest group of a class that has a hole
   pub record IsOpen (c : Class) (m : ℕ) : Type 0 where
@@ -207,10 +241,14 @@ module _ (t : Tables) (ok : TablesAgree t) where
     pub least : (s : Slot) → IsHole t c s → m ≤ s.group
 
   module _ (c : Class) where
-    found : open_in c (search_all (place_in t.units) (leaves_of t.geometry t.units t.groups)) ≡ first_where (opens t.geometry c) 0 t.groups
-    found = search_first t.geometry (place_in t.units) (age_of t.units) (open_in c) (opens t.geometry c) (open_nothing c) (open_joins (place_in t.units) c) (open_own t.geometry (place_in t.units) (age_of t.units) c) 0 t.groups
+    found : open_in c (search_all (place_in t.units) (leaves_of t.geometry t.units t.groups))
+        ≡ first_where (opens t.geometry c) 0 t.groups
+    found = search_first t.geometry (place_in t.units) (age_of t.units) (open_in c) (opens t.geometry c)
+        (open_nothing c) (open_joins (place_in t.units) c) (open_own t.geometry (place_in t.units) (age_of t.units) c) 0
+        t.groups
 
-    pub open_found : (m : ℕ) → open_in c (search_all (place_in t.units) (leaves_of t.geometry t.units t.groups)) ≡ Some m → IsOpen c m
+    pub open_found : (m : ℕ) → open_in c (search_all (place_in t.units) (leaves_of t.geometry t.units t.groups))
+        ≡ Some m → IsOpen c m
     open_found m e =
         let f = first_found (opens t.geometry c) 0 t.groups m (sym found ∙ e) in
         let same : m ≡ f.place = omega (arith, f.is) in
@@ -218,40 +256,50 @@ module _ (t : Tables) (ok : TablesAgree t) where
         record {
           there = subst (λ i. i < length t.groups) (sym same) f.inside;
           class = ap (class_of t) same ∙ opens_class c (class_of t f.place) p.0;
-          some = subst (λ i. ((j : ℕ) → IsHoleOf t i j → ⊥) → ⊥) (sym same) (some_hole f.place f.inside ((Decides-ltb (used (group_in t.groups f.place)) (end f.place)).0 p.1));
+          some = subst (λ i. ((j : ℕ) → IsHoleOf t i j → ⊥)
+              → ⊥) (sym same)
+              (some_hole f.place f.inside ((Decides-ltb (used (group_in t.groups f.place)) (end f.place)).0 p.1));
           least = λ s h. elim (cases_lt s.group m) [
             | inl low ↦ absurd (true≢false (sym (hole_opens c s h) ∙ f.least s.group (omega arith)))
             | inr le ↦ le
           ];
         }
 
-    pub open_none : open_in c (search_all (place_in t.units) (leaves_of t.geometry t.units t.groups)) ≡ None → (s : Slot) → IsHole t c s → ⊥
-    open_none e s h = true≢false (sym (hole_opens c s h) ∙ first_none (opens t.geometry c) 0 t.groups (sym found ∙ e) s.group h.group)
+    pub open_none : open_in c (search_all (place_in t.units) (leaves_of t.geometry t.units t.groups)) ≡ None
+        → (s : Slot) → IsHole t c s → ⊥
+    open_none e s h =
+        true≢false (sym (hole_opens c s h) ∙ first_none (opens t.geometry c) 0 t.groups (sym found ∙ e) s.group h.group)
 
     -- and so for either answer
-    pub open_there : (o : Option ℕ) → open_in c (search_all (place_in t.units) (leaves_of t.geometry t.units t.groups)) ≡ o → IfSome o (λ m. m < length t.groups)
+    pub open_there : (o : Option ℕ) → open_in c (search_all (place_in t.units) (leaves_of t.geometry t.units t.groups))
+        ≡ o → IfSome o (λ m. m < length t.groups)
     open_there None e = tt
     open_there (Some m) e = (open_found m e).there
 
-    pub open_class : (o : Option ℕ) → open_in c (search_all (place_in t.units) (leaves_of t.geometry t.units t.groups)) ≡ o → IfSome o (λ m. class_of t m ≡ c)
+    pub open_class : (o : Option ℕ) → open_in c (search_all (place_in t.units) (leaves_of t.geometry t.units t.groups))
+        ≡ o → IfSome o (λ m. class_of t m ≡ c)
     open_class None e = tt
     open_class (Some m) e = (open_found m e).class
 
-    pub open_some : (o : Option ℕ) → open_in c (search_all (place_in t.units) (leaves_of t.geometry t.units t.groups)) ≡ o → IfSome o (λ m. ((i : ℕ) → IsHoleOf t m i → ⊥) → ⊥)
+    pub open_some : (o : Option ℕ) → open_in c (search_all (place_in t.units) (leaves_of t.geometry t.units t.groups))
+        ≡ o → IfSome o (λ m. ((i : ℕ) → IsHoleOf t m i → ⊥) → ⊥)
     open_some None e = tt
     open_some (Some m) e = (open_found m e).some
 
-    pub open_least : (o : Option ℕ) → open_in c (search_all (place_in t.units) (leaves_of t.geometry t.units t.groups)) ≡ o → IfSome o (λ m. (s : Slot) → IsHole t c s → m ≤ s.group)
+    pub open_least : (o : Option ℕ) → open_in c (search_all (place_in t.units) (leaves_of t.geometry t.units t.groups))
+        ≡ o → IfSome o (λ m. (s : Slot) → IsHole t c s → m ≤ s.group)
     open_least None e = tt
     open_least (Some m) e = (open_found m e).least
 
-    pub open_never : (o : Option ℕ) → open_in c (search_all (place_in t.units) (leaves_of t.geometry t.units t.groups)) ≡ o → IfNone o ((s : Slot) → IsHole t c s → ⊥)
+    pub open_never : (o : Option ℕ) → open_in c (search_all (place_in t.units) (leaves_of t.geometry t.units t.groups))
+        ≡ o → IfNone o ((s : Slot) → IsHole t c s → ⊥)
     open_never None e = open_none e
     open_never (Some m) e = tt
 
 -- the lowest free group
 module _ (t : Tables) where
-  free_own : (g : Geometry) (place : Addr → ℕ) (age : Key → Age) (n : ℕ) (x : GroupState) → (choices_in g place age n x).free ≡ cond (is_free x.class) (Some n) None
+  free_own : (g : Geometry) (place : Addr → ℕ) (age : Key → Age) (n : ℕ) (x : GroupState)
+      → (choices_in g place age n x).free ≡ cond (is_free x.class) (Some n) None
   free_own g place age n x = by x.class
     where
       by : (c : Class) → (choices_by c g place age n x).free ≡ cond (is_free c) (Some n) None
@@ -259,15 +307,19 @@ module _ (t : Tables) where
       by Mirrored = refl
       by Parity = refl
 
-  free_found : (search_all (place_in t.units) (leaves_of t.geometry t.units t.groups)).free ≡ first_where (λ x. is_free x.class) 0 t.groups
-  free_found = search_first t.geometry (place_in t.units) (age_of t.units) (λ c. c.free) (λ x. is_free x.class) refl (λ a b. refl) (free_own t.geometry (place_in t.units) (age_of t.units)) 0 t.groups
+  free_found : (search_all (place_in t.units) (leaves_of t.geometry t.units t.groups)).free
+      ≡ first_where (λ x. is_free x.class) 0 t.groups
+  free_found =
+      search_first t.geometry (place_in t.units) (age_of t.units) (λ c. c.free) (λ x. is_free x.class) refl
+      (λ a b. refl) (free_own t.geometry (place_in t.units) (age_of t.units)) 0 t.groups
 
   class_free : (c : Class) → is_free c ≡ true → c ≡ Free
   class_free Free e = refl
   class_free Mirrored e = absurd (true≢false (sym e))
   class_free Parity e = absurd (true≢false (sym e))
 
-  pub lowest_found : (m : ℕ) → (search_all (place_in t.units) (leaves_of t.geometry t.units t.groups)).free ≡ Some m → IsLowestFree t m
+  pub lowest_found : (m : ℕ) → (search_all (place_in t.units) (leaves_of t.geometry t.units t.groups)).free ≡ Some m
+      → IsLowestFree t m
   lowest_found m e =
       let f = first_found (λ x. is_free x.class) 0 t.groups m (sym free_found ∙ e) in
       let same : m ≡ f.place = omega (arith, f.is) in
@@ -277,5 +329,9 @@ module _ (t : Tables) where
         least = λ h l free. true≢false (sym (ap is_free free) ∙ f.least h (omega arith));
       }
 
-  pub lowest_none : (search_all (place_in t.units) (leaves_of t.geometry t.units t.groups)).free ≡ None → free_groups t ≡ 0
-  lowest_none e = no_free t.groups (λ h l free. true≢false (sym (ap is_free free) ∙ first_none (λ x. is_free x.class) 0 t.groups (sym free_found ∙ e) h l))
+  pub lowest_none : (search_all (place_in t.units) (leaves_of t.geometry t.units t.groups)).free ≡ None
+      → free_groups t ≡ 0
+  lowest_none e =
+      no_free t.groups
+      (λ h l free. true≢false (sym (ap is_free free)
+      ∙ first_none (λ x. is_free x.class) 0 t.groups (sym free_found ∙ e) h l))

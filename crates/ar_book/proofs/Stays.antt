@@ -1,5 +1,6 @@
 -- The oldest of a group where one of its blocks got a stamp: another one stays so that is older than that block is now.
-use Rattle.std.proofs.Common.{◌≡◌, ◌≢◌, ℕ, Bool, true, false, cond, Option, None, Some, List, [], ◌∷◌, ◌<◌, refl, sym, ap, subst, ◌∙◌, inl, inr, arith}
+use Rattle.std.proofs.Common.{◌≡◌, ◌≢◌, ℕ, Bool, true, false, cond, Option, None, Some, List, [], ◌∷◌, ◌<◌, refl, sym}
+use Rattle.std.proofs.Common.{ap, subst, ◌∙◌, inl, inr, arith}
 use Rattle.std.proofs.lemmas.Bool.Decides.{nat_tests}
 use Rattle.std.proofs.lemmas.Option.{none-some, same_Some}
 use Rattle.ar_disks.specs.declared.address.Addr.{Addr}
@@ -19,7 +20,8 @@ use Rattle.ar_book.specs.Index.{oldest_named, choices_by, choices_in}
 pub later_stamp : (place : Addr → ℕ) (a b : Age) → a.stamp < b.stamp → is_no_newer place b a ≡ false
 later_stamp place a b h = grind (arith, nat_tests)
 
-module _ (place : Addr → ℕ) (f h : Key → Age) (k : Key) (a : Age) (other : a.key ≢ k) (late : is_no_newer place (h k) a ≡ false) (same : (j : Key) → j ≢ k → h j ≡ f j) (named : (j : Key) → (f j).key ≡ j) where
+module _ (place : Addr → ℕ) (f h : Key → Age) (k : Key) (a : Age) (other : a.key ≢ k) (late : is_no_newer place (h k) a
+    ≡ false) (same : (j : Key) → j ≢ k → h j ≡ f j) (named : (j : Key) → (f j).key ≡ j) where
   -- where there is one, it is as old as the block or newer
   abbrev NoOlder : Option Age → Type 0
   NoOlder o = (b : Age) → o ≡ Some b → is_no_newer place a b ≡ true
@@ -70,36 +72,48 @@ module _ (place : Addr → ℕ) (f h : Key → Age) (k : Key) (a : Age) (other :
       by None n = ap Some is
       by (Some b) n = ap (λ t. Some (cond t (h j) b)) (ap (λ x. is_no_newer place x b) is ∙ n b refl) ∙ ap Some is
 
-  behind : (j : Key) (r : Option Age) → is_no_newer place (f j) a ≡ false → r ≡ Some a → older place (Some (h j)) r ≡ Some a
+  behind : (j : Key) (r : Option Age) → is_no_newer place (f j) a ≡ false → r ≡ Some a
+      → older place (Some (h j)) r ≡ Some a
   behind j r e q = ap (older place (Some (h j))) q ∙ ap (λ t. Some (cond t (h j) a)) newer
     where
       newer : is_no_newer place (h j) a ≡ false
-      newer = elim (key_tells j k) [ inl s ↦ ap (λ x. is_no_newer place (h x) a) s ∙ late | inr ne ↦ ap (λ x. is_no_newer place x a) (same j ne) ∙ e ]
+      newer = elim (key_tells j k) [
+        | inl s ↦ ap (λ x. is_no_newer place (h x) a) s
+            ∙ late
+        | inr ne ↦ ap (λ x. is_no_newer place x a) (same j ne) ∙ e
+      ]
 
   pub stays : (slots : List (Option Key)) → oldest_named place f slots ≡ Some a → oldest_named place h slots ≡ Some a
   stays [] e = absurd (none-some a e)
   stays (None ∷ slots) e = stays slots e
   stays (Some j ∷ slots) e = by (oldest_named place f slots) refl e (stays slots)
     where
-      two : (c : Age) (t : Bool) → oldest_named place f slots ≡ Some c → is_no_newer place (f j) c ≡ t → Some (cond t (f j) c) ≡ Some a → (oldest_named place f slots ≡ Some a → oldest_named place h slots ≡ Some a)
+      two : (c : Age) (t : Bool) → oldest_named place f slots ≡ Some c → is_no_newer place (f j) c ≡ t
+          → Some (cond t (f j) c) ≡ Some a → (oldest_named place f slots ≡ Some a → oldest_named place h slots ≡ Some a)
           → older place (Some (h j)) (oldest_named place h slots) ≡ Some a
       two c true q g d rest =
           let is : f j ≡ a = same_Some (f j) a d in
-          first j (oldest_named place h slots) is (later slots (subst NoOlder (sym q) (one c (sym (ap (λ x. is_no_newer place x c) is) ∙ g))))
+          first j (oldest_named place h slots) is
+          (later slots (subst NoOlder (sym q) (one c (sym (ap (λ x. is_no_newer place x c) is) ∙ g))))
       two c false q g d rest =
           let is : c ≡ a = same_Some c a d in
           behind j (oldest_named place h slots) (sym (ap (is_no_newer place (f j)) is) ∙ g) (rest (q ∙ d))
 
-      by : (r : Option Age) → oldest_named place f slots ≡ r → older place (Some (f j)) r ≡ Some a → (oldest_named place f slots ≡ Some a → oldest_named place h slots ≡ Some a)
+      by : (r : Option Age) → oldest_named place f slots ≡ r → older place (Some (f j)) r ≡ Some a
+          → (oldest_named place f slots ≡ Some a → oldest_named place h slots ≡ Some a)
           → older place (Some (h j)) (oldest_named place h slots) ≡ Some a
-      by None q d rest = first j (oldest_named place h slots) (same_Some (f j) a d) (later slots (λ b e. absurd (none-some b (sym q ∙ e))))
+      by None q d rest =
+          first j (oldest_named place h slots) (same_Some (f j) a d)
+          (later slots (λ b e. absurd (none-some b (sym q ∙ e))))
       by (Some c) q d rest = two c (is_no_newer place (f j) c) q refl d rest
 
   -- and so the choices of the group stay
-  pub stay_chosen : (g : Geometry) (n : ℕ) (x : GroupState) → (choices_in g place f n x).oldest ≡ Some a → choices_in g place h n x ≡ choices_in g place f n x
+  pub stay_chosen : (g : Geometry) (n : ℕ) (x : GroupState) → (choices_in g place f n x).oldest ≡ Some a
+      → choices_in g place h n x ≡ choices_in g place f n x
   stay_chosen g n x e = by x.class e
     where
-      by : (c : Class) → (choices_by c g place f n x).oldest ≡ Some a → choices_by c g place h n x ≡ choices_by c g place f n x
+      by : (c : Class) → (choices_by c g place f n x).oldest ≡ Some a
+          → choices_by c g place h n x ≡ choices_by c g place f n x
       by Free e = refl
       by Mirrored e = ap with_oldest (stays x.slots e ∙ sym e)
         where

@@ -1,5 +1,7 @@
 -- What a change of one unit leaves in the list of units.
-use Rattle.std.proofs.Common.{◌≡◌, ◌≢◌, ℕ, ◌<◌, ◌+◌, Bool, true, false, cond, Option, None, Some, IsSome, is_some, List, [], ◌∷◌, length, get_or, set, sum_by, count_by, refl, sym, ap, subst, ◌∙◌, inl, inr, arith, true≢false, get_or-set_same, get_or-set_other}
+use Rattle.std.proofs.Common.{◌≡◌, ◌≢◌, ℕ, ◌<◌, ◌+◌, Bool, true, false, cond, Option, None, Some, IsSome, is_some, List}
+use Rattle.std.proofs.Common.{[], ◌∷◌, length, get_or, set, sum_by, count_by, refl, sym, ap, subst, ◌∙◌, inl, inr}
+use Rattle.std.proofs.Common.{arith, true≢false, get_or-set_same, get_or-set_other}
 use Rattle.std.specs.List.{IsDistinct}
 use Rattle.std.specs.Map.{lookup, set_value, values_of}
 use Rattle.std.specs.Prelude.{IfNone}
@@ -22,7 +24,8 @@ use Rattle.ar_book.specs.Book.{UnitsStand, IsValidUnit}
 use Rattle.ar_disks.proofs.Addresses.{addr_laws, addr_tells, same_addr_self, addr_apart, make_key}
 
 -- the look-up found this unit
-pub found_in : (us : List (Addr × UnitTableState)) (a : Addr) → IsSome (lookup (same_addr a) us) → lookup (same_addr a) us ≡ Some (unit_in us a)
+pub found_in : (us : List (Addr × UnitTableState)) (a : Addr) → IsSome (lookup (same_addr a) us)
+    → lookup (same_addr a) us ≡ Some (unit_in us a)
 found_in us a h = by (lookup (same_addr a) us) h
   where
     by : (o : Option UnitTableState) → IsSome o → o ≡ Some (unwrap_or o no_unit)
@@ -30,7 +33,8 @@ found_in us a h = by (lookup (same_addr a) us) h
     by (Some u) e = refl
 
 -- a unit with a block is there
-pub has_by_block : (us : List (Addr × UnitTableState)) (a : Addr) (i : ℕ) → i < length (unit_in us a).homes → IsSome (lookup (same_addr a) us)
+pub has_by_block : (us : List (Addr × UnitTableState)) (a : Addr) (i : ℕ) → i < length (unit_in us a).homes
+    → IsSome (lookup (same_addr a) us)
 has_by_block us a i h = by (lookup (same_addr a) us) h
   where
     by : (o : Option UnitTableState) → i < length (unwrap_or o no_unit).homes → IsSome o
@@ -38,38 +42,48 @@ has_by_block us a i h = by (lookup (same_addr a) us) h
     by (Some u) l = refl
 
 -- where there is no such unit nothing is put
-pub put_absent : (test : Addr → Bool) (us : List (Addr × UnitTableState)) (u : UnitTableState) → lookup test us ≡ None → set_value test us u ≡ us
+pub put_absent : (test : Addr → Bool) (us : List (Addr × UnitTableState)) (u : UnitTableState) → lookup test us ≡ None
+    → set_value test us u ≡ us
 put_absent test [] u e = refl
 put_absent test (x ∷ us) u e = by (put_absent test us u) (test x.0) refl
   where
-    by : (lookup test us ≡ None → set_value test us u ≡ us) → (b : Bool) → test x.0 ≡ b → set_value test (x ∷ us) u ≡ x ∷ us
+    by : (lookup test us ≡ None → set_value test us u ≡ us) → (b : Bool) → test x.0 ≡ b
+        → set_value test (x ∷ us) u ≡ x ∷ us
     by rest true h = absurd (none-some x.1 (sym e ∙ ap (λ c. cond c (Some x.1) (lookup test us)) h))
     by rest false h =
         ap (λ c. cond c ((x.0, u) ∷ us) (x ∷ set_value test us u)) h
         ∙ ap (λ l. x ∷ l) (rest (sym (ap (λ c. cond c (Some x.1) (lookup test us)) h) ∙ e))
 
-module _ (us : List (Addr × UnitTableState)) (a : Addr) (u : UnitTableState) (there : IsSome (lookup (same_addr a) us)) where
-  lookup_put : (b : Addr) → lookup (same_addr b) (set_value (same_addr a) us u) ≡ cond (same_addr a b) (Some u) (lookup (same_addr b) us)
-  lookup_put b = lookup-set_value addr_laws (same_addr a) (addr_laws.congr a) b u us there
+module _ (us : List (Addr × UnitTableState)) (a : Addr) (u : UnitTableState) (there : IsSome (lookup (same_addr a) us))
+  where
+    lookup_put : (b : Addr) → lookup (same_addr b) (set_value (same_addr a) us u)
+        ≡ cond (same_addr a b) (Some u) (lookup (same_addr b) us)
+    lookup_put b = lookup-set_value addr_laws (same_addr a) (addr_laws.congr a) b u us there
 
-  -- the unit that was put
-  pub unit_same : unit_in (set_value (same_addr a) us u) a ≡ u
-  unit_same = ap (λ o. unwrap_or o no_unit) (lookup_put a ∙ ap (λ c. cond c (Some u) (lookup (same_addr a) us)) (same_addr_self a))
+    -- the unit that was put
+    pub unit_same : unit_in (set_value (same_addr a) us u) a ≡ u
+    unit_same = ap (λ o. unwrap_or o no_unit) (lookup_put a
+        ∙ ap (λ c. cond c (Some u) (lookup (same_addr a) us)) (same_addr_self a))
 
-  -- the others stay
-  pub unit_other : (b : Addr) → a ≢ b → unit_in (set_value (same_addr a) us u) b ≡ unit_in us b
-  unit_other b ne = ap (λ o. unwrap_or o no_unit) (lookup_put b ∙ ap (λ c. cond c (Some u) (lookup (same_addr b) us)) (addr_apart a b ne))
+    -- the others stay
+    pub unit_other : (b : Addr) → a ≢ b → unit_in (set_value (same_addr a) us u) b ≡ unit_in us b
+    unit_other b ne =
+        ap (λ o. unwrap_or o no_unit) (lookup_put b
+        ∙ ap (λ c. cond c (Some u) (lookup (same_addr b) us)) (addr_apart a b ne))
 
-  -- a sum over the units
-  pub unit_sum : (f : UnitTableState → ℕ) → sum_by f (values_of (set_value (same_addr a) us u)) + f (unit_in us a) ≡ sum_by f (values_of us) + f u
-  unit_sum f = sum_by-set_value f (same_addr a) us (unit_in us a) u (found_in us a there)
+    -- a sum over the units
+    pub unit_sum : (f : UnitTableState → ℕ) → sum_by f (values_of (set_value (same_addr a) us u)) + f (unit_in us a)
+        ≡ sum_by f (values_of us) + f u
+    unit_sum f = sum_by-set_value f (same_addr a) us (unit_in us a) u (found_in us a there)
 
 -- what the unit that is put has as the former one stays in all
-pub unit_keeps : {A : Type 0} (f : UnitTableState → A) (us : List (Addr × UnitTableState)) (a : Addr) (u : UnitTableState) → f u ≡ f (unit_in us a)
+pub unit_keeps : {A : Type 0} (f : UnitTableState
+    → A) (us : List (Addr × UnitTableState)) (a : Addr) (u : UnitTableState) → f u ≡ f (unit_in us a)
     → (b : Addr) → f (unit_in (set_value (same_addr a) us u) b) ≡ f (unit_in us b)
 unit_keeps f us a u e b = by (lookup (same_addr a) us) refl
   where
-    by : (o : Option UnitTableState) → lookup (same_addr a) us ≡ o → f (unit_in (set_value (same_addr a) us u) b) ≡ f (unit_in us b)
+    by : (o : Option UnitTableState) → lookup (same_addr a) us ≡ o
+        → f (unit_in (set_value (same_addr a) us u) b) ≡ f (unit_in us b)
     by None none = ap (λ l. f (unit_in l b)) (put_absent (same_addr a) us u none)
     by (Some v) found =
         let there : IsSome (lookup (same_addr a) us) = ap is_some found in
@@ -83,14 +97,16 @@ unit_keeps f us a u e b = by (lookup (same_addr a) us) refl
         ]
 
 -- the units stand where the one that was put does
-pub units_put : (geo : Geometry) (us : List (Addr × UnitTableState)) (a : Addr) (u : UnitTableState) → UnitsStand geo us → IsValidUnit geo u → UnitsStand geo (set_value (same_addr a) us u)
+pub units_put : (geo : Geometry) (us : List (Addr × UnitTableState)) (a : Addr) (u : UnitTableState) → UnitsStand geo us
+    → IsValidUnit geo u → UnitsStand geo (set_value (same_addr a) us u)
 units_put geo us a u ok new = record {
   distinct = subst (λ ks. IsDistinct same_addr ks) (sym (keys-set_value (same_addr a) us u)) ok.distinct;
   whole = All-values-set_value (same_addr a) (IsValidUnit geo) us u ok.whole new;
 }
 
 -- a block has another home
-module _ (us : List (Addr × UnitTableState)) (k : Key) (o : Option Slot) (inside : k.rb < length (unit_in us k.addr).homes) where
+module _ (us : List (Addr × UnitTableState)) (k : Key) (o : Option Slot)
+    (inside : k.rb < length (unit_in us k.addr).homes) where
   moved_in : UnitTableState
   moved_in = record (unit_in us k.addr) { homes = set (unit_in us k.addr).homes k.rb o }
 
@@ -98,7 +114,10 @@ module _ (us : List (Addr × UnitTableState)) (k : Key) (o : Option Slot) (insid
   here = has_by_block us k.addr k.rb inside
 
   pub homed_same : home_in (homed us k o) k ≡ o
-  homed_same = ap (λ u. get_or u.homes k.rb None) (unit_same us k.addr (record (unit_in us k.addr) { homes = set (unit_in us k.addr).homes k.rb o }) here) ∙ get_or-set_same (unit_in us k.addr).homes k.rb o None inside
+  homed_same =
+      ap (λ u. get_or u.homes k.rb None)
+      (unit_same us k.addr (record (unit_in us k.addr) { homes = set (unit_in us k.addr).homes k.rb o }) here)
+      ∙ get_or-set_same (unit_in us k.addr).homes k.rb o None inside
 
   pub homed_other : (j : Key) → j ≢ k → home_in (homed us k o) j ≡ home_in us j
   homed_other j ne =
@@ -114,25 +133,35 @@ module _ (us : List (Addr × UnitTableState)) (k : Key) (o : Option Slot) (insid
       ]
 
   -- the placed blocks are one more, or one fewer, as this one is and was
-  pub homed_count : sum_by placed (values_of (homed us k o)) + cond {A = ℕ} (is_some (home_in us k)) 1 0 ≡ sum_by placed (values_of us) + cond {A = ℕ} (is_some o) 1 0
+  pub homed_count : sum_by placed (values_of (homed us k o)) + cond {A = ℕ} (is_some (home_in us k)) 1 0
+      ≡ sum_by placed (values_of us) + cond {A = ℕ} (is_some o) 1 0
   homed_count =
       let old = unit_in us k.addr in
       let u : UnitTableState = record old { homes = set old.homes k.rb o } in
-      let one : count_by is_some (set old.homes k.rb o) + cond {A = ℕ} (is_some (home_in us k)) 1 0 ≡ placed old + cond {A = ℕ} (is_some o) 1 0 =
+      let one : count_by is_some (set old.homes k.rb o) + cond {A = ℕ} (is_some (home_in us k)) 1 0
+      ≡ placed old + cond {A = ℕ} (is_some o) 1 0 =
       sum_by-set (λ h. cond {A = ℕ} (is_some h) 1 0) old.homes k.rb o None inside in
-      let all : sum_by placed (values_of (homed us k o)) + placed old ≡ sum_by placed (values_of us) + count_by is_some (set old.homes k.rb o) = unit_sum us k.addr u here placed in
+      let all : sum_by placed (values_of (homed us k o)) + placed old
+      ≡ sum_by placed (values_of us) + count_by is_some (set old.homes k.rb o) = unit_sum us k.addr u here placed in
       omega arith
 
-  pub homed_reserved : sum_by (λ u. length u.homes) (values_of (homed us k o)) ≡ sum_by (λ u. length u.homes) (values_of us)
+  pub homed_reserved : sum_by (λ u. length u.homes) (values_of (homed us k o))
+      ≡ sum_by (λ u. length u.homes) (values_of us)
   homed_reserved =
       let old = unit_in us k.addr in
       let u : UnitTableState = record old { homes = set old.homes k.rb o } in
       let len : length (set old.homes k.rb o) ≡ length old.homes = length-set old.homes k.rb o in
-      let all : sum_by (λ x. length x.homes) (values_of (homed us k o)) + length old.homes ≡ sum_by (λ x. length x.homes) (values_of us) + length (set old.homes k.rb o) = unit_sum us k.addr u here (λ x. length x.homes) in
+      let all : sum_by (λ x. length x.homes) (values_of (homed us k o)) + length old.homes
+      ≡ sum_by (λ x. length x.homes) (values_of us) + length (set old.homes k.rb o) =
+      unit_sum us k.addr u here (λ x. length x.homes) in
       omega arith
 
 -- the stamp of a block whose unit was looked up
-pub found_stamp : {A : Type 0} (f : A → UnitTableState) (units : List (Addr × UnitTableState)) (a : Addr) (rb stamp : ℕ) (o : Option A) → ForSome o (λ x. lookup (same_addr a) units ≡ Some (f x)) → IfNone o (lookup (same_addr a) units ≡ None)
+pub found_stamp : {A : Type 0} (f : A → UnitTableState) (units : List (Addr × UnitTableState)) (a : Addr) (rb stamp : ℕ)
+    (o : Option A) → ForSome o (λ x. lookup (same_addr a) units ≡ Some (f x))
+    → IfNone o (lookup (same_addr a) units ≡ None)
     → MatchOption o (stamp ≡ 0) (λ x. stamp ≡ get_or (f x).stamps rb 0) → stamp ≡ get_or (unit_in units a).stamps rb 0
-found_stamp f units a rb stamp None found none e = e ∙ sym (get_or_past [] rb 0 (omega arith)) ∙ sym (ap (λ l. get_or (unwrap_or l no_unit).stamps rb 0) none)
-found_stamp f units a rb stamp (Some x) found none e = e ∙ sym (ap (λ l. get_or (unwrap_or l no_unit).stamps rb 0) (found x refl))
+found_stamp f units a rb stamp None found none e =
+    e ∙ sym (get_or_past [] rb 0 (omega arith)) ∙ sym (ap (λ l. get_or (unwrap_or l no_unit).stamps rb 0) none)
+found_stamp f units a rb stamp (Some x) found none e =
+    e ∙ sym (ap (λ l. get_or (unwrap_or l no_unit).stamps rb 0) (found x refl))

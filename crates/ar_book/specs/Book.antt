@@ -1,5 +1,6 @@
 -- The invariant of the book's tables.
-use Rattle.std.specs.Prelude.{◌≡◌, ◌≢◌, ℕ, ◌-◌, ◌*◌, ◌^◌, ◌<◌, ◌≤◌, List, length, slice_index_or, sum_by, All, Option, None, Some, IsSome}
+use Rattle.std.specs.Prelude.{◌≡◌, ◌≢◌, ℕ, ◌-◌, ◌*◌, ◌^◌, ◌<◌, ◌≤◌, List, length, slice_index_or, sum_by, All, Option}
+use Rattle.std.specs.Prelude.{None, Some, IsSome}
 use Rattle.std.specs.List.{IsDistinct}
 use Rattle.std.specs.Map.{keys_of, values_of}
 use Rattle.ar_disks.specs.Geometry.{rows_of}
@@ -9,7 +10,8 @@ use Rattle.ar_disks.specs.declared.address.Key.{Key}
 use Rattle.ar_disks.specs.declared.geometry.Geometry.{Geometry}
 use Rattle.ar_book.specs.declared.class.Slot.{Slot}
 use Rattle.ar_disks.specs.Addresses.{same_addr}
-use Rattle.ar_book.specs.Tables.{GroupState, UnitTableState, Tables, group_in, key_in, home_in, slots_of, used, placed, blocks_of, reserved}
+use Rattle.ar_book.specs.Tables.{GroupState, UnitTableState, Tables, group_in, key_in, home_in, slots_of, used, placed}
+use Rattle.ar_book.specs.Tables.{blocks_of, reserved}
 
 -- the groups alone
 pub record GroupsStand (g : Geometry) (groups : List GroupState) : Type 0 where
@@ -20,9 +22,11 @@ pub record GroupsStand (g : Geometry) (groups : List GroupState) : Type 0 where
   -- the members of each are on four disks
   pub apart : (i : ℕ) → i < length groups → AreApart (group_in groups i).members
   -- no extent is in two groups
-  pub disjoint : (i j : ℕ) → i < length groups → j < length groups → i ≢ j → AreDisjoint (group_in groups i).members (group_in groups j).members
+  pub disjoint : (i j : ℕ) → i < length groups → j < length groups → i ≢ j
+      → AreDisjoint (group_in groups i).members (group_in groups j).members
   -- the first member's place fits its types, which bounds the number of groups
-  pub first : (i : ℕ) → i < length groups → ((group_in groups i).members.first.disk < 2 ^ 8) × ((group_in groups i).members.first.extent < 2 ^ 16)
+  pub first : (i : ℕ) → i < length groups → ((group_in groups i).members.first.disk < 2 ^ 8)
+      × ((group_in groups i).members.first.extent < 2 ^ 16)
 
 -- a unit alone: its length is allowed, and it has an entry for a home and for a stamp for each block
 pub record IsValidUnit (g : Geometry) (u : UnitTableState) : Type 0 where

@@ -1,5 +1,6 @@
 -- Each call as a function of the tables.
-use Rattle.std.specs.Prelude.{◌≡◌, ℕ, ◌+◌, ◌-◌, ◌*◌, ◌==◌, min, true, false, if◌then◌else◌, List, [], ◌∷◌, ◌++◌, length, slice_set, replicate, fold, Option, None, Some}
+use Rattle.std.specs.Prelude.{◌≡◌, ℕ, ◌+◌, ◌-◌, ◌*◌, ◌==◌, min, true, false, if◌then◌else◌, List, [], ◌∷◌, ◌++◌, length}
+use Rattle.std.specs.Prelude.{slice_set, replicate, fold, Option, None, Some}
 use Rattle.std.specs.Map.{set_value, remove_entry}
 use Rattle.ar_disks.specs.Geometry.{rows_of}
 use Rattle.ar_disks.specs.Members.{with_member}
@@ -70,7 +71,13 @@ stamped t k = record t { puts = next_stamp t.puts; units = restamped t.units k (
 
 -- a unit of n sectors, without a home or a stamp and without a pending UNIT ATTENTION
 abbrev pub new_unit : Geometry → ℕ → UnitTableState
-new_unit g n = record { sectors = n; homes = replicate (blocks_of g n) None; stamps = replicate (blocks_of g n) 0; attention = false }
+new_unit g n =
+    record {
+      sectors = n;
+      homes = replicate (blocks_of g n) None;
+      stamps = replicate (blocks_of g n) 0;
+      attention = false;
+    }
 
 -- a new unit of n sectors, the last in order of creation
 abbrev pub made : Tables → Addr → ℕ → Tables
@@ -80,7 +87,12 @@ made t a n = record t { units = t.units ++ (a, new_unit t.geometry n) ∷ [] }
 abbrev pub longer : Geometry → UnitTableState → ℕ → UnitTableState
 longer g u n =
     let more = blocks_of g n - length u.homes in
-    record { sectors = n; homes = u.homes ++ replicate more None; stamps = u.stamps ++ replicate more 0; attention = true }
+    record {
+      sectors = n;
+      homes = u.homes ++ replicate more None;
+      stamps = u.stamps ++ replicate more 0;
+      attention = true;
+    }
 
 -- the unit is resized to n sectors
 abbrev pub grown : Tables → Addr → ℕ → Tables
@@ -92,7 +104,8 @@ unmarked t a = record t { units = set_value (same_addr a) t.units (record (unit_
 
 -- the unit is deleted, and the slots of its blocks are emptied
 abbrev pub dropped : Tables → Addr → Tables
-dropped t a = record t { groups = fold vacated t.groups (unit_in t.units a).homes; units = remove_entry (same_addr a) t.units }
+dropped t a =
+    record t { groups = fold vacated t.groups (unit_in t.units a).homes; units = remove_entry (same_addr a) t.units }
 
 -- the group gets this class
 abbrev pub opened : Tables → ℕ → Class → Tables

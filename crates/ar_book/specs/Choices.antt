@@ -54,7 +54,8 @@ place_of t a = position_or_len (same_addr a) (keys_of t.units)
 abbrev pub IsNoNewer : Tables → Key → Key → Type 0
 IsNoNewer t k j =
     (stamp_of t k < stamp_of t j)
-    ⊎ ((stamp_of t k ≡ stamp_of t j) × ((place_of t k.addr < place_of t j.addr) ⊎ ((place_of t k.addr ≡ place_of t j.addr) × (k.rb ≤ j.rb))))
+    ⊎ ((stamp_of t k ≡ stamp_of t j)
+    × ((place_of t k.addr < place_of t j.addr) ⊎ ((place_of t k.addr ≡ place_of t j.addr) × (k.rb ≤ j.rb))))
 
 -- some block of a unit has no home
 pub record HasUnplacedBlock (t : Tables) : Type 0 where

@@ -1,5 +1,6 @@
 -- What cleaning chooses: the group that is emptied, the block that leaves it first, and the slot where that goes.
-use Rattle.std.specs.Prelude.{◌≡◌, ◌≢◌, ℕ, ◌-◌, ◌<◌, ◌≤◌, ◌⊎◌, Bool, true, false, if◌then◌else◌, Option, Some, IsSome, IfSome, IsSomeAnd, length, sum_by}
+use Rattle.std.specs.Prelude.{◌≡◌, ◌≢◌, ℕ, ◌-◌, ◌<◌, ◌≤◌, ◌⊎◌, Bool, true, false, if◌then◌else◌, Option, Some, IsSome}
+use Rattle.std.specs.Prelude.{IfSome, IsSomeAnd, length, sum_by}
 use Rattle.ar_disks.specs.declared.address.Key.{Key}
 use Rattle.ar_disks.specs.declared.geometry.Geometry.{Geometry}
 use Rattle.ar_book.specs.declared.class.Class.{Class}
@@ -40,7 +41,9 @@ pub record CanBeEmptied (t : Tables) (c : Class) (g : ℕ) : Type 0 where
 
 -- the first group has fewer blocks than the second, or as many and no higher number
 abbrev pub IsNoFuller : Tables → ℕ → ℕ → Type 0
-IsNoFuller t g h = (used (group_in t.groups g) < used (group_in t.groups h)) ⊎ ((used (group_in t.groups g) ≡ used (group_in t.groups h)) × (g ≤ h))
+IsNoFuller t g h =
+    (used (group_in t.groups g) < used (group_in t.groups h))
+    ⊎ ((used (group_in t.groups g) ≡ used (group_in t.groups h)) × (g ≤ h))
 
 -- of the groups of a class that can be emptied, the one with the fewest blocks, the lowest on ties
 pub record IsEmptiest (t : Tables) (c : Class) (g : ℕ) : Type 0 where

@@ -1,5 +1,6 @@
 -- The leaves of the search tree, as a plain function of the tables: what a search may choose in each group.
-use Rattle.std.specs.Prelude.{◌≡◌, ◌≢◌, ℕ, suc, ◌*◌, ◌<◌, ◌≤◌, ◌⊎◌, true, false, length, count_by, nat_lt, if◌then◌else◌, List, [], ◌∷◌, map, slice_index_or, Option, None, Some}
+use Rattle.std.specs.Prelude.{◌≡◌, ◌≢◌, ℕ, suc, ◌*◌, ◌<◌, ◌≤◌, ◌⊎◌, true, false, length, count_by, nat_lt}
+use Rattle.std.specs.Prelude.{if◌then◌else◌, List, [], ◌∷◌, map, slice_index_or, Option, None, Some}
 use Rattle.std.specs.Option.{option_map}
 use Rattle.ar_disks.specs.declared.address.Addr.{Addr}
 use Rattle.ar_disks.specs.declared.address.Key.{Key}
@@ -34,7 +35,8 @@ free_leaf number = record nothing { free = Some number }
 -- the choices of a group with this number, by its class
 abbrev pub choices_by : Class → Geometry → (Addr → ℕ) → (Key → Age) → ℕ → GroupState → Choices
 choices_by Free g place age number x = free_leaf number
-choices_by Mirrored g place age number x = record nothing { mirrored = if_open g number x; oldest = oldest_named place age x.slots }
+choices_by Mirrored g place age number x =
+    record nothing { mirrored = if_open g number x; oldest = oldest_named place age x.slots }
 choices_by Parity g place age number x = record nothing { parity = if_open g number x }
 
 -- the choices of a group, where units have these places and blocks these ages
@@ -89,7 +91,8 @@ pub record KeepsOldest (chosen : Option Age) (key : Key) (stamp : ℕ) : Type 0 
   pub older : oldest.stamp < stamp
 
 -- the group isn't mirrored, so no slot is scanned for its choices, and its leaf has them already
-pub record NeedsNoScan (g : Geometry) (units : List (Addr × UnitTableState)) (groups : List GroupState) (index : TreeState) (i : ℕ) : Type 0 where
+pub record NeedsNoScan (g : Geometry) (units : List (Addr × UnitTableState)) (groups : List GroupState)
+    (index : TreeState) (i : ℕ) : Type 0 where
   pub class : (group_in groups i).class ≢ Mirrored
   pub same : leaf index i ≡ choices_of g units i (group_in groups i)
 
@@ -116,9 +119,11 @@ IsBlanked homes n old new i =
     ((leaf new i ≡ leaf old i) × AreOutside homes n i) ⊎ ((is_nothing (leaf new i) ≡ true) × IsAmong homes 0 i)
 
 -- the leaf has the choices of its group; or it is blank, and one of the homes from a place on is in its group
-abbrev pub IsLeafOrBlank : Geometry → List (Addr × UnitTableState) → List GroupState → List (Option Slot) → ℕ → TreeState → ℕ → Type 0
+abbrev pub IsLeafOrBlank : Geometry → List (Addr × UnitTableState) → List GroupState → List (Option Slot) → ℕ
+    → TreeState → ℕ → Type 0
 IsLeafOrBlank g units groups homes from index i =
-    (leaf index i ≡ choices_of g units i (group_in groups i)) ⊎ ((is_nothing (leaf index i) ≡ true) × IsAmong homes from i)
+    (leaf index i ≡ choices_of g units i (group_in groups i))
+    ⊎ ((is_nothing (leaf index i) ≡ true) × IsAmong homes from i)
 
 -- the number of blank leaves: those without a choice
 abbrev pub blanks : TreeState → ℕ
@@ -126,6 +131,8 @@ blanks index = count_by is_nothing (leaves index)
 
 -- each group has the slots of a parity group, and the group of each of these homes has a choice, as a group does that a
 -- block has left
-pub record HaveChoices (g : Geometry) (units : List (Addr × UnitTableState)) (groups : List GroupState) (homes : List (Option Slot)) : Type 0 where
+pub record HaveChoices (g : Geometry) (units : List (Addr × UnitTableState)) (groups : List GroupState)
+    (homes : List (Option Slot)) : Type 0 where
   pub long : (i : ℕ) → i < length groups → length (group_in groups i).slots ≡ 3 * rows_of g
-  pub some : (j : ℕ) (s : Slot) → slice_index_or homes j None ≡ Some s → is_nothing (choices_of g units s.group (group_in groups s.group)) ≡ false
+  pub some : (j : ℕ) (s : Slot) → slice_index_or homes j None ≡ Some s
+      → is_nothing (choices_of g units s.group (group_in groups s.group)) ≡ false

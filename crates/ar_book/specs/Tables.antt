@@ -1,5 +1,6 @@
 -- The book's tables as plain data, and how they are read. A number that isn't in them reads as an empty entry.
-use Rattle.std.specs.Prelude.{ℕ, ◌+◌, ◌-◌, ◌*◌, ◌/◌, ◌<◌, Bool, true, false, List, [], length, slice_index_or, sum_by, count_by, Option, None, Some, is_some}
+use Rattle.std.specs.Prelude.{ℕ, ◌+◌, ◌-◌, ◌*◌, ◌/◌, ◌<◌, Bool, true, false, List, [], length, slice_index_or, sum_by}
+use Rattle.std.specs.Prelude.{count_by, Option, None, Some, is_some}
 use Rattle.std.specs.Option.{unwrap_or}
 use Rattle.std.specs.Map.{lookup, values_of}
 use Rattle.ar_disks.specs.Addresses.{same_addr}
@@ -40,7 +41,11 @@ pub record Tables : Type 0 where
 abbrev pub no_group : GroupState
 no_group =
     let nowhere : Place = record { disk = 0; extent = 0 } in
-    record { class = Free; members = record { first = nowhere; second = nowhere; third = nowhere; fourth = nowhere }; slots = [] }
+    record {
+      class = Free;
+      members = record { first = nowhere; second = nowhere; third = nowhere; fourth = nowhere };
+      slots = [];
+    }
 
 -- what an address that no unit has reads as: a unit without a block
 abbrev pub no_unit : UnitTableState

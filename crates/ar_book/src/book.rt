@@ -9,7 +9,8 @@ ghost use Rattle.std.specs.Prelude.{◌≡◌, ◌<◌, length, [], slice_get, S
 ghost use Rattle.std.specs.Option.{option_map};
 ghost use Rattle.std.specs.Map.{lookup};
 ghost use Rattle.ar_disks.specs.Addresses.{same_addr};
-ghost use Rattle.ar_book.specs.Tables.{unit_in, key_at, home, level, stamp_of, class_of, group_in, used, room, free_groups};
+ghost use Rattle.ar_book.specs.Tables.{unit_in, key_at, home, level, stamp_of, class_of, group_in, used, room};
+ghost use Rattle.ar_book.specs.Tables.{free_groups};
 ghost use Rattle.ar_book.specs.Changes.{unmarked};
 ghost use Rattle.ar_book.specs.Book.{TablesAgree};
 
@@ -41,9 +42,12 @@ impl Model for Book {
 
     ghost Value = { Tables };
 
-    ghost view = { λ b. record { geometry = b.geometry; groups = b.groups.items; units = b.units.entries; puts = b.puts } };
+    ghost view = { λ b.
+        record { geometry = b.geometry; groups = b.groups.items; units = b.units.entries; puts = b.puts } };
 
-    ghost invariant = { λ b. IsIndexed (record { geometry = b.geometry; groups = b.groups.items; units = b.units.entries; puts = b.puts }) b.reserved b.index };
+    ghost invariant = { λ b. IsIndexed
+        (record { geometry = b.geometry; groups = b.groups.items; units = b.units.entries; puts = b.puts })
+        b.reserved b.index };
 }
 
 impl Book {

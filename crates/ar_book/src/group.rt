@@ -1,5 +1,6 @@
 // A group counts its occupied slots, and is free as soon as its last block leaves.
-ghost use Rattle.std.specs.Prelude.{◌≡◌, ℕ, ◌+◌, ◌<◌, ◌≤◌, ◌*◌, is_some, count_by, slice_set, length, slice_index_or, Some, None, IfSome, IfNone, IfOk, IsSome};
+ghost use Rattle.std.specs.Prelude.{◌≡◌, ℕ, ◌+◌, ◌<◌, ◌≤◌, ◌*◌, is_some, count_by, slice_set, length, slice_index_or};
+ghost use Rattle.std.specs.Prelude.{Some, None, IfSome, IfNone, IfOk, IsSome};
 ghost use Rattle.ar_disks.specs.Members.{with_member, stands_on};
 ghost use Rattle.ar_book.specs.Tables.{used, slots_of, is_free};
 ghost use Rattle.ar_book.specs.Changes.{with_key, with_hole, free_group};

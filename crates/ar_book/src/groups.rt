@@ -1,6 +1,7 @@
 // Groups are formed of extents that no group uses. All but one can be opened for a class: the last free group is kept
 // for a squeeze, which moves a full mirrored group to parity.
-ghost use Rattle.std.specs.Prelude.{◌≡◌, ◌≢◌, ℕ, ◌+◌, ◌*◌, ◌<◌, ◌≤◌, ◌↔◌, length, IsTrue, IfSome, IfOk, OnErr, IsSome, IfNone};
+ghost use Rattle.std.specs.Prelude.{◌≡◌, ◌≢◌, ℕ, ◌+◌, ◌*◌, ◌<◌, ◌≤◌, ◌↔◌, length, IsTrue, IfSome, IfOk, OnErr, IsSome};
+ghost use Rattle.std.specs.Prelude.{IfNone};
 ghost use Rattle.ar_disks.specs.Geometry.{rows_of};
 ghost use Rattle.ar_disks.specs.Members.{member, AreApart, stands_on};
 ghost use Rattle.ar_book.specs.Tables.{group_in, free_groups};
@@ -50,7 +51,8 @@ impl Book {
         ensures empty { IfSome result (IsEmpty self.new) }
         ensures unchanged { IfNone result (self.new ≡ self.old) }
         ensures still { IfNone result (steps.new.count ≡ steps.old.count) }
-        ensures few { length self.old.groups ≤ 4096 → steps.new.count ≤ steps.old.count + (3 * rows_of self.old.geometry + 12) }
+        ensures few { length self.old.groups ≤ 4096 → steps.new.count ≤ steps.old.count
+            + (3 * rows_of self.old.geometry + 12) }
         ensures on { steps.old.count ≤ steps.new.count }
     {
         if self.free_groups() < 2 {
@@ -122,7 +124,8 @@ impl Book {
         requires there { group < length self.old.groups }
         requires range { position < 4 }
         requires unused { IsUnused self.old place }
-        requires apart { (i : ℕ) → i < 4 → i ≢ position → (member (group_in self.old.groups group).members i).disk ≢ place.disk }
+        requires apart { (i : ℕ) → i < 4 → i ≢ position
+            → (member (group_in self.old.groups group).members i).disk ≢ place.disk }
         ensures { self.new ≡ shifted self.old group position place }
     {
         // Read for their types' ranges, which bound the number of groups.

@@ -1,6 +1,7 @@
 // Keeps the search tree in step with the tables: the leaf of a group is what one scan of its slots finds. A change of a
 // group costs at most one scan and one climb.
-ghost use Rattle.std.specs.Prelude.{◌≡◌, ◌≢◌, ℕ, ◌+◌, ◌*◌, ◌<◌, ◌≤◌, length, slice_index_or, slice_set, true, false, Some, None, IfSome, IfNone};
+ghost use Rattle.std.specs.Prelude.{◌≡◌, ◌≢◌, ℕ, ◌+◌, ◌*◌, ◌<◌, ◌≤◌, length, slice_index_or, slice_set, true, false};
+ghost use Rattle.std.specs.Prelude.{Some, None, IfSome, IfNone};
 ghost use Rattle.std.specs.Option.{ForSome, MatchOption};
 ghost use Rattle.std.specs.Map.{lookup};
 ghost use Rattle.ar_disks.specs.Addresses.{same_addr};
@@ -8,7 +9,8 @@ ghost use Rattle.ar_index.specs.Choices.{place_in};
 ghost use Rattle.ar_index.specs.Tree.{leaves, IsRight};
 ghost use Rattle.ar_book.specs.Tables.{group_in};
 ghost use Rattle.ar_book.specs.Index as spec;
-ghost use Rattle.ar_book.specs.Index.{oldest_named, leaves_of, leaf, blanks, KeepsOldest, NeedsNoScan, AreInside, IsBlanked, IsLeafOrBlank, HaveChoices};
+ghost use Rattle.ar_book.specs.Index.{oldest_named, leaves_of, leaf, blanks, KeepsOldest, NeedsNoScan, AreInside};
+ghost use Rattle.ar_book.specs.Index.{IsBlanked, IsLeafOrBlank, HaveChoices};
 
 use crate::group::slots_of;
 use crate::{Class, Group, Slot, UnitTable, Units};
@@ -136,9 +138,11 @@ pub(crate) fn refresh(
     requires leaves { length (leaves index.old) ≡ length groups.now.items }
     requires right { IsRight (place_in units.now.entries) index.old }
     ensures set { leaves index.new
-        ≡ slice_set (leaves index.old) number (spec.choices_of geometry units.now.entries number (group_in groups.now.items number)) }
+        ≡ slice_set (leaves index.old) number
+        (spec.choices_of geometry units.now.entries number (group_in groups.now.items number)) }
     ensures right { IsRight (place_in units.now.entries) index.new }
-    ensures unlooked { NeedsNoScan geometry units.now.entries groups.now.items index.old number → steps.new.count ≡ steps.old.count }
+    ensures unlooked { NeedsNoScan geometry units.now.entries groups.now.items index.old number
+        → steps.new.count ≡ steps.old.count }
     ensures few { length groups.now.items ≤ 4096
         → steps.new.count ≤ steps.old.count + (length (group_in groups.now.items number).slots + 12) }
     ensures on { steps.old.count ≤ steps.new.count }
@@ -167,7 +171,8 @@ pub(crate) fn refresh_home(
         → MatchOption home (steps.new.count ≡ steps.old.count)
         (λ slot. steps.new.count ≤ steps.old.count + (length (group_in groups.now.items slot.group).slots + 12)) }
     ensures still { home ≡ None → steps.new.count ≡ steps.old.count }
-    ensures unlooked { ForSome home (λ slot. NeedsNoScan geometry units.now.entries groups.now.items index.old slot.group)
+    ensures unlooked { ForSome home
+        (λ slot. NeedsNoScan geometry units.now.entries groups.now.items index.old slot.group)
         → steps.new.count ≡ steps.old.count }
     ensures on { steps.old.count ≤ steps.new.count }
 {

@@ -12,7 +12,8 @@ impl Book {
     /// unit to the lowest block. None if no block is at the mirrored level. Counts no step.
     pub fn oldest_mirrored(&self, steps: &mut Steps) -> Option<Key>
         ensures found { IfSome result (IsMirrored self.now) }
-        ensures oldest { IfSome result (λ key. (other : Key) → IsMirrored self.now other → IsNoNewer self.now key other) }
+        ensures oldest { IfSome result (λ key. (other : Key) → IsMirrored self.now other
+            → IsNoNewer self.now key other) }
         ensures none { IfNone result ((other : Key) → IsMirrored self.now other → ⊥) }
         ensures still { steps.new.count ≡ steps.old.count }
     {

@@ -95,7 +95,8 @@ impl Book {
     pub fn stamp(&mut self, key: Key, steps: &mut Steps)
         requires { HasBlock self.old key }
         ensures stamped { self.new ≡ stamped self.old key }
-        ensures still { ForSome (home self.old key) (λ slot. KeepsOldest (oldest_in self.old slot.group) key self.new.puts)
+        ensures still { ForSome (home self.old key)
+            (λ slot. KeepsOldest (oldest_in self.old slot.group) key self.new.puts)
             → steps.new.count ≡ steps.old.count }
         ensures unlooked { level self.old key ≢ Mirrored → steps.new.count ≡ steps.old.count }
         ensures few { length self.old.groups ≤ 4096 → steps.new.count ≤ steps.old.count

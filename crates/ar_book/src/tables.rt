@@ -1,5 +1,6 @@
 // Accesses to one table. That homes and slots stay inverse to each other is up to the calls of `Book`, which pair them.
-ghost use Rattle.std.specs.Prelude.{◌≡◌, ◌<◌, ◌≤◌, length, fold, ◌++◌, [], ◌∷◌, slice_set, false, None, OnOk, OnErr, IfNone, IsSome};
+ghost use Rattle.std.specs.Prelude.{◌≡◌, ◌<◌, ◌≤◌, length, fold, ◌++◌, [], ◌∷◌, slice_set, false, None, OnOk, OnErr};
+ghost use Rattle.std.specs.Prelude.{IfNone, IsSome};
 ghost use Rattle.std.specs.Map.{lookup, keys_of, set_value, remove_entry};
 ghost use Rattle.std.specs.List.{IsDistinct};
 ghost use Rattle.std.specs.Option.{ForSome};
@@ -112,7 +113,8 @@ pub(crate) fn grow_unit(
     requires most { sectors ≤ 1048576 }
     requires homes { length (unit_in units.old.entries addr).homes ≤ blocks_of geometry sectors }
     requires stamps { length (unit_in units.old.entries addr).stamps ≡ length (unit_in units.old.entries addr).homes }
-    ensures ok { OnOk result (units.new.entries ≡ set_value (same_addr addr) units.old.entries (longer geometry (unit_in units.old.entries addr) sectors)) }
+    ensures ok { OnOk result (units.new.entries
+        ≡ set_value (same_addr addr) units.old.entries (longer geometry (unit_in units.old.entries addr) sectors)) }
     ensures err { OnErr result (units.new.entries ≡ units.old.entries) }
 {
     if unit_map::grow(&mut units.map, addr, geometry, sectors).is_err() {
@@ -158,7 +160,8 @@ pub(crate) fn take_unit(units: &mut Units, addr: Addr) -> Option<UnitTable>
 
 /// Clears a unit's pending UNIT ATTENTION, if there is such a unit.
 pub(crate) fn clear_attention(units: &mut Units, addr: Addr)
-    ensures { units.new.entries ≡ set_value (same_addr addr) units.old.entries (record (unit_in units.old.entries addr) { attention = false }) }
+    ensures { units.new.entries
+        ≡ set_value (same_addr addr) units.old.entries (record (unit_in units.old.entries addr) { attention = false }) }
 {
     unit_map::clear_attention(&mut units.map, addr);
 }
@@ -166,7 +169,8 @@ pub(crate) fn clear_attention(units: &mut Units, addr: Addr)
 /// Sets the class of a group.
 pub(crate) fn open_class(groups: &mut Vec<Group>, number: u32, class: Class)
     requires { number < length groups.old.items }
-    ensures { groups.new.items ≡ slice_set groups.old.items number (record (group_in groups.old.items number) { class = class }) }
+    ensures { groups.new.items
+        ≡ slice_set groups.old.items number (record (group_in groups.old.items number) { class = class }) }
 {
     let group = &mut groups[number as usize];
     group.open(class);

@@ -31,7 +31,12 @@ impl Model for UnitTable {
 
     ghost Value = { UnitTableState };
 
-    ghost view = { λ u. record { sectors = u.sectors; homes = u.homes.items; stamps = u.stamps.items; attention = u.attention } };
+    ghost view = { λ u. record {
+      sectors = u.sectors;
+      homes = u.homes.items;
+      stamps = u.stamps.items;
+      attention = u.attention;
+    } };
 }
 
 impl UnitTable {

@@ -1,5 +1,6 @@
 // Changes of the map of units, in order of creation. The directory of units is kept beside it.
-ghost use Rattle.std.specs.Prelude.{◌≡◌, ◌<◌, ◌≤◌, length, position, ◌++◌, [], ◌∷◌, false, None, Some, OnOk, OnErr, IfNone, IsSome};
+ghost use Rattle.std.specs.Prelude.{◌≡◌, ◌<◌, ◌≤◌, length, position, ◌++◌, [], ◌∷◌, false, None, Some, OnOk, OnErr};
+ghost use Rattle.std.specs.Prelude.{IfNone, IsSome};
 ghost use Rattle.std.specs.Map.{lookup, keys_of, set_value, remove_entry};
 ghost use Rattle.std.specs.List.{IsDistinct};
 ghost use Rattle.ar_disks.specs.Addresses.{same_addr};

@@ -1,6 +1,7 @@
 // Units are created, resized and deleted. All blocks of a unit are reserved from the start, written or not, and what is
 // reserved fits all groups but one as parity groups.
-ghost use Rattle.std.specs.Prelude.{◌≡◌, ◌-◌, ◌≤◌, ◌↔◌, length, nat_lt, IsOk, IsTrue, Some, None, IfErr, OnOk, OnErr, if◌then◌else◌};
+ghost use Rattle.std.specs.Prelude.{◌≡◌, ◌-◌, ◌≤◌, ◌↔◌, length, nat_lt, IsOk, IsTrue, Some, None, IfErr, OnOk, OnErr};
+ghost use Rattle.std.specs.Prelude.{if◌then◌else◌};
 ghost use Rattle.std.specs.Option.{unwrap_or};
 ghost use Rattle.std.specs.Map.{keys_of};
 ghost use Rattle.std.specs.Set.{remove_key};
@@ -27,7 +28,8 @@ impl Book {
     /// room, and `NoMemory`.
     pub fn make(&mut self, addr: Addr, sectors: u32) -> Result<(), Refusal>
         ensures granted { OnOk result (unit_make_refusal self.old addr sectors ≡ None) }
-        ensures refused { IfErr result (λ refusal. refusal ≡ unwrap_or (unit_make_refusal self.old addr sectors) Refusal.NoMemory) }
+        ensures refused { IfErr result
+            (λ refusal. refusal ≡ unwrap_or (unit_make_refusal self.old addr sectors) Refusal.NoMemory) }
         ensures made { OnOk result (self.new ≡ made self.old addr sectors) }
         ensures unchanged { OnErr result (self.new ≡ self.old) }
     {
@@ -74,7 +76,8 @@ impl Book {
     /// is too great, `NoRoom(room)` if the added blocks exceed the room, and `NoMemory`.
     pub fn grow(&mut self, addr: Addr, sectors: u32) -> Result<(), Refusal>
         ensures granted { OnOk result (unit_grow_refusal self.old addr sectors ≡ None) }
-        ensures refused { IfErr result (λ refusal. refusal ≡ unwrap_or (unit_grow_refusal self.old addr sectors) Refusal.NoMemory) }
+        ensures refused { IfErr result
+            (λ refusal. refusal ≡ unwrap_or (unit_grow_refusal self.old addr sectors) Refusal.NoMemory) }
         ensures grown { OnOk result (self.new ≡ grown self.old addr sectors) }
         ensures unchanged { OnErr result (self.new ≡ self.old) }
     {

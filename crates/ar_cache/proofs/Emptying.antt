@@ -6,7 +6,9 @@ use Rattle.ar_cache.specs.Backing.{KeepsBacking}
 use Rattle.ar_cache.specs.Cache.{CacheState, KnowsAll, SameReads, with_entries}
 
 -- the first entries are left, the others were destaged, and no key is seen with another block
-pub record IsEmptying {S : Type 0} (block_at : S → Key → List ℕ) (geometry : S → Geometry) (knows : S → Key → Bool) (is_broken : S → Bool) (follows : S → S → Type 0) (old : CacheState) (from : S) (new : CacheState) (to : S) : Type 0 where
+pub record IsEmptying {S : Type 0} (block_at : S → Key → List ℕ) (geometry : S → Geometry) (knows : S → Key
+    → Bool) (is_broken : S → Bool) (follows : S → S
+    → Type 0) (old : CacheState) (from : S) (new : CacheState) (to : S) : Type 0 where
   pub within : length new.entries ≤ length old.entries
   pub left : new ≡ with_entries old (take (length new.entries) old.entries)
   pub unchanged : SameReads old (block_at from) new (block_at to)

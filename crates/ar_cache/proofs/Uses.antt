@@ -1,5 +1,6 @@
 -- What the calls of the ordered map leave, as a cache's words say it.
-use Rattle.std.proofs.Common.{◌≡◌, ℕ, ◌-◌, ◌<◌, ◌≤◌, true, false, List, [], ◌∷◌, Option, Some, None, IsSome, is_some, length, take, refl, sym, ap, arith}
+use Rattle.std.proofs.Common.{◌≡◌, ℕ, ◌-◌, ◌<◌, ◌≤◌, true, false, List, [], ◌∷◌, Option, Some, None, IsSome, is_some}
+use Rattle.std.proofs.Common.{length, take, refl, sym, ap, arith}
 use Rattle.std.specs.List.{slice_get}
 use Rattle.std.specs.Prelude.{nat_lt}
 use Rattle.std.specs.Map.{lookup, lookup_entry, set_value}
@@ -7,11 +8,13 @@ use Rattle.std.proofs.lemmas.List.{take_all, length-take}
 use Rattle.std.proofs.lemmas.Bool.{false≢true, le-ltb}
 use Rattle.lru.specs.LruCache.{LruCache, promoted, put_entries, displaced}
 use Rattle.ar_disks.specs.declared.address.Key.{Key}
-use Rattle.ar_cache.specs.Cache.{same_key, without_key, without_last, CacheState, with_room, cached, last_keys, pushed_out}
+use Rattle.ar_cache.specs.Cache.{same_key, without_key, without_last, CacheState, with_room, cached, last_keys}
+use Rattle.ar_cache.specs.Cache.{pushed_out}
 use Rattle.ar_cache.proofs.Keys.{same_key_true, same_key_refl}
 
 -- a look-up that finds a block finds the entry of the key itself
-pub lookup_entry_found : (es : List (Key × List ℕ)) (k : Key) (x : List ℕ) → lookup (same_key k) es ≡ Some x → lookup_entry (same_key k) es ≡ Some (k, x)
+pub lookup_entry_found : (es : List (Key × List ℕ)) (k : Key) (x : List ℕ) → lookup (same_key k) es ≡ Some x
+    → lookup_entry (same_key k) es ≡ Some (k, x)
 lookup_entry_found [] k x h = cc
 lookup_entry_found (e ∷ es) k x h =
     (elim (same_key k e.0) as (λ y. same_key k e.0 ≡ y → lookup_entry (same_key k) (e ∷ es) ≡ Some (k, x)) [
@@ -24,7 +27,8 @@ lookup_entry_found (e ∷ es) k x h =
     ]) refl
 
 -- and one that finds none finds no entry
-pub lookup_entry_absent : (es : List (Key × List ℕ)) (k : Key) → lookup (same_key k) es ≡ None → lookup_entry (same_key k) es ≡ None
+pub lookup_entry_absent : (es : List (Key × List ℕ)) (k : Key) → lookup (same_key k) es ≡ None
+    → lookup_entry (same_key k) es ≡ None
 lookup_entry_absent [] k h = refl
 lookup_entry_absent (e ∷ es) k h =
     (elim (same_key k e.0) as (λ y. same_key k e.0 ≡ y → lookup_entry (same_key k) (e ∷ es) ≡ None) [
@@ -33,19 +37,23 @@ lookup_entry_absent (e ∷ es) k h =
     ]) refl
 
 -- a block written into a present entry, which comes first
-pub promoted_set : (es : List (Key × List ℕ)) (k : Key) (x w : List ℕ) → lookup (same_key k) es ≡ Some x → set_value (same_key k) (promoted (same_key k) es) w ≡ (k, w) ∷ without_key es k
+pub promoted_set : (es : List (Key × List ℕ)) (k : Key) (x w : List ℕ) → lookup (same_key k) es ≡ Some x
+    → set_value (same_key k) (promoted (same_key k) es) w ≡ (k, w) ∷ without_key es k
 promoted_set es k x w h = rw (lookup_entry_found es k x h, same_key_refl k)
 
 -- a present entry, which comes first
-pub promoted_is : (es : List (Key × List ℕ)) (k : Key) (x : List ℕ) → lookup (same_key k) es ≡ Some x → promoted (same_key k) es ≡ (k, x) ∷ without_key es k
+pub promoted_is : (es : List (Key × List ℕ)) (k : Key) (x : List ℕ) → lookup (same_key k) es ≡ Some x
+    → promoted (same_key k) es ≡ (k, x) ∷ without_key es k
 promoted_is es k x h = rw (lookup_entry_found es k x h)
 
 -- a new pair put in
-pub put_absent : (c : LruCache Key (List ℕ)) (k : Key) (b : List ℕ) → lookup (same_key k) c.entries ≡ None → put_entries same_key c k b ≡ (k, b) ∷ take (c.cap - 1) c.entries
+pub put_absent : (c : LruCache Key (List ℕ)) (k : Key) (b : List ℕ) → lookup (same_key k) c.entries ≡ None
+    → put_entries same_key c k b ≡ (k, b) ∷ take (c.cap - 1) c.entries
 put_absent c k b h = rw (lookup_entry_absent c.entries k h)
 
 -- what a new pair pushed out
-pub displaced_absent : (c : LruCache Key (List ℕ)) (k : Key) (b : List ℕ) → lookup (same_key k) c.entries ≡ None → displaced same_key c k b ≡ slice_get c.entries (c.cap - 1)
+pub displaced_absent : (c : LruCache Key (List ℕ)) (k : Key) (b : List ℕ) → lookup (same_key k) c.entries ≡ None
+    → displaced same_key c k b ≡ slice_get c.entries (c.cap - 1)
 displaced_absent c k b h = rw h
 
 pub with_room_spare : (c : CacheState) → length c.entries < c.capacity → with_room c ≡ c.entries
@@ -72,5 +80,7 @@ none_is None h = refl
 none_is (Some x) h = absurd (false≢true (sym h))
 
 -- a new key evicts the least recently used of a full cache
-pub pushed_full : (c : CacheState) (k : Key) → cached c k ≡ None → c.capacity ≤ length c.entries → pushed_out c k ≡ last_keys c.entries
-pushed_full c k miss full = let no : nat_lt (length c.entries) c.capacity ≡ false = le-ltb (length c.entries) c.capacity full in rw (miss, no)
+pub pushed_full : (c : CacheState) (k : Key) → cached c k ≡ None → c.capacity ≤ length c.entries
+    → pushed_out c k ≡ last_keys c.entries
+pushed_full c k miss full = let no : nat_lt (length c.entries) c.capacity ≡ false =
+    le-ltb (length c.entries) c.capacity full in rw (miss, no)

@@ -1,5 +1,7 @@
 -- A cache as plain data: keys with blocks that the backing hasn't got yet.
-use Rattle.std.specs.Prelude.{◌≡◌, ◌≢◌, ◌⊎◌, ℕ, ◌-◌, ◌<◌, ◌≤◌, ◌==◌, ◌&&◌, not, Bool, IsTrue, IsSome, IfSome, List, [], ◌∷◌, ◌++◌, Option, Some, None, option_map, All, is_some, length, take, drop, reverse, filter, nat_lt, unwrap_or, if◌then◌else◌}
+use Rattle.std.specs.Prelude.{◌≡◌, ◌≢◌, ◌⊎◌, ℕ, ◌-◌, ◌<◌, ◌≤◌, ◌==◌, ◌&&◌, not, Bool, IsTrue, IsSome, IfSome, List, []}
+use Rattle.std.specs.Prelude.{◌∷◌, ◌++◌, Option, Some, None, option_map, All, is_some, length, take, drop, reverse}
+use Rattle.std.specs.Prelude.{filter, nat_lt, unwrap_or, if◌then◌else◌}
 use Rattle.std.specs.List.{IsDistinct}
 use Rattle.std.specs.Option.{option_map_or}
 use Rattle.std.specs.Map.{keys_of, lookup, remove_entry}
@@ -122,7 +124,8 @@ pub record PutIsSeen (old : CacheState) (old_block_at : Key → List ℕ)
   pub behind : KeepsOtherBlocks old old_block_at new new_block_at key
 
 -- the entries after a put, by its outcome: an entry of the key is overwritten and moved to the front
-pub record PutsEntry (old : CacheState) (key : Key) (block : List ℕ) (outcome : Completion) (new : CacheState) : Type 0 where
+pub record PutsEntry (old : CacheState) (key : Key) (block : List ℕ) (outcome : Completion) (new : CacheState)
+    : Type 0 where
   pub present : IsSome (cached old key) → new ≡ with_entries old ((key, block) ∷ without_key old.entries key)
   pub absent : cached old key ≡ None → outcome ≡ stored.Done → TakesIn old new key block
   pub broken : outcome ≡ stored.Broken → new ≡ old
@@ -130,14 +133,16 @@ pub record PutsEntry (old : CacheState) (key : Key) (block : List ℕ) (outcome 
 
 -- What the backing was given for a put: nothing for a key that is cached; else the evicted block first, and then the
 -- key's own if that has no entry, up to the one that failed it.
-pub record PutsBehind {S : Type 0} (puts breaks : S → Key → S → Type 0) (old : CacheState) (key : Key) (outcome : Completion)
+pub record PutsBehind {S : Type 0} (puts breaks : S → Key → S
+    → Type 0) (old : CacheState) (key : Key) (outcome : Completion)
     (new : CacheState) (from to : S) : Type 0 where
   pub present : IsSome (cached old key) → (outcome ≡ stored.Done) × (to ≡ from)
   pub put : outcome ≡ stored.Done → InTurn puts (pushed_out old key ++ put_through new key) from to
   pub stopped : outcome ≡ stored.Broken → StopsInTurn puts breaks (pushed_out old key ++ key ∷ []) from to
 
 -- The outcome of a put, by whether the backing has failed: that of the backing, where it was accessed.
-pub record PutAnswers (old : CacheState) (key : Key) (outcome : Completion) (new : CacheState) (was is : Bool) : Type 0 where
+pub record PutAnswers (old : CacheState) (key : Key) (outcome : Completion) (new : CacheState) (was is : Bool)
+    : Type 0 where
   pub honest : IsHonest outcome was is
   pub asked : cached old key ≡ None → old.capacity ≤ length old.entries → outcome ≡ stored_by is
   pub through : cached new key ≡ None → outcome ≡ stored_by is
@@ -149,9 +154,11 @@ pub record RemovesEntry (old : CacheState) (key : Key) (new : CacheState) : Type
   pub others : (other : Key) → other ≢ key → cached new other ≡ cached old other
 
 -- the backing was given the block of a key, if it is cached
-pub record DestagesKey {S : Type 0} (block_at : S → Key → List ℕ) (puts breaks : S → Key → S → Type 0) (old : CacheState)
+pub record DestagesKey {S : Type 0} (block_at : S → Key → List ℕ) (puts breaks : S → Key → S
+    → Type 0) (old : CacheState)
     (key : Key) (outcome : Completion) (from to : S) : Type 0 where
-  pub given : outcome ≡ stored.Done → IfSome (cached old key) (λ block. WritesKey (block_at from) (block_at to) key block)
+  pub given : outcome ≡ stored.Done
+      → IfSome (cached old key) (λ block. WritesKey (block_at from) (block_at to) key block)
   pub put : outcome ≡ stored.Done → IsSome (cached old key) → puts from key to
   pub broke : outcome ≡ stored.Broken → breaks from key to
   pub absent : cached old key ≡ None → (outcome ≡ stored.Done) × (to ≡ from)
@@ -183,7 +190,8 @@ pub record DestagesLast {S : Type 0} (block_at : S → Key → List ℕ) (puts b
   pub quiet : flush ≡ Idle → to ≡ from
 
 -- Every entry was destaged, the least recently used first; without an entry nothing changes.
-pub record Empties {S : Type 0} (puts : S → Key → S → Type 0) (old : CacheState) (outcome : Completion) (new : CacheState)
+pub record Empties {S : Type 0} (puts : S → Key → S
+    → Type 0) (old : CacheState) (outcome : Completion) (new : CacheState)
     (from to : S) : Type 0 where
   pub entries : outcome ≡ stored.Done → new ≡ with_entries old []
   pub put : outcome ≡ stored.Done → InTurn puts (reverse (keys_of old.entries)) from to

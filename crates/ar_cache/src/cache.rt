@@ -1,6 +1,7 @@
 // The invariant: at most `capacity` entries, with different keys, each one block long. If the backing fails in a call,
 // the entry that was being destaged is still there.
-ghost use Rattle.std.specs.Prelude.{◌≡◌, ◌≢◌, ◌≤◌, ◌<◌, ◌↔◌, ◌∷◌, ◌++◌, length, reverse, [], IfOk, IfSome, IsTrue, IsSome, false};
+ghost use Rattle.std.specs.Prelude.{◌≡◌, ◌≢◌, ◌≤◌, ◌<◌, ◌↔◌, ◌∷◌, ◌++◌, length, reverse, [], IfOk, IfSome, IsTrue};
+ghost use Rattle.std.specs.Prelude.{IsSome, false};
 ghost use Rattle.std.specs.Map.{keys_of};
 ghost use Rattle.std.specs.Bool.{OnTrue, OnFalse};
 ghost use Rattle.ar_disks.specs.Geometry.{block_len_of};
@@ -42,16 +43,19 @@ impl Model for Cache {
 
     ghost view = { λ c. record { geometry = c.geometry; capacity = c.capacity; entries = c.entries.entries } };
 
-    ghost invariant = { λ c. IsValidCache (record { geometry = c.geometry; capacity = c.capacity; entries = c.entries.entries })
+    ghost invariant = { λ c. IsValidCache
+        (record { geometry = c.geometry; capacity = c.capacity; entries = c.entries.entries })
         × (c.entries.cap ≡ max c.capacity 1)
         × IfSome c.spare (λ block. length block ≡ block_len_of c.geometry) };
 }
 
 impl Cache {
-    ghost use Rattle.ar_cache.specs.Cache.{CacheState, IsValidCache, KnowsAll, SameReads, PutIsSeen, PutsEntry, PutsBehind, PutAnswers};
+    ghost use Rattle.ar_cache.specs.Cache.{CacheState, IsValidCache, KnowsAll, SameReads, PutIsSeen, PutsEntry};
+    ghost use Rattle.ar_cache.specs.Cache.{PutsBehind, PutAnswers};
     ghost use Rattle.ar_cache.specs.Cache.{Flushes, DestagesKey, DestagesLast, RemovesEntry, Empties, StopsAt};
     ghost use Rattle.ar_disks.specs.Addresses.{same_addr};
-    ghost use Rattle.ar_cache.specs.Cache.{answer_of, cached, seen, with_entries, with_room, without_addr, without_key, without_last, turned};
+    ghost use Rattle.ar_cache.specs.Cache.{answer_of, cached, seen, with_entries, with_room, without_addr, without_key};
+    ghost use Rattle.ar_cache.specs.Cache.{without_last, turned};
 
     /// Creates an empty cache for `capacity` blocks (at most 65,536; 0 writes through). Fails if out of memory.
     pub fn new(alloc: Global, geometry: Geometry, capacity: u32) -> Result<Cache, AllocError>

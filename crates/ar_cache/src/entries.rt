@@ -24,7 +24,8 @@ pub(crate) fn peek(entries: &LruCache<Key, Block>, key: Key) -> Option<&Block>
 pub(crate) fn replace(entries: &mut LruCache<Key, Block>, key: Key, block: &[u8]) -> bool
     requires { All (λ e. length e.1 ≡ length block.now) entries.old.entries }
     ensures found { IsTrue result ↔ IsSome (lookup (same_key key) entries.old.entries) }
-    ensures put { OnTrue result (entries.new ≡ lru_cache ((key, block.now) ∷ without_key entries.old.entries key) entries.old.cap) }
+    ensures put { OnTrue result (entries.new
+        ≡ lru_cache ((key, block.now) ∷ without_key entries.old.entries key) entries.old.cap) }
     ensures absent { OnFalse result (entries.new ≡ entries.old) }
 {
     if entries.is_empty() {

@@ -33,14 +33,16 @@ unit_kept t u b kept = record {
 more_formed : (t : Tables) (m : Members) → length t.groups ≤ length (formed t m).groups
 more_formed t m = let more = length-append t.groups (free_group m (3 * rows_of t.geometry) ∷ []) in omega arith
 
-same_shifted : (t : Tables) (g position : ℕ) (place : Place) → length (shifted t g position place).groups ≡ length t.groups
+same_shifted : (t : Tables) (g position : ℕ) (place : Place)
+    → length (shifted t g position place).groups ≡ length t.groups
 same_shifted t g position place = length-set t.groups g _
 
 same_groups : (t u : Tables) → u ≡ t → length t.groups ≤ length u.groups
 same_groups t u same = let is = ap (λ (x : Tables). length x.groups) same in omega arith
 
 -- no group is let go
-groups_kept : (old new : StoreState) (answer : Balance) → Balances old new answer → length old.book.groups ≤ length new.book.groups
+groups_kept : (old new : StoreState) (answer : Balance) → Balances old new answer
+    → length old.book.groups ≤ length new.book.groups
 groups_kept old new (Formed group) does =
     let is = ap (λ (s : StoreState). length s.book.groups) does.formed in
     let more = more_formed old.book does.members in
@@ -54,7 +56,8 @@ groups_kept old new NoMemory does = same_groups old.book new.book (ap (λ (s : S
 groups_kept old new Idle does = same_groups old.book new.book (ap (λ (s : StoreState). s.book) does.same)
 groups_kept old new Broken does = same_groups old.book new.book (ap (λ (s : StoreState). s.book) does.same)
 
-balanced_quiet : (old new : ArrayState) (answer : Balance) → BalancesOne old answer new → (is_broken new ≡ false → SameSeen old new) → IsQuiet old new
+balanced_quiet : (old new : ArrayState) (answer : Balance) → BalancesOne old answer new
+    → (is_broken new ≡ false → SameSeen old new) → IsQuiet old new
 balanced_quiet old new answer balances seen = record {
   units = λ addr. unit_kept old.store.book new.store.book addr balances.leaves.units;
   seen = seen;
@@ -64,8 +67,10 @@ balanced_quiet old new answer balances seen = record {
 }
 
 -- a step of balancing
-pub steps_balanced : (old new : ArrayState) (answer : Balance) → BalancesOne old answer new → (is_broken new ≡ false → SameSeen old new)
+pub steps_balanced : (old new : ArrayState) (answer : Balance) → BalancesOne old answer new
+    → (is_broken new ≡ false → SameSeen old new)
     → Steps old BalanceEvent (BalanceOutcome answer) new
 steps_balanced old new answer balances seen =
-    steps_quiet old new BalanceEvent (BalanceOutcome answer) balances (λ a. refl) (balanced_quiet old new answer balances seen)
+    steps_quiet old new BalanceEvent (BalanceOutcome answer) balances (λ a. refl)
+    (balanced_quiet old new answer balances seen)
     (cause_follows BalanceEvent old.store.disks new.store.disks (λ d disk is. absurd (cc)) balances.leaves.follows)

@@ -10,7 +10,8 @@ use Rattle.ar_core.proofs.Causes.{cause_follows, whole_stays}
 
 whole_turn : (old : ArrayState) (turn : Turn) (new : ArrayState) → Meets old turn new → IsCalm turn old new
     → old.store.disks.health ≡ Whole → new.store.disks.health ≡ Whole
-whole_turn old (Did event outcome) new steps calm whole = whole_stays event old.store.disks new.store.disks steps.disks calm whole
+whole_turn old (Did event outcome) new steps calm whole =
+    whole_stays event old.store.disks new.store.disks steps.disks calm whole
 whole_turn old Looked new looks calm whole =
     whole_stays FlushEvent old.store.disks new.store.disks
     (cause_follows FlushEvent old.store.disks new.store.disks (λ d disk is. absurd (cc)) looks.accessed.follows)

@@ -1,5 +1,6 @@
 -- What events do to the health of the disks.
-use Rattle.std.proofs.Common.{◌≡◌, ◌≢◌, ◌⊎◌, ℕ, ◌-◌, ◌<◌, ◌≤◌, true, false, [], ◌∷◌, refl, sym, ap, subst, inl, inr, arith, ◌∙◌}
+use Rattle.std.proofs.Common.{◌≡◌, ◌≢◌, ◌⊎◌, ℕ, ◌-◌, ◌<◌, ◌≤◌, true, false, [], ◌∷◌, refl, sym, ap, subst, inl, inr}
+use Rattle.std.proofs.Common.{arith, ◌∙◌}
 use Rattle.std.specs.Prelude.{◌==◌, length}
 use Rattle.std.proofs.lemmas.Bool.{cases_Bool, cases_lt}
 use Rattle.std.proofs.lemmas.Bool.Decides.{nat_tests}
@@ -20,32 +21,39 @@ use Rattle.ar_core.specs.declared.event.EventOf.TheVariants.{AddDisk, DiskOut, R
 use Rattle.ar_core.specs.Causes.{HasCause, HurtsNone, IsTakenOut, IsNotReplaced, FaultsIn, IsHitBy, AreTwoHitBy}
 
 -- an array that isn't broken wasn't
-pub was_sound : (event : Event) (old new : ArrayState) → HasCause event old.store.disks new.store.disks → is_broken new ≡ false → is_broken old ≡ false
+pub was_sound : (event : Event) (old new : ArrayState) → HasCause event old.store.disks new.store.disks
+    → is_broken new ≡ false → is_broken old ≡ false
 was_sound event old new cause now =
     sound_is old.store.disks.health (λ lost. not_broken new.store.disks.health now (cause.stays_broken lost))
 
 -- a disk whose fault count has grown is there, where no disk has come
-faulted_there : (old new : SetState) (d : ℕ) → length new.disks ≡ length old.disks → Faulted old new d → d < length old.disks
+faulted_there : (old new : SetState) (d : ℕ) → length new.disks ≡ length old.disks → Faulted old new d
+    → d < length old.disks
 faulted_there old new d count fault =
     elim (cases_lt d (length old.disks)) [
       | inl there ↦ there
       | inr past ↦ absurd (
           let was : faults_of old d ≡ 0 = ap (λ (x : DiskState). x.faults) (get_or_past old.disks d no_disk past) in
-          let is : faults_of new d ≡ 0 = ap (λ (x : DiskState). x.faults) (get_or_past new.disks d no_disk (omega arith)) in
+          let is : faults_of new d ≡ 0 =
+          ap (λ (x : DiskState). x.faults) (get_or_past new.disks d no_disk (omega arith)) in
           omega arith)
     ]
 
 -- so it has faulted in an event that replaces none
-faults_in : (event : Event) (old new : SetState) (d : ℕ) → ((x : ℕ) → IsNotReplaced event x) → length new.disks ≡ length old.disks
+faults_in : (event : Event) (old new : SetState) (d : ℕ) → ((x : ℕ) → IsNotReplaced event x)
+    → length new.disks ≡ length old.disks
     → Faulted old new d → FaultsIn event old new d
-faults_in event old new d stay count fault = record { there = faulted_there old new d count fault; same = stay d; more = fault }
+faults_in event old new d stay count fault =
+    record { there = faulted_there old new d count fault; same = stay d; more = fault }
 
-hit_in : (event : Event) (old new : SetState) (d : ℕ) → ((x : ℕ) → IsNotReplaced event x) → length new.disks ≡ length old.disks
+hit_in : (event : Event) (old new : SetState) (d : ℕ) → ((x : ℕ) → IsNotReplaced event x)
+    → length new.disks ≡ length old.disks
     → IsHit old new d → IsHitBy event old new d
 hit_in event old new d stay count hit =
     elim hit [ inl down ↦ inl down | inr fault ↦ inr (inl (faults_in event old new d stay count fault)) ]
 
-two_in : (event : Event) (old new : SetState) → ((x : ℕ) → IsNotReplaced event x) → length new.disks ≡ length old.disks → TwoHit old new
+two_in : (event : Event) (old new : SetState) → ((x : ℕ) → IsNotReplaced event x) → length new.disks ≡ length old.disks
+    → TwoHit old new
     → AreTwoHitBy event old new
 two_in event old new stay count two = record {
   one = two.one;
@@ -60,28 +68,46 @@ rebuilding_down : (h : Health) (d done : ℕ) → h ≡ Rebuilding d done → Is
 rebuilding_down h d done is = subst (λ (k : Health). IsDown k d) (sym is) refl
 
 -- reads and writes lose no disk without a fault, whatever the event, if it replaces none
-pub cause_follows : (event : Event) (old new : SetState) → ((x : ℕ) → IsNotReplaced event x) → Follows old new → HasCause event old new
+pub cause_follows : (event : Event) (old new : SetState) → ((x : ℕ) → IsNotReplaced event x) → Follows old new
+    → HasCause event old new
 cause_follows event old new stay follows = record {
   geometry = follows.geometry;
   extents = follows.extents;
   faults = λ d _. follows.faults d;
   noticed = λ d fault. follows.noticed d fault.more;
-  out = λ d out. elim (follows.out d out) [ inl was ↦ inl was | inr fault ↦ inr (inl (faults_in event old new d stay follows.count fault)) ];
+  out = λ d out. elim (follows.out d out) [
+    | inl was ↦ inl was
+    | inr fault ↦
+        inr (inl (faults_in event old new d stay follows.count fault))
+  ];
   rebuilding = λ d done is. rebuilding_down old.health d done (follows.rebuilding d done is);
-  broken = λ lost. elim (follows.broken lost) [ inl was ↦ inl was | inr two ↦ inr (two_in event old new stay follows.count two) ];
+  broken = λ lost. elim (follows.broken lost) [
+    | inl was ↦ inl was
+    | inr two ↦
+        inr (two_in event old new stay follows.count two)
+  ];
   stays_broken = stays_broken old new follows;
 }
 
 -- nor does a step of a rebuild lose one so
-pub cause_advances : (event : Event) (old new : SetState) → ((x : ℕ) → IsNotReplaced event x) → Advances old new → HasCause event old new
+pub cause_advances : (event : Event) (old new : SetState) → ((x : ℕ) → IsNotReplaced event x) → Advances old new
+    → HasCause event old new
 cause_advances event old new stay advances = record {
   geometry = advances.geometry;
   extents = advances.extents;
   faults = λ d _. advances.faults d;
   noticed = λ d fault. advances.noticed d fault.more;
-  out = λ d out. elim (advances.out d out) [ inl was ↦ inl was | inr again ↦ inr (inl (faults_in event old new d stay advances.count again.faulted)) ];
+  out = λ d out. elim (advances.out d out) [
+    | inl was ↦ inl was
+    | inr again ↦
+        inr (inl (faults_in event old new d stay advances.count again.faulted))
+  ];
   rebuilding = λ d done is. rebuilding_down old.health d (done - 1) ((advances.rebuilding d done is).1);
-  broken = λ lost. elim (advances.broken lost) [ inl was ↦ inl was | inr two ↦ inr (two_in event old new stay advances.count two) ];
+  broken = λ lost. elim (advances.broken lost) [
+    | inl was ↦ inl was
+    | inr two ↦
+        inr (two_in event old new stay advances.count two)
+  ];
   stays_broken = λ was. ap (λ (s : SetState). s.health) (advances.stays_broken was) ∙ was;
 }
 
@@ -112,12 +138,24 @@ fails d Whole = record {
     out_is a b e = cc
 fails d (Out x) =
     elim (cases_Bool (d == x)) [
-      | inl same ↦ rw same (record { out = λ y is. inl is; rebuilding = λ y n is. cc; broken = λ is. absurd (cc); stays = λ is. absurd (cc) })
+      | inl same ↦
+          rw same (record {
+            out = λ y is. inl is;
+            rebuilding = λ y n is. cc;
+            broken = λ is. absurd (cc);
+            stays = λ is. absurd (cc);
+          })
       | inr other ↦ rw other (other_down d x (Out x) refl other)
     ]
 fails d (Rebuilding x n) =
     elim (cases_Bool (d == x)) [
-      | inl same ↦ rw same (record { out = λ y is. inr (out_here d x y same is); rebuilding = λ y m is. cc; broken = λ is. absurd (cc); stays = λ is. absurd (cc) })
+      | inl same ↦
+          rw same (record {
+            out = λ y is. inr (out_here d x y same is);
+            rebuilding = λ y m is. cc;
+            broken = λ is. absurd (cc);
+            stays = λ is. absurd (cc);
+          })
       | inr other ↦ rw other (other_down d x (Rebuilding x n) refl other)
     ]
   where
@@ -126,7 +164,8 @@ fails d (Rebuilding x n) =
         let there : b ≡ c = cc in
         let here : a ≡ b = grind (arith, nat_tests) in
         here ∙ there
-fails d Broken = record { out = λ x is. absurd (cc); rebuilding = λ x n is. cc; broken = λ _. inl refl; stays = λ _. refl }
+fails d Broken =
+    record { out = λ x is. absurd (cc); rebuilding = λ x n is. cc; broken = λ _. inl refl; stays = λ _. refl }
 
 -- a disk that an event takes out is lost for that reason
 pub cause_failed : (s : SetState) (d : ℕ) → d < length s.disks → HasCause (DiskOut d) s (failed s d)
@@ -142,7 +181,14 @@ cause_failed s d there =
       broken = λ is.
           elim (does.broken is) [
             | inl was ↦ inl was
-            | inr other ↦ inr (record { one = other.0; other = d; apart = other.2; one_hit = inl other.1; other_hit = inr (inr (record { named = refl; there = there })) })
+            | inr other ↦
+                inr (record {
+                  one = other.0;
+                  other = d;
+                  apart = other.2;
+                  one_hit = inl other.1;
+                  other_hit = inr (inr (record { named = refl; there = there }));
+                })
           ];
       stays_broken = does.stays;
     }
@@ -192,7 +238,8 @@ replaced_is : (a b c d : ℕ) → Rebuilding a b ≡ Rebuilding c d → a ≡ c
 replaced_is a b c d e = cc
 
 -- and so does one that is put in another's place, which then is being rebuilt
-pub cause_replaced : (s : SetState) (number : ℕ) (disk : DiskState) → IsDown s.health number → HasCause (Replace number disk) s (replaced s number disk)
+pub cause_replaced : (s : SetState) (number : ℕ) (disk : DiskState) → IsDown s.health number
+    → HasCause (Replace number disk) s (replaced s number disk)
 cause_replaced s number disk down = record {
   geometry = refl;
   extents = refl;
@@ -206,10 +253,12 @@ cause_replaced s number disk down = record {
   where
     here : (d : ℕ) → IsNotReplaced (Replace number disk) d → faults_of (replaced s number disk) d ≡ faults_of s d
     here d stays =
-        ap (λ (x : DiskState). x.faults) (get_or-set_other s.disks number d disk no_disk (λ is. stays disk (ap (λ x. Replace x disk) (sym is))))
+        ap (λ (x : DiskState). x.faults)
+        (get_or-set_other s.disks number d disk no_disk (λ is. stays disk (ap (λ x. Replace x disk) (sym is))))
 
 -- disks that are whole stay so where none faults and none is taken out
-pub whole_stays : (event : Event) (old new : SetState) → HasCause event old new → HurtsNone event old new → old.health ≡ Whole → new.health ≡ Whole
+pub whole_stays : (event : Event) (old new : SetState) → HasCause event old new → HurtsNone event old new
+    → old.health ≡ Whole → new.health ≡ Whole
 whole_stays event old new cause hurts whole = by new.health refl
   where
     no_down : (d : ℕ) → IsDown old.health d → ⊥

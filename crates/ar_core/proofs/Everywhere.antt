@@ -7,7 +7,8 @@ use Rattle.ar_unit.specs.Unit.{UnitState, Absent, unit_run}
 use Rattle.ar_volume.specs.Sectors.{Address, address_of}
 use Rattle.ar_volume.specs.Image.{at_numbers, at_address}
 use Rattle.ar_core.specs.Events.{Event}
-use Rattle.ar_core.specs.declared.event.EventOf.TheVariants.{Make, Grow, Remove, Cmd, Flush, FlushUnit, Demote, Clean, Balance, AddDisk, DiskOut, Replace, Rebuild}
+use Rattle.ar_core.specs.declared.event.EventOf.TheVariants.{Make, Grow, Remove, Cmd, Flush, FlushUnit, Demote, Clean}
+use Rattle.ar_core.specs.declared.event.EventOf.TheVariants.{Balance, AddDisk, DiskOut, Replace, Rebuild}
 use Rattle.ar_core.specs.Events.{Outcome}
 use Rattle.ar_core.specs.Step.{is_about, entry_at, entry_of}
 
@@ -28,10 +29,13 @@ nowhere (Replace d disk) outcome number lun high = refl
 nowhere Rebuild outcome number lun high = refl
 
 -- what holds of a unit's entry at each host's address holds at each pair of numbers
-at_all : {A : Type 0} (f : UnitState → A) (old new : Addr → UnitState) (event : Event) (outcome : Outcome) (number lun : ℕ) (test : (number < 4) ⊎ (4 ≤ number))
+at_all : {A : Type 0} (f : UnitState → A) (old new : Addr
+    → UnitState) (event : Event) (outcome : Outcome) (number lun : ℕ) (test : (number < 4) ⊎ (4 ≤ number))
     → ((addr : Addr) → f (new addr) ≡ f (unit_run (old addr) (entry_at (address_of addr) event outcome)))
-    → f (at_numbers new number lun test) ≡ f (unit_run (at_numbers old number lun test) (entry_at (number, lun) event outcome))
-at_all f old new event outcome number lun (inl is) here = here (record { host = record { number = number; in_range = is }; lun = lun })
+    → f (at_numbers new number lun test)
+    ≡ f (unit_run (at_numbers old number lun test) (entry_at (number, lun) event outcome))
+at_all f old new event outcome number lun (inl is) here =
+    here (record { host = record { number = number; in_range = is }; lun = lun })
 at_all f old new event outcome number lun (inr high) here =
     ap (λ b. f (unit_run Absent (cond b (entry_of event outcome) []))) (sym (nowhere event outcome number lun high))
 
@@ -39,4 +43,5 @@ pub everywhere : {A : Type 0} (f : UnitState → A) (old new : Addr → UnitStat
     → ((addr : Addr) → f (new addr) ≡ f (unit_run (old addr) (entry_at (address_of addr) event outcome)))
     → (a : Address) → f (at_address new a) ≡ f (unit_run (at_address old a) (entry_at a event outcome))
 unfolding at_address
-everywhere f old new event outcome here (number, lun) = at_all f old new event outcome number lun (cases_lt number 4) here
+everywhere f old new event outcome here (number, lun) =
+    at_all f old new event outcome number lun (cases_lt number 4) here

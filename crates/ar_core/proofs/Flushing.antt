@@ -13,7 +13,8 @@ use Rattle.ar_core.specs.Step.{Steps}
 use Rattle.ar_core.proofs.Causes.{cause_follows}
 use Rattle.ar_core.proofs.Events.{steps_quiet, quiet_follows}
 
-pub steps_flushed : (old new : ArrayState) (answer : Flush) → FlushesOne old answer new → (is_broken new ≡ false → SameSeen old new) → ArrayFollows old new
+pub steps_flushed : (old new : ArrayState) (answer : Flush) → FlushesOne old answer new
+    → (is_broken new ≡ false → SameSeen old new) → ArrayFollows old new
     → Steps old FlushEvent (FlushOutcome answer) new
 steps_flushed old new answer flushes seen follows =
     steps_quiet old new FlushEvent (FlushOutcome answer) flushes (λ a. refl) (quiet_follows old new follows seen)
@@ -21,7 +22,10 @@ steps_flushed old new answer flushes seen follows =
 
 -- a flush of a unit
 pub steps_unit_flushed : (old new : ArrayState) (addr : Addr) (answer : UnitFlush) → FlushesUnit old addr answer new
-    → (is_broken new ≡ false → SameSeen old new) → ArrayFollows old new → Steps old (FlushUnitEvent addr) (FlushUnitOutcome answer) new
+    → (is_broken new ≡ false → SameSeen old new) → ArrayFollows old new
+    → Steps old (FlushUnitEvent addr) (FlushUnitOutcome answer) new
 steps_unit_flushed old new addr answer flushes seen follows =
-    steps_quiet old new (FlushUnitEvent addr) (FlushUnitOutcome answer) flushes (λ a. refl) (quiet_follows old new follows seen)
-    (cause_follows (FlushUnitEvent addr) old.store.disks new.store.disks (λ d disk is. absurd (cc)) flushes.accessed.follows)
+    steps_quiet old new (FlushUnitEvent addr) (FlushUnitOutcome answer) flushes (λ a. refl)
+    (quiet_follows old new follows seen)
+    (cause_follows (FlushUnitEvent addr) old.store.disks new.store.disks (λ d disk is. absurd (cc))
+    flushes.accessed.follows)

@@ -1,5 +1,6 @@
 -- Two runs in which a unit met the same, and a WRITE that fits.
-use Rattle.std.proofs.Common.{◌≡◌, ◌≢◌, ℕ, ◌≤◌, true, false, [], List, length, take, Result, Ok, refl, sym, ap, subst, ◌∙◌, arith}
+use Rattle.std.proofs.Common.{◌≡◌, ◌≢◌, ℕ, ◌≤◌, true, false, [], List, length, take, Result, Ok, refl, sym, ap, subst}
+use Rattle.std.proofs.Common.{◌∙◌, arith}
 use Rattle.std.specs.Prelude.{◌==◌, ◌+◌, ◌*◌, Bool}
 use Rattle.std.proofs.lemmas.Bool.Decides.{nat_tests}
 use Rattle.ar_disks.specs.declared.address.Host.{Host}
@@ -11,7 +12,8 @@ use Rattle.ar_scsi.specs.declared.sense.Sense.{Sense}
 use Rattle.ar_scsi.specs.Reading.{reading}
 use Rattle.ar_scsi.specs.Reply.{good}
 use Rattle.ar_unit.specs.Sectors.{Sector, written}
-use Rattle.ar_unit.specs.Unit.{UnitState, Present, UnitEntry, Answered, answer, obeyed, unit_run, is_past_end, leaving, IsServed}
+use Rattle.ar_unit.specs.Unit.{UnitState, Present, UnitEntry, Answered, answer, obeyed, unit_run, is_past_end, leaving}
+use Rattle.ar_unit.specs.Unit.{IsServed}
 use Rattle.ar_volume.specs.Image.{ArrayState, is_broken, image, image_at}
 use Rattle.ar_volume.proofs.Images.{image_here}
 use Rattle.ar_core.specs.declared.event.EventOf.TheVariants.{Cmd as CmdEvent}
@@ -28,9 +30,11 @@ use Rattle.ar_core.proofs.Isolation.{unit_run-shape}
 pub same_reply : (one other : RunOf) (k j : ℕ) (host : Host) (lun : ℕ) (cdb payload : List ℕ) (reply told : Reply)
     → IsIsolated one.first one.turns one.states → IsIsolated other.first other.turns other.states
     → IsAlikeAt (host.number, lun) one k other j
-    → IsAnsweredSoundly one k host lun cdb payload reply → IsAnsweredSoundly other j host lun cdb payload told → reply ≡ told
+    → IsAnsweredSoundly one k host lun cdb payload reply → IsAnsweredSoundly other j host lun cdb payload told
+    → reply ≡ told
 same_reply one other k j host lun cdb payload reply told isolated apart alike here there =
-    let before : unit_before one.first (host.number, lun) one.turns k ≡ unit_before other.first (host.number, lun) other.turns j =
+    let before : unit_before one.first (host.number, lun) one.turns k
+    ≡ unit_before other.first (host.number, lun) other.turns j =
     ap (λ (u : UnitState). unit_run u (own (host.number, lun) (take k one.turns))) alike.begun
     ∙ ap (λ (es : List UnitEntry). unit_run (image other.first (host.number, lun)) es) alike.met in
     isolated.sound k host lun cdb payload reply here.new here.answered here.after here.sound
@@ -38,10 +42,12 @@ same_reply one other k j host lun cdb payload reply told isolated apart alike he
     ∙ sym (apart.sound j host lun cdb payload told there.new there.answered there.after there.sound)
 
 -- the same of arrays that have lost their data, by the shape with which the unit began
-pub same_broken_reply : (one other : RunOf) (k j : ℕ) (host : Host) (lun : ℕ) (cdb payload : List ℕ) (reply told : Reply)
+pub same_broken_reply : (one other : RunOf) (k j : ℕ) (host : Host) (lun : ℕ) (cdb payload : List ℕ)
+    (reply told : Reply)
     → IsIsolated one.first one.turns one.states → IsIsolated other.first other.turns other.states
     → IsShapedAlikeAt (host.number, lun) one k other j
-    → IsAnsweredBroken one k host lun cdb payload reply → IsAnsweredBroken other j host lun cdb payload told → reply ≡ told
+    → IsAnsweredBroken one k host lun cdb payload reply → IsAnsweredBroken other j host lun cdb payload told
+    → reply ≡ told
 same_broken_reply one other k j host lun cdb payload reply told isolated apart alike here there =
     let a : Address = (host.number, lun) in
     let before : shape_of (unit_before one.first a one.turns k) ≡ shape_of (unit_before other.first a other.turns j) =
@@ -61,8 +67,10 @@ as_long : (n m : ℕ) → n ≡ m → (n == m) ≡ true
 as_long n m same = grind (arith, nat_tests)
 
 -- the table's answer to a WRITE that fits
-fits : (sectors : List Sector) (lba count : ℕ) (fua : Bool) (payload : List ℕ) → lba + count ≤ length sectors → length payload ≡ count * 512
-    → obeyed sectors false (Ok (Write lba count fua)) payload ≡ leaving (Present (written sectors lba count payload) false) (good [])
+fits : (sectors : List Sector) (lba count : ℕ) (fua : Bool) (payload : List ℕ) → lba + count ≤ length sectors
+    → length payload ≡ count * 512
+    → obeyed sectors false (Ok (Write lba count fua)) payload
+    ≡ leaving (Present (written sectors lba count payload) false) (good [])
 unfolding obeyed
 fits sectors lba count fua payload inside len =
     rw (within (length sectors) lba count inside) (rw (as_long (length payload) (count * 512) len) refl)
@@ -73,23 +81,29 @@ unfolding answer
 told sectors cdb payload command is = ap (λ (c : Result Command Sense). obeyed sectors false c payload) is
 
 -- an answer without bytes was given, whatever memory was refused
-given : (old new : UnitState) (state : UnitState) (reply : Reply) → IsServed old (leaving state (good [])) reply new → (reply ≡ good []) × (new ≡ state)
+given : (old new : UnitState) (state : UnitState) (reply : Reply) → IsServed old (leaving state (good [])) reply new
+    → (reply ≡ good []) × (new ≡ state)
 given old new state reply served = (served.given.answered (not_busy), served.left not_busy)
   where
     not_busy : reply.status ≢ Busy
     not_busy is = served.given.memory is refl
 
-pub write_done : (old new : ArrayState) (host : Host) (lun : ℕ) (cdb payload : List ℕ) (reply : Reply) (sectors : List Sector) (lba count : ℕ)
+pub write_done : (old new : ArrayState) (host : Host) (lun : ℕ) (cdb payload : List ℕ) (reply : Reply)
+    (sectors : List Sector) (lba count : ℕ)
     → Steps old (CmdEvent host lun cdb payload) (CmdOutcome reply) new → is_broken new ≡ false
     → IsWriteWithin old (host.number, lun) cdb payload sectors lba count
     → (reply ≡ good []) × (image new (host.number, lun) ≡ Present (written sectors lba count payload) false)
 write_done old new host lun cdb payload reply sectors lba count steps sound write =
     let addr = addr_in host lun in
     let unit : image_at old addr ≡ Present sectors false = sym (image_here (image_at old) addr) ∙ write.unit in
-    let table : answer (image_at old addr) cdb payload ≡ leaving (Present (written sectors lba count payload) false) (good []) =
+    let table : answer (image_at old addr) cdb payload
+    ≡ leaving (Present (written sectors lba count payload) false) (good []) =
     ap (λ (u : UnitState). answer u cdb payload) unit
     ∙ told sectors cdb payload (Ok (Write lba count write.fua)) write.command
     ∙ fits sectors lba count write.fua payload write.inside write.data_len in
-    let served = subst (λ (t : Answered). IsServed (image_at old addr) t reply (image_at new addr)) table (steps.answers.sound sound) in
-    let done = given (image_at old addr) (image_at new addr) (Present (written sectors lba count payload) false) reply served in
+    let served =
+    subst (λ (t : Answered). IsServed (image_at old addr) t reply (image_at new addr)) table
+    (steps.answers.sound sound) in
+    let done = given (image_at old addr) (image_at new addr) (Present (written sectors lba count payload) false) reply
+    served in
     (done.0, image_here (image_at new) addr ∙ done.1)

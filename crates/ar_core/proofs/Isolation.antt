@@ -1,5 +1,6 @@
 -- From what each turn does to what each command of a run is answered.
-use Rattle.std.proofs.Common.{◌≡◌, ℕ, zero, suc, true, false, Some, List, [], ◌∷◌, ◌++◌, length, take, ◌⊎◌, inl, inr, refl, sym, ap, subst, ◌∙◌}
+use Rattle.std.proofs.Common.{◌≡◌, ℕ, zero, suc, true, false, Some, List, [], ◌∷◌, ◌++◌, length, take, ◌⊎◌, inl, inr}
+use Rattle.std.proofs.Common.{refl, sym, ap, subst, ◌∙◌}
 use Rattle.std.specs.Prelude.{slice_get}
 use Rattle.ar_disks.specs.declared.address.Host.{Host}
 use Rattle.ar_scsi.specs.declared.reply.Reply.{Reply}
@@ -18,10 +19,12 @@ use Rattle.ar_volume.proofs.Breaking.{broken_is, accessed_sound}
 use Rattle.ar_volume.proofs.Images.{image_here}
 use Rattle.ar_volume.specs.Sectors.{Address}
 use Rattle.ar_core.specs.Step.{Steps, Obeys, addr_in}
-use Rattle.ar_core.specs.Run.{Turn, Did, Looked, Meets, Run, IsRun, TwoMissing, last_of, own, entry_in, turns_of, IsAnswered, IsIsolated, unit_before, AreTwoHitIn}
+use Rattle.ar_core.specs.Run.{Turn, Did, Looked, Meets, Run, IsRun, TwoMissing, last_of, own, entry_in, turns_of}
+use Rattle.ar_core.specs.Run.{IsAnswered, IsIsolated, unit_before, AreTwoHitIn}
 
 -- the shape after a run depends on the shape before it
-pub unit_run-shape : (entries : List UnitEntry) (u v : UnitState) → shape_of u ≡ shape_of v → shape_of (unit_run u entries) ≡ shape_of (unit_run v entries)
+pub unit_run-shape : (entries : List UnitEntry) (u v : UnitState) → shape_of u ≡ shape_of v
+    → shape_of (unit_run u entries) ≡ shape_of (unit_run v entries)
 unit_run-shape [] u v same = same
 unit_run-shape (entry ∷ entries) u v same =
     unit_run-shape entries (after u entry) (after v entry)
@@ -33,7 +36,8 @@ record Agrees (s : ArrayState) (u : UnitState) (a : Address) : Type 0 where
   shape : shape_of u ≡ shape_of (image s a)
 
 -- an array that isn't broken after a turn wasn't before
-turn_sound : (old : ArrayState) (turn : Turn) (new : ArrayState) → Meets old turn new → is_broken new ≡ false → is_broken old ≡ false
+turn_sound : (old : ArrayState) (turn : Turn) (new : ArrayState) → Meets old turn new → is_broken new ≡ false
+    → is_broken old ≡ false
 turn_sound old (Did event outcome) new steps now = was_sound event old new steps.disks now
 turn_sound old Looked new looks now = accessed_sound old.store.disks new.store.disks looks.accessed now
 
@@ -41,7 +45,8 @@ agrees-turn : (old : ArrayState) (turn : Turn) (new : ArrayState) (u : UnitState
     → Meets old turn new → Agrees old u a → Agrees new (unit_run u (entry_in a turn)) a
 agrees-turn old (Did event outcome) new u a steps agrees = record {
   sound = λ now.
-      ap (λ (v : UnitState). unit_run v (entry_in a (Did event outcome))) (agrees.sound (was_sound event old new steps.disks now)) ∙ sym (steps.images now a);
+      ap (λ (v : UnitState). unit_run v (entry_in a (Did event outcome)))
+      (agrees.sound (was_sound event old new steps.disks now)) ∙ sym (steps.images now a);
   shape = unit_run-shape (entry_in a (Did event outcome)) u (image old a) agrees.shape ∙ sym (steps.shapes a);
 }
 agrees-turn old Looked new u a looks agrees = record {
@@ -49,18 +54,23 @@ agrees-turn old Looked new u a looks agrees = record {
   shape = agrees.shape ∙ sym (looked_shape old new looks a);
 }
 
--- the state in which a command of a run was met, and what it was answered there, u being what the unit's own entries made of it
-record Met (u : UnitState) (host : Host) (lun : ℕ) (cdb payload : List ℕ) (reply : Reply) (new : ArrayState) : Type 0 where
+-- the state in which a command of a run was met, and what it was answered there, u being what the unit's own entries
+-- made of it
+record Met (u : UnitState) (host : Host) (lun : ℕ) (cdb payload : List ℕ) (reply : Reply) (new : ArrayState)
+    : Type 0 where
   old : ArrayState
   agrees : Agrees old u (host.number, lun)
   obeys : Obeys old (addr_in host lun) cdb payload reply new
   stays : is_broken new ≡ false → is_broken old ≡ false
 
-first_met : (old s new : ArrayState) (turn : Turn) (u : UnitState) (host : Host) (lun : ℕ) (cdb payload : List ℕ) (reply : Reply)
-    → Meets old turn s → Agrees old u (host.number, lun) → turn ≡ Did (CmdEvent host lun cdb payload) (CmdOutcome reply) → s ≡ new
+first_met : (old s new : ArrayState) (turn : Turn) (u : UnitState) (host : Host) (lun : ℕ) (cdb payload : List ℕ)
+    (reply : Reply)
+    → Meets old turn s → Agrees old u (host.number, lun) → turn ≡ Did (CmdEvent host lun cdb payload) (CmdOutcome reply)
+    → s ≡ new
     → Met u host lun cdb payload reply new
 first_met old s new turn u host lun cdb payload reply meets agrees is left =
-    let steps : Steps old (CmdEvent host lun cdb payload) (CmdOutcome reply) s = subst (λ (t : Turn). Meets old t s) is meets in
+    let steps : Steps old (CmdEvent host lun cdb payload) (CmdOutcome reply) s =
+    subst (λ (t : Turn). Meets old t s) is meets in
     subst (λ (n : ArrayState). Met u host lun cdb payload reply n) left
     (record {
       old = old;
@@ -88,7 +98,8 @@ met (turn ∷ turns) (s ∷ states) old u (suc k) host lun cdb payload reply new
     (agrees-turn old turn s u a run.0 agrees) (record { turn = here.turn; not_busy = here.not_busy }) there)
 
 -- what the unit is after a turn of a run
-left : (turns : List Turn) (states : List ArrayState) (old : ArrayState) (u : UnitState) (k : ℕ) (new : ArrayState) (a : Address)
+left : (turns : List Turn) (states : List ArrayState) (old : ArrayState) (u : UnitState) (k : ℕ) (new : ArrayState)
+    (a : Address)
     → Run old turns states → Agrees old u a → slice_get states k ≡ Some new
     → Agrees new (unit_run u (own a (take (suc k) turns))) a
 left [] [] old u k new a run agrees there = absurd (cc)
@@ -105,15 +116,20 @@ left (turn ∷ turns) (s ∷ states) old u (suc k) new a run agrees there =
     (left turns states s (unit_run u (entry_in a turn)) k new a run.1 (agrees-turn old turn s u a run.0 agrees) there)
 
 -- why a turn has lost the data
-lost_in : (old : ArrayState) (turn : Turn) (new : ArrayState) → Meets old turn new → is_broken new ≡ true → (is_broken old ≡ true) ⊎ AreTwoHitIn turn old new
+lost_in : (old : ArrayState) (turn : Turn) (new : ArrayState) → Meets old turn new → is_broken new ≡ true
+    → (is_broken old ≡ true) ⊎ AreTwoHitIn turn old new
 lost_in old (Did event outcome) new steps lost =
-    elim (steps.disks.broken (broken_is new.store.disks.health lost)) [ inl was ↦ inl (ap is_broken_set was) | inr two ↦ inr two ]
+    elim (steps.disks.broken (broken_is new.store.disks.health lost))
+    [ inl was ↦ inl (ap is_broken_set was) | inr two ↦ inr two ]
 lost_in old Looked new looks lost =
-    elim (looks.accessed.follows.broken (broken_is new.store.disks.health lost)) [ inl was ↦ inl (ap is_broken_set was) | inr two ↦ inr two ]
+    elim (looks.accessed.follows.broken (broken_is new.store.disks.health lost))
+    [ inl was ↦ inl (ap is_broken_set was) | inr two ↦ inr two ]
 
 -- why the state after a turn has lost its data
-two_missing : (turns : List Turn) (states : List ArrayState) (old : ArrayState) (k : ℕ) (new : ArrayState) → Run old turns states
-    → slice_get states k ≡ Some new → is_broken new ≡ true → (is_broken old ≡ true) ⊎ TwoMissing old (take (suc k) turns) (take (suc k) states)
+two_missing : (turns : List Turn) (states : List ArrayState) (old : ArrayState) (k : ℕ) (new : ArrayState)
+    → Run old turns states
+    → slice_get states k ≡ Some new → is_broken new ≡ true
+    → (is_broken old ≡ true) ⊎ TwoMissing old (take (suc k) turns) (take (suc k) states)
 two_missing [] [] old k new run there lost = absurd (cc)
 two_missing [] (s ∷ states) old k new run there lost = absurd run
 two_missing (turn ∷ turns) [] old k new run there lost = absurd run
@@ -127,21 +143,27 @@ two_missing (turn ∷ turns) (s ∷ states) old (suc k) new run there lost =
     ]
 
 -- the theorem, from the turns
-pub run-isolated : (old : ArrayState) (turns : List Turn) (states : List ArrayState) → Run old turns states → IsIsolated old turns states
+pub run-isolated : (old : ArrayState) (turns : List Turn) (states : List ArrayState) → Run old turns states
+    → IsIsolated old turns states
 run-isolated old turns states run = record {
   sound = λ k host lun cdb payload reply new here there now.
       (let a : Address = (host.number, lun) in
-      let m = met turns states old (image old a) k host lun cdb payload reply new run (record { sound = λ _. refl; shape = refl }) here there in
+      let m = met turns states old (image old a) k host lun cdb payload reply new run
+      (record { sound = λ _. refl; shape = refl }) here there in
       (m.obeys.sound now).given.answered here.not_busy
-      ∙ ap (λ (v : UnitState). (answer v cdb payload).reply) (sym (image_here (image_at m.old) (addr_in host lun)) ∙ sym (m.agrees.sound (m.stays now))));
+      ∙ ap (λ (v : UnitState). (answer v cdb payload).reply) (sym (image_here (image_at m.old) (addr_in host lun))
+      ∙ sym (m.agrees.sound (m.stays now))));
   broken = λ k host lun cdb payload reply new here there lost.
       (let a : Address = (host.number, lun) in
-      let m = met turns states old (image old a) k host lun cdb payload reply new run (record { sound = λ _. refl; shape = refl }) here there in
+      let m = met turns states old (image old a) k host lun cdb payload reply new run
+      (record { sound = λ _. refl; shape = refl }) here there in
       (m.obeys.broken lost).answered here.not_busy
-      ∙ ap (λ (s : Shape). broken_answer s cdb (length payload)) (ap shape_of (sym (image_here (image_at m.old) (addr_in host lun))) ∙ sym m.agrees.shape)
+      ∙ ap (λ (s : Shape). broken_answer s cdb (length payload))
+      (ap shape_of (sym (image_here (image_at m.old) (addr_in host lun))) ∙ sym m.agrees.shape)
       ∙ broken_answer-is (unit_before old a turns k) cdb payload);
   images = λ k new there now a.
-      sym ((left turns states old (image old a) k new a run (record { sound = λ _. refl; shape = refl }) there).sound now);
+      sym ((left turns states old (image old a) k new a run (record { sound = λ _. refl; shape = refl }) there).sound
+      now);
   shapes = λ k new there a.
       sym (left turns states old (image old a) k new a run (record { sound = λ _. refl; shape = refl }) there).shape;
   lost = λ k new there gone. two_missing turns states old k new run there gone;
@@ -164,10 +186,12 @@ pub no_turn : (s : ArrayState) → IsRun s [] s
 no_turn s = record { states = []; run = tt; last = refl; isolated = run-isolated s [] [] tt }
 
 -- a run and one turn more
-pub one_more : (old : ArrayState) (turns : List Turn) (mid : ArrayState) (turn : Turn) (new : ArrayState) → IsRun old turns mid → Meets mid turn new
+pub one_more : (old : ArrayState) (turns : List Turn) (mid : ArrayState) (turn : Turn) (new : ArrayState)
+    → IsRun old turns mid → Meets mid turn new
     → IsRun old (turns ++ turn ∷ []) new
 one_more old turns mid turn new before meets =
-    let run = run-more turns before.states old turn new before.run (subst (λ (s : ArrayState). Meets s turn new) (sym before.last) meets) in
+    let run = run-more turns before.states old turn new before.run
+    (subst (λ (s : ArrayState). Meets s turn new) (sym before.last) meets) in
     record {
       states = before.states ++ new ∷ [];
       run = run;
@@ -176,9 +200,11 @@ one_more old turns mid turn new before meets =
     }
 
 -- one event more, with its outcome
-pub turns_of-more : (events : List Event) (outcomes : List Outcome) (event : Event) (outcome : Outcome) → length outcomes ≡ length events
+pub turns_of-more : (events : List Event) (outcomes : List Outcome) (event : Event) (outcome : Outcome)
+    → length outcomes ≡ length events
     → turns_of (events ++ event ∷ []) (outcomes ++ outcome ∷ []) ≡ turns_of events outcomes ++ Did event outcome ∷ []
 turns_of-more [] [] event outcome same = refl
-turns_of-more (e ∷ events) (o ∷ outcomes) event outcome same = ap (λ (l : List Turn). Did e o ∷ l) (turns_of-more events outcomes event outcome (cc same))
+turns_of-more (e ∷ events) (o ∷ outcomes) event outcome same =
+    ap (λ (l : List Turn). Did e o ∷ l) (turns_of-more events outcomes event outcome (cc same))
 turns_of-more [] (o ∷ outcomes) event outcome same = absurd (cc)
 turns_of-more (e ∷ events) [] event outcome same = absurd (cc)

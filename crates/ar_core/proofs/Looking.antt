@@ -12,12 +12,16 @@ use Rattle.ar_core.specs.Quiet.{LooksAt}
 use Rattle.ar_core.proofs.Events.{unit_refl}
 
 -- what is the same at each host's address is the same at each pair of numbers
-each_number : {A : Type 0} (f : UnitState → A) (old new : Addr → UnitState) (number lun : ℕ) (test : (number < 4) ⊎ (4 ≤ number))
-    → ((addr : Addr) → f (new addr) ≡ f (old addr)) → f (at_numbers new number lun test) ≡ f (at_numbers old number lun test)
-each_number f old new number lun (inl is) here = here (record { host = record { number = number; in_range = is }; lun = lun })
+each_number : {A : Type 0} (f : UnitState → A) (old new : Addr
+    → UnitState) (number lun : ℕ) (test : (number < 4) ⊎ (4 ≤ number))
+    → ((addr : Addr) → f (new addr) ≡ f (old addr))
+    → f (at_numbers new number lun test) ≡ f (at_numbers old number lun test)
+each_number f old new number lun (inl is) here =
+    here (record { host = record { number = number; in_range = is }; lun = lun })
 each_number f old new number lun (inr high) here = refl
 
-each_address : {A : Type 0} (f : UnitState → A) (old new : Addr → UnitState) → ((addr : Addr) → f (new addr) ≡ f (old addr))
+each_address : {A : Type 0} (f : UnitState → A) (old new : Addr → UnitState)
+    → ((addr : Addr) → f (new addr) ≡ f (old addr))
     → (a : Address) → f (at_address new a) ≡ f (at_address old a)
 unfolding at_address
 each_address f old new here (number, lun) = each_number f old new number lun (cases_lt number 4) here
@@ -25,10 +29,15 @@ each_address f old new here (number, lun) = each_number f old new number lun (ca
 same_unit : (old new : ArrayState) → LooksAt old new → (addr : Addr) → SameUnit old.store.book new.store.book addr
 same_unit old new looks addr = unit_refl old.store.book new.store.book addr looks.places.reads.tables
 
-pub looked_image : (old new : ArrayState) → LooksAt old new → is_broken new ≡ false → (a : Address) → image new a ≡ image old a
+pub looked_image : (old new : ArrayState) → LooksAt old new → is_broken new ≡ false → (a : Address)
+    → image new a ≡ image old a
 looked_image old new looks now a =
     each_address (λ (u : UnitState). u) (image_at old) (image_at new)
-    (λ addr. image_same old new addr (same_unit old new looks addr) looks.accessed.follows.geometry (λ k _. (looks.seen now).same k)) a
+    (λ addr. image_same old new addr (same_unit old new looks addr) looks.accessed.follows.geometry
+    (λ k _. (looks.seen now).same k)) a
 
-pub looked_shape : (old new : ArrayState) → LooksAt old new → (a : Address) → shape_of (image new a) ≡ shape_of (image old a)
-looked_shape old new looks a = each_address shape_of (image_at old) (image_at new) (λ addr. shape_same old new addr (same_unit old new looks addr)) a
+pub looked_shape : (old new : ArrayState) → LooksAt old new → (a : Address)
+    → shape_of (image new a) ≡ shape_of (image old a)
+looked_shape old new looks a =
+    each_address shape_of (image_at old) (image_at new) (λ addr. shape_same old new addr (same_unit old new looks addr))
+    a

@@ -11,14 +11,18 @@ use Rattle.ar_core.specs.Step.{Steps}
 use Rattle.ar_core.proofs.Causes.{cause_follows}
 use Rattle.ar_core.proofs.Events.{steps_quiet, quiet_follows}
 
-pub steps_demoted : (old new : ArrayState) (answer : Move) → DemotesOne old answer new → (is_broken new ≡ false → SameSeen old new) → ArrayFollows old new
+pub steps_demoted : (old new : ArrayState) (answer : Move) → DemotesOne old answer new
+    → (is_broken new ≡ false → SameSeen old new) → ArrayFollows old new
     → Steps old DemoteEvent (DemoteOutcome answer) new
 steps_demoted old new answer demotes seen follows =
     steps_quiet old new DemoteEvent (DemoteOutcome answer) demotes (λ a. refl) (quiet_follows old new follows seen)
-    (cause_follows DemoteEvent old.store.disks new.store.disks (λ d disk is. absurd (cc)) demotes.moves.leaves.accessed.follows)
+    (cause_follows DemoteEvent old.store.disks new.store.disks (λ d disk is. absurd (cc))
+    demotes.moves.leaves.accessed.follows)
 
-pub steps_cleaned : (old new : ArrayState) (answer : Move) → CleansOne old answer new → (is_broken new ≡ false → SameSeen old new) → ArrayFollows old new
+pub steps_cleaned : (old new : ArrayState) (answer : Move) → CleansOne old answer new
+    → (is_broken new ≡ false → SameSeen old new) → ArrayFollows old new
     → Steps old CleanEvent (CleanOutcome answer) new
 steps_cleaned old new answer cleans seen follows =
     steps_quiet old new CleanEvent (CleanOutcome answer) cleans (λ a. refl) (quiet_follows old new follows seen)
-    (cause_follows CleanEvent old.store.disks new.store.disks (λ d disk is. absurd (cc)) cleans.moves.leaves.accessed.follows)
+    (cause_follows CleanEvent old.store.disks new.store.disks (λ d disk is. absurd (cc))
+    cleans.moves.leaves.accessed.follows)

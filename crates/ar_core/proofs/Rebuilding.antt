@@ -11,7 +11,8 @@ use Rattle.ar_core.specs.Step.{Steps}
 use Rattle.ar_core.proofs.Causes.{cause_advances}
 use Rattle.ar_core.proofs.Events.{steps_quiet, quiet_tables}
 
-pub steps_rebuilt : (old new : ArrayState) (answer : Rebuild) → RebuildsOne old answer new → (is_broken new ≡ false → SameSeen old new)
+pub steps_rebuilt : (old new : ArrayState) (answer : Rebuild) → RebuildsOne old answer new
+    → (is_broken new ≡ false → SameSeen old new)
     → Steps old RebuildEvent (RebuildOutcome answer) new
 steps_rebuilt old new answer rebuilds seen =
     steps_quiet old new RebuildEvent (RebuildOutcome answer) rebuilds (λ a. refl)

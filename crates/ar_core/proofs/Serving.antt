@@ -1,5 +1,7 @@
 -- What commands do to the sectors of the unit.
-use Rattle.std.proofs.Common.{◌≡◌, ◌≢◌, ◌⊎◌, ℕ, zero, suc, ◌+◌, ◌-◌, ◌*◌, ◌/◌, ◌%◌, ◌<◌, ◌≤◌, Bool, true, false, IsTrue, nat_lt, List, [], ◌∷◌, ◌++◌, length, take, drop, map, Result, Ok, refl, sym, ap, subst, ◌∙◌, inl, inr, true≢false, arith}
+use Rattle.std.proofs.Common.{◌≡◌, ◌≢◌, ◌⊎◌, ℕ, zero, suc, ◌+◌, ◌-◌, ◌*◌, ◌/◌, ◌%◌, ◌<◌, ◌≤◌, Bool, true, false, IsTrue}
+use Rattle.std.proofs.Common.{nat_lt, List, [], ◌∷◌, ◌++◌, length, take, drop, map, Result, Ok, refl, sym, ap, subst}
+use Rattle.std.proofs.Common.{◌∙◌, inl, inr, true≢false, arith}
 use Rattle.std.specs.Prelude.{◌==◌}
 use Rattle.std.specs.List.{range_with_len, concat}
 use Rattle.std.proofs.lemmas.List.{drop-drop, length-append}
@@ -25,7 +27,8 @@ use Rattle.ar_unit.specs.Unit.{Present, Answered, leaving, read_reply, write_ans
 use Rattle.ar_book.specs.Tables.{unit_in, blocks_of as blocks_for}
 use Rattle.ar_cache.specs.Backing.{InTurn, stored}
 use Rattle.ar_volume.specs.Sectors.{sector_in, sectors_in, unit_block, key_of, keys_in}
-use Rattle.ar_volume.specs.Image.{ArrayState, is_broken, geometry_of, seen_at, knows_in, length_at, attention_at, unit_sectors, IsPadded}
+use Rattle.ar_volume.specs.Image.{ArrayState, is_broken, geometry_of, seen_at, knows_in, length_at, attention_at}
+use Rattle.ar_volume.specs.Image.{unit_sectors, IsPadded}
 use Rattle.ar_volume.specs.Following.{ArrayFollows}
 use Rattle.ar_volume.specs.Laws.{follows_refl, places_refl, places_in_turn}
 use Rattle.ar_volume.specs.Seen.{IsUnit, SamePlaces, SameSeen, WritesSectors, present_at, sectors_read}
@@ -35,11 +38,13 @@ use Rattle.ar_volume.specs.Storing.{ReadsBlock, ReadsFirst, StopsStoring, Stores
 use Rattle.ar_disks.specs.declared.completion.Completion.{Completion}
 use Rattle.ar_disks.specs.declared.completion.Completion.TheVariants.{Done as Kept, Broken as Lost}
 use Rattle.ar_disks.proofs.Addresses.{addr_tells}
-use Rattle.ar_volume.proofs.Images.{length-sector_in, length-unit_sectors, map-range-same, map-range-add, present_same, sector_same}
+use Rattle.ar_volume.proofs.Images.{length-sector_in, length-unit_sectors, map-range-same, map-range-add, present_same}
+use Rattle.ar_volume.proofs.Images.{sector_same}
 use Rattle.ar_volume.proofs.Sparing.{kept_sound}
 
 -- what is left of a range
-pub drop-map-range : {X : Type 0} (f : ℕ → X) (a k m : ℕ) → drop k (map f (range_with_len a (k + m))) ≡ map f (range_with_len (a + k) m)
+pub drop-map-range : {X : Type 0} (f : ℕ → X) (a k m : ℕ)
+    → drop k (map f (range_with_len a (k + m))) ≡ map f (range_with_len (a + k) m)
 drop-map-range f a zero m =
     let none : 0 + m ≡ m = omega arith in
     let here : a ≡ a + 0 = omega arith in
@@ -47,14 +52,17 @@ drop-map-range f a zero m =
 drop-map-range f a (suc k) m =
     let count : suc k + m ≡ suc (k + m) = omega arith in
     let next : a + 1 + k ≡ a + suc k = omega arith in
-    ap (λ n. drop (suc k) (map f (range_with_len a n))) count ∙ drop-map-range f (a + 1) k m ∙ ap (λ n. map f (range_with_len n m)) next
+    ap (λ n. drop (suc k) (map f (range_with_len a n))) count ∙ drop-map-range f (a + 1) k m
+    ∙ ap (λ n. map f (range_with_len n m)) next
 
 -- bytes cut into sectors
-pub cut-range : (f : ℕ → List ℕ) (bytes : List ℕ) (a n : ℕ) → ((i : ℕ) → a ≤ i → i < a + n → f i ≡ sectors_at bytes (i - a) 1) → map f (range_with_len a n) ≡ cut 512 n bytes
+pub cut-range : (f : ℕ → List ℕ) (bytes : List ℕ) (a n : ℕ)
+    → ((i : ℕ) → a ≤ i → i < a + n → f i ≡ sectors_at bytes (i - a) 1) → map f (range_with_len a n) ≡ cut 512 n bytes
 cut-range f bytes a zero is = refl
 cut-range f bytes a (suc n) is =
     let here : a - a ≡ 0 = omega arith in
-    ap (λ x. x ∷ map f (range_with_len (a + 1) n)) (is a (omega arith) (omega arith) ∙ ap (λ k. sectors_at bytes k 1) here ∙ sectors_at_is bytes 0 1)
+    ap (λ x. x ∷ map f (range_with_len (a + 1) n)) (is a (omega arith) (omega arith)
+    ∙ ap (λ k. sectors_at bytes k 1) here ∙ sectors_at_is bytes 0 1)
     ∙ ap (λ xs. take 512 bytes ∷ xs)
     (cut-range f (drop 512 bytes) (a + 1) n
     (λ i low high.
@@ -73,35 +81,43 @@ read_range s addr lba count within =
     let whole : n ≡ lba + (n - lba) = omega arith in
     let at : 0 + lba ≡ lba = omega arith in
     ap (λ k. concat (take count (drop lba (map f (range_with_len 0 k))))) whole
-    ∙ ap (λ l. concat (take count l)) (drop-map-range f 0 lba (n - lba) ∙ ap (λ k. map f (range_with_len k (n - lba))) at)
+    ∙ ap (λ l. concat (take count l)) (drop-map-range f 0 lba (n - lba)
+    ∙ ap (λ k. map f (range_with_len k (n - lba))) at)
     ∙ ap concat (take-map-range_with_len f lba (n - lba) count (omega arith))
 
 -- the unit's sectors after a WRITE
 pub written_range : (old new : ℕ → List ℕ) (n lba count : ℕ) (bytes : List ℕ) → lba + count ≤ n
-    → ((i : ℕ) → lba ≤ i → i < lba + count → new i ≡ sectors_at bytes (i - lba) 1) → ((i : ℕ) → (i < lba) ⊎ (lba + count ≤ i) → new i ≡ old i)
+    → ((i : ℕ) → lba ≤ i → i < lba + count → new i ≡ sectors_at bytes (i - lba) 1)
+    → ((i : ℕ) → (i < lba) ⊎ (lba + count ≤ i) → new i ≡ old i)
     → map new (range_with_len 0 n) ≡ written (map old (range_with_len 0 n)) lba count bytes
 written_range old new n lba count bytes within inside outside =
     let rest : ℕ = n - (lba + count) in
     let whole : n ≡ lba + count + rest = omega arith in
     let at : 0 + lba ≡ lba = omega arith in
     let behind : 0 + (lba + count) ≡ lba + count = omega arith in
-    let front : take lba (map old (range_with_len 0 n)) ≡ map old (range_with_len 0 lba) = take-map-range_with_len old 0 n lba (omega arith) in
+    let front : take lba (map old (range_with_len 0 n)) ≡ map old (range_with_len 0 lba) =
+    take-map-range_with_len old 0 n lba (omega arith) in
     let back : drop (lba + count) (map old (range_with_len 0 n)) ≡ map old (range_with_len (lba + count) rest) =
-    ap (λ k. drop (lba + count) (map old (range_with_len 0 k))) whole ∙ drop-map-range old 0 (lba + count) rest ∙ ap (λ k. map old (range_with_len k rest)) behind in
+    ap (λ k. drop (lba + count) (map old (range_with_len 0 k))) whole ∙ drop-map-range old 0 (lba + count) rest
+    ∙ ap (λ k. map old (range_with_len k rest)) behind in
     ap (λ k. map new (range_with_len 0 k)) whole
     ∙ map-range-add new 0 (lba + count) rest
     ∙ ap (λ l. l ++ map new (range_with_len (0 + (lba + count)) rest)) (map-range-add new 0 lba count)
-    ∙ ap (λ k. (map new (range_with_len 0 lba) ++ map new (range_with_len (0 + lba) count)) ++ map new (range_with_len k rest)) behind
-    ∙ ap (λ k. (map new (range_with_len 0 lba) ++ map new (range_with_len k count)) ++ map new (range_with_len (lba + count) rest)) at
+    ∙ ap (λ k. (map new (range_with_len 0 lba) ++ map new (range_with_len (0 + lba) count))
+    ++ map new (range_with_len k rest)) behind
+    ∙ ap (λ k. (map new (range_with_len 0 lba) ++ map new (range_with_len k count))
+    ++ map new (range_with_len (lba + count) rest)) at
     ∙ ap (λ l. (l ++ map new (range_with_len lba count)) ++ map new (range_with_len (lba + count) rest))
     (map-range-same new old 0 lba (λ i low high. outside i (inl (omega arith))) ∙ sym front)
-    ∙ ap (λ l. (take lba (map old (range_with_len 0 n)) ++ l) ++ map new (range_with_len (lba + count) rest)) (cut-range new bytes lba count inside)
+    ∙ ap (λ l. (take lba (map old (range_with_len 0 n)) ++ l) ++ map new (range_with_len (lba + count) rest))
+    (cut-range new bytes lba count inside)
     ∙ ap (λ l. (take lba (map old (range_with_len 0 n)) ++ cut 512 count bytes) ++ l)
     (map-range-same new old (lba + count) rest (λ i low high. outside i (inr low)) ∙ sym back)
 
 -- a reply that isn't BUSY is given
 pub given_same : (reply : Reply) → reply.status ≢ Busy → IsGiven reply reply
-given_same reply served = record { answered = λ _. refl; refused = λ busy. absurd (served busy); memory = λ busy. absurd (served busy) }
+given_same reply served =
+    record { answered = λ _. refl; refused = λ busy. absurd (served busy); memory = λ busy. absurd (served busy) }
 
 pub given_check : (sense : Sense) → IsGiven (check sense) (check sense)
 given_check sense = given_same (check sense) (λ busy. cc)
@@ -131,53 +147,66 @@ serves_quiet s addr table otherwise reply sound broken = record {
 pub serves_check : (s : ArrayState) (addr : Addr) (sense : Sense) (reply : Reply) → reply ≡ check sense
     → Serves s addr (leaving (present_at s addr) (check sense)) (check sense) reply s
 serves_check s addr sense reply is =
-    let given : IsGiven (check sense) reply = subst (λ (r : Reply). IsGiven (check sense) r) (sym is) (given_check sense) in
+    let given : IsGiven (check sense) reply =
+    subst (λ (r : Reply). IsGiven (check sense) r) (sym is) (given_check sense) in
     serves_quiet s addr (check sense) (check sense) reply (λ _. given) (λ _. given)
 
 -- a broken array's answer
-pub serves_broken : (s : ArrayState) (addr : Addr) (table : Answered) (reply : Reply) → IsTrue (is_broken s) → reply ≡ check internal_target_failure
+pub serves_broken : (s : ArrayState) (addr : Addr) (table : Answered) (reply : Reply) → IsTrue (is_broken s)
+    → reply ≡ check internal_target_failure
     → Serves s addr table (check internal_target_failure) reply s
 serves_broken s addr table reply lost is = record {
   follows = follows_refl s;
   sound = λ now. absurd (cc);
   others = λ now. absurd (cc);
-  broken = λ _. subst (λ (r : Reply). IsGiven (check internal_target_failure) r) (sym is) (given_check internal_target_failure);
+  broken = λ _. subst (λ (r : Reply). IsGiven (check internal_target_failure) r) (sym is)
+      (given_check internal_target_failure);
 }
 
-pub read_past : (sectors : List (List ℕ)) (n lba count : ℕ) → length sectors ≡ n → nat_lt n (lba + count) ≡ true → read_reply sectors lba count ≡ check logical_block_address_out_of_range
+pub read_past : (sectors : List (List ℕ)) (n lba count : ℕ) → length sectors ≡ n → nat_lt n (lba + count) ≡ true
+    → read_reply sectors lba count ≡ check logical_block_address_out_of_range
 read_past sectors n lba count len past = rw (len, past) refl
 
-pub read_within : (s : ArrayState) (addr : Addr) (n lba count : ℕ) → length_at s.store.book addr ≡ n → nat_lt n (lba + count) ≡ false → lba + count ≤ n
+pub read_within : (s : ArrayState) (addr : Addr) (n lba count : ℕ) → length_at s.store.book addr ≡ n
+    → nat_lt n (lba + count) ≡ false → lba + count ≤ n
     → read_reply (unit_sectors s addr) lba count ≡ good (sectors_read s addr lba count)
 read_within s addr n lba count len within fits =
     rw (length-unit_sectors s addr ∙ len, within) (ap good (read_range s addr lba count (omega arith)))
 
-pub write_past : (sectors : List (List ℕ)) (mark : Bool) (n lba count : ℕ) (bytes : List ℕ) → length sectors ≡ n → nat_lt n (lba + count) ≡ true
-    → write_answer sectors mark lba count bytes ≡ leaving (Present sectors mark) (check logical_block_address_out_of_range)
+pub write_past : (sectors : List (List ℕ)) (mark : Bool) (n lba count : ℕ) (bytes : List ℕ) → length sectors ≡ n
+    → nat_lt n (lba + count) ≡ true
+    → write_answer sectors mark lba count bytes
+    ≡ leaving (Present sectors mark) (check logical_block_address_out_of_range)
 write_past sectors mark n lba count bytes len past = rw (len, past) refl
 
-pub write_wrong : (sectors : List (List ℕ)) (mark : Bool) (n lba count : ℕ) (bytes : List ℕ) → length sectors ≡ n → nat_lt n (lba + count) ≡ false → length bytes == count * 512 ≡ false
+pub write_wrong : (sectors : List (List ℕ)) (mark : Bool) (n lba count : ℕ) (bytes : List ℕ) → length sectors ≡ n
+    → nat_lt n (lba + count) ≡ false → length bytes == count * 512 ≡ false
     → write_answer sectors mark lba count bytes ≡ leaving (Present sectors mark) (check data_phase_error)
 write_wrong sectors mark n lba count bytes len within wrong = rw (len, within, wrong) refl
 
-pub write_within : (sectors : List (List ℕ)) (mark : Bool) (n lba count : ℕ) (bytes : List ℕ) → length sectors ≡ n → nat_lt n (lba + count) ≡ false → length bytes == count * 512 ≡ true
+pub write_within : (sectors : List (List ℕ)) (mark : Bool) (n lba count : ℕ) (bytes : List ℕ) → length sectors ≡ n
+    → nat_lt n (lba + count) ≡ false → length bytes == count * 512 ≡ true
     → write_answer sectors mark lba count bytes ≡ leaving (Present (written sectors lba count bytes) mark) (good [])
 write_within sectors mark n lba count bytes len within right = rw (len, within, right) refl
 
 -- while the data are there, some sectors have some bytes
-pub sectors_read-some : (s : ArrayState) (addr : Addr) (lba count : ℕ) → ((k : Key) → length (seen_at s k) ≡ block_len_of (geometry_of s)) → 0 < count → sectors_read s addr lba count ≢ []
+pub sectors_read-some : (s : ArrayState) (addr : Addr) (lba count : ℕ)
+    → ((k : Key) → length (seen_at s k) ≡ block_len_of (geometry_of s)) → 0 < count → sectors_read s addr lba count ≢ []
 sectors_read-some s addr lba zero whole some = absurd (omega arith)
 sectors_read-some s addr lba (suc count) whole some = λ none.
     let first : List ℕ = sector_in (geometry_of s) (unit_block (seen_at s) addr) lba in
     let rest : List ℕ = concat (sectors_in (geometry_of s) (unit_block (seen_at s) addr) (lba + 1) count) in
-    let len : length first ≡ 512 = length-sector_in (geometry_of s) (unit_block (seen_at s) addr) lba (λ rb. whole (key_of addr rb)) in
+    let len : length first ≡ 512 =
+    length-sector_in (geometry_of s) (unit_block (seen_at s) addr) lba (λ rb. whole (key_of addr rb)) in
     let parts : length (first ++ rest) ≡ 0 = ap length none in
     omega (arith, length-append first rest)
 
 -- a unit that was read is as it was
-unit_read : (old new : ArrayState) (addr : Addr) → ArrayFollows old new → SameSeen old new → present_at new addr ≡ present_at old addr
+unit_read : (old new : ArrayState) (addr : Addr) → ArrayFollows old new → SameSeen old new
+    → present_at new addr ≡ present_at old addr
 unit_read old new addr follows seen =
-    present_same old new addr (follows.store.units.sectors addr) (follows.store.units.attention addr) follows.store.accessed.follows.geometry (λ k _. seen.same k)
+    present_same old new addr (follows.store.units.sectors addr) (follows.store.units.attention addr)
+    follows.store.accessed.follows.geometry (λ k _. seen.same k)
 
 pub lost_broken : (broken : Bool) → Lost ≡ stored broken → broken ≡ true
 lost_broken true is = refl
@@ -190,18 +219,21 @@ given_as payload reply is =
     (record { answered = λ _. refl; refused = λ e. absurd (cc); memory = λ e. absurd (cc) })
 
 -- how a READ ends
-pub serves_read : (old new : ArrayState) (addr : Addr) (lba count : ℕ) (reply : Reply) (status : Status) → reply.status ≡ status
+pub serves_read : (old new : ArrayState) (addr : Addr) (lba count : ℕ) (reply : Reply) (status : Status)
+    → reply.status ≡ status
     → ArrayFollows old new → sectors_read old addr lba count ≢ []
     → (reply.status ≢ CheckCondition → SameSeen old new) → (reply.status ≢ CheckCondition → is_broken new ≡ false)
     → (reply.status ≡ CheckCondition → IsTrue (is_broken new))
     → (reply.status ≡ Good → reply ≡ good (sectors_read old addr lba count)) → (reply.status ≡ Busy → reply ≡ busy)
     → (reply.status ≡ CheckCondition → reply ≡ check internal_target_failure)
-    → Serves old addr (leaving (present_at old addr) (good (sectors_read old addr lba count))) (check internal_target_failure) reply new
+    → Serves old addr (leaving (present_at old addr) (good (sectors_read old addr lba count)))
+    (check internal_target_failure) reply new
 serves_read old new addr lba count reply CheckCondition is follows some seen sound broken done refused failed = record {
   follows = follows;
   sound = λ now. (let gone = broken is in absurd (cc));
   others = λ now. (let gone = broken is in absurd (cc));
-  broken = λ now. subst (λ (r : Reply). IsGiven (check internal_target_failure) r) (sym (failed is)) (given_check internal_target_failure);
+  broken = λ now. subst (λ (r : Reply). IsGiven (check internal_target_failure) r) (sym (failed is))
+      (given_check internal_target_failure);
 }
 serves_read old new addr lba count reply Good is follows some seen sound broken done refused failed =
     let here : SameSeen old new = seen (λ e. cc) in
@@ -222,7 +254,8 @@ serves_read old new addr lba count reply Busy is follows some seen sound broken 
     record {
       follows = follows;
       sound = λ now. record {
-        given = subst (λ (r : Reply). IsGiven (good (sectors_read old addr lba count)) r) (sym (refused is)) (given_busy (sectors_read old addr lba count) some);
+        given = subst (λ (r : Reply). IsGiven (good (sectors_read old addr lba count)) r) (sym (refused is))
+            (given_busy (sectors_read old addr lba count) some);
         left = λ _. same;
         unchanged = λ _. same;
       };
@@ -231,23 +264,32 @@ serves_read old new addr lba count reply Busy is follows some seen sound broken 
     }
 
 -- how a WRITE ends
-pub serves_write : (old new : ArrayState) (addr : Addr) (lba count : ℕ) (bytes : List ℕ) (answer : Completion) (reply : Reply)
+pub serves_write : (old new : ArrayState) (addr : Addr) (lba count : ℕ) (bytes : List ℕ) (answer : Completion)
+    (reply : Reply)
     → ArrayFollows old new → lba + count ≤ length_at old.store.book addr → answer ≡ stored (is_broken new)
     → (answer ≡ Kept → WritesSectors old addr lba count bytes new)
     → (answer ≡ Kept → reply ≡ good []) → (answer ≡ Lost → reply ≡ check internal_target_failure)
-    → Serves old addr (leaving (Present (written (unit_sectors old addr) lba count bytes) (attention_at old.store.book addr)) (good [])) (check internal_target_failure) reply new
+    → Serves old addr
+    (leaving (Present (written (unit_sectors old addr) lba count bytes) (attention_at old.store.book addr)) (good []))
+    (check internal_target_failure) reply new
 serves_write old new addr lba count bytes Kept reply follows within answer writes done lost =
     let w : WritesSectors old addr lba count bytes new = writes refl in
     let sound : is_broken new ≡ false = kept_sound (is_broken new) answer in
     let sectors : unit_sectors new addr ≡ written (unit_sectors old addr) lba count bytes =
-    ap (λ (g : Geometry). map (sector_in g (unit_block (seen_at new) addr)) (range_with_len 0 (length_at new.store.book addr))) follows.store.accessed.follows.geometry
-    ∙ ap (λ n. map (sector_in (geometry_of old) (unit_block (seen_at new) addr)) (range_with_len 0 n)) (follows.store.units.sectors addr)
-    ∙ written_range (sector_in (geometry_of old) (unit_block (seen_at old) addr)) (sector_in (geometry_of old) (unit_block (seen_at new) addr)) (length_at old.store.book addr) lba count bytes within w.inside w.outside in
+    ap (λ (g : Geometry). map (sector_in g (unit_block (seen_at new) addr))
+    (range_with_len 0 (length_at new.store.book addr))) follows.store.accessed.follows.geometry
+    ∙ ap (λ n. map (sector_in (geometry_of old) (unit_block (seen_at new) addr)) (range_with_len 0 n))
+    (follows.store.units.sectors addr)
+    ∙ written_range (sector_in (geometry_of old) (unit_block (seen_at old) addr))
+    (sector_in (geometry_of old) (unit_block (seen_at new) addr)) (length_at old.store.book addr) lba count bytes
+    within w.inside w.outside in
     record {
       follows = follows;
       sound = λ now. record {
         given = subst (λ (r : Reply). IsGiven (good []) r) (sym (done refl)) given_good;
-        left = λ _. ap (λ l. Present l (attention_at new.store.book addr)) sectors ∙ ap (λ m. Present (written (unit_sectors old addr) lba count bytes) m) (follows.store.units.attention addr);
+        left = λ _. ap (λ l. Present l (attention_at new.store.book addr)) sectors
+            ∙ ap (λ m. Present (written (unit_sectors old addr) lba count bytes) m)
+            (follows.store.units.attention addr);
         unchanged = λ busy. (let told = done refl in absurd (busy_good reply told busy));
       };
       others = λ now k other. w.others k other;
@@ -259,7 +301,8 @@ serves_write old new addr lba count bytes Lost reply follows within answer write
       follows = follows;
       sound = λ now. absurd (cc);
       others = λ now. absurd (cc);
-      broken = λ now. subst (λ (r : Reply). IsGiven (check internal_target_failure) r) (sym (lost refl)) (given_check internal_target_failure);
+      broken = λ now. subst (λ (r : Reply). IsGiven (check internal_target_failure) r) (sym (lost refl))
+          (given_check internal_target_failure);
     }
 
 pub same_false : (a b : ℕ) → a ≢ b → a == b ≡ false
@@ -275,7 +318,8 @@ no_more : (n : ℕ) → nat_lt 0 n ≡ false → n ≡ 0
 no_more n test = grind (arith, nat_tests)
 
 -- the blocks of no sector were read
-pub first_none : (s : ArrayState) (addr : Addr) (lba count : ℕ) → ReadsFirst ReadsBlock (geometry_of s) addr lba count s s
+pub first_none : (s : ArrayState) (addr : Addr) (lba count : ℕ)
+    → ReadsFirst ReadsBlock (geometry_of s) addr lba count s s
 first_none s addr lba count = record { many = 0; within = omega arith; in_turn = refl }
 
 -- a command that has changed nothing
@@ -297,7 +341,8 @@ settles_same s addr command reply no_write no_read = record {
 }
 
 -- a command was refused, or met a broken array
-pub settles_check : (s : ArrayState) (addr : Addr) (command : Result Command Sense) (sense : Sense) (reply : Reply) → reply ≡ check sense → Settles s addr command reply s
+pub settles_check : (s : ArrayState) (addr : Addr) (command : Result Command Sense) (sense : Sense) (reply : Reply)
+    → reply ≡ check sense → Settles s addr command reply s
 settles_check s addr command sense reply is =
     settles_same s addr command reply (λ lba count fua _ good. not_good good) (λ lba count _ good. not_good good)
   where
@@ -305,7 +350,8 @@ settles_check s addr command sense reply is =
     not_good good = let status = sym (ap (λ (r : Reply). r.status) is) ∙ good in cc
 
 -- the blocks of no sector are none
-read_none : (old new : ArrayState) (addr : Addr) (lba count : ℕ) → count ≡ 0 → ReadsFirst ReadsBlock (geometry_of old) addr lba count old new → new ≡ old
+read_none : (old new : ArrayState) (addr : Addr) (lba count : ℕ) → count ≡ 0
+    → ReadsFirst ReadsBlock (geometry_of old) addr lba count old new → new ≡ old
 read_none old new addr lba count none first =
     let many : first.many ≡ 0 = omega (arith, first.within, none) in
     subst (λ n. InTurn ReadsBlock (keys_in (geometry_of old) addr lba n) old new) many first.in_turn
@@ -314,7 +360,8 @@ abbrev read_of : ℕ → ℕ → Result Command Sense
 read_of lba count = Ok (Read lba count)
 
 first_same : (addr : Addr) (lba count l n : ℕ) (old new : ArrayState) → read_of lba count ≡ read_of l n
-    → ReadsFirst ReadsBlock (geometry_of old) addr lba count old new → ReadsFirst ReadsBlock (geometry_of old) addr l n old new
+    → ReadsFirst ReadsBlock (geometry_of old) addr lba count old new
+    → ReadsFirst ReadsBlock (geometry_of old) addr l n old new
 first_same addr lba count l n old new is first =
     let at : lba ≡ l = cc in
     let many : count ≡ n = cc in
@@ -322,7 +369,8 @@ first_same addr lba count l n old new is first =
     (subst (λ k. ReadsFirst ReadsBlock (geometry_of old) addr k count old new) at first)
 
 got_same : (addr : Addr) (lba count l n : ℕ) (old new : ArrayState) → read_of lba count ≡ read_of l n
-    → InTurn ReadsBlock (keys_in (geometry_of old) addr lba count) old new → InTurn ReadsBlock (keys_in (geometry_of old) addr l n) old new
+    → InTurn ReadsBlock (keys_in (geometry_of old) addr lba count) old new
+    → InTurn ReadsBlock (keys_in (geometry_of old) addr l n) old new
 got_same addr lba count l n old new is got =
     let at : lba ≡ l = cc in
     let many : count ≡ n = cc in
@@ -344,7 +392,11 @@ settles_read old new addr lba count reply sound first got busy failed = record {
   busy = λ _. places;
   begun = λ l n is. first_same addr lba count l n old new is first;
   got = λ l n is good. got_same addr lba count l n old new is (got good);
-  busy_read = λ l n is status. elim (busy status) [ inl same ↦ inl same | inr all ↦ inr (got_same addr lba count l n old new is all) ];
+  busy_read = λ l n is status. elim (busy status) [
+    | inl same ↦ inl same
+    | inr all ↦
+        inr (got_same addr lba count l n old new is all)
+  ];
   forced = λ l n is good. absurd (cc);
   stored = λ l n fua is good. absurd (cc);
   stopped = λ l n fua is now gone. absurd (cc);
@@ -361,18 +413,23 @@ block_counted Small rb n within = omega arith
 below : (a b : ℕ) → a < b → nat_lt a b ≡ true
 below a b lt = grind (arith, nat_tests)
 
-pub key_known : (s : ArrayState) (addr : Addr) (n rb : ℕ) → IsUnit s addr n → rb * sectors_of (geometry_of s) < n → knows_in s.store (key_of addr rb) ≡ true
+pub key_known : (s : ArrayState) (addr : Addr) (n rb : ℕ) → IsUnit s addr n → rb * sectors_of (geometry_of s) < n
+    → knows_in s.store (key_of addr rb) ≡ true
 key_known s addr n rb unit within =
     let counted : rb < blocks_for (geometry_of s) n = block_counted (geometry_of s) rb n within in
     below rb (length (unit_in s.store.book.units addr).homes) (omega (arith, unit.blocks))
 
 -- a transfer's sectors, in the array's own geometry
-pub range_written : (old new : ArrayState) (addr : Addr) (lba count : ℕ) (bytes : List ℕ) (g : Geometry) → g ≡ geometry_of old
-    → ((i : ℕ) → lba ≤ i → i < lba + count → sector_in g (unit_block (seen_at new) addr) i ≡ sectors_at bytes (i - lba) 1)
-    → ((i : ℕ) → (i < lba) ⊎ (lba + count ≤ i) → sector_in g (unit_block (seen_at new) addr) i ≡ sector_in g (unit_block (seen_at old) addr) i)
+pub range_written : (old new : ArrayState) (addr : Addr) (lba count : ℕ) (bytes : List ℕ) (g : Geometry)
+    → g ≡ geometry_of old
+    → ((i : ℕ) → lba ≤ i → i < lba + count → sector_in g (unit_block (seen_at new) addr) i
+    ≡ sectors_at bytes (i - lba) 1)
+    → ((i : ℕ) → (i < lba) ⊎ (lba + count ≤ i) → sector_in g (unit_block (seen_at new) addr) i
+    ≡ sector_in g (unit_block (seen_at old) addr) i)
     → ((k : Key) → k.addr ≢ addr → seen_at new k ≡ seen_at old k) → WritesSectors old addr lba count bytes new
 range_written old new addr lba count bytes g shape inside outside others = record {
-  inside = λ i low high. ap (λ (h : Geometry). sector_in h (unit_block (seen_at new) addr) i) (sym shape) ∙ inside i low high;
+  inside = λ i low high. ap (λ (h : Geometry). sector_in h (unit_block (seen_at new) addr) i) (sym shape)
+      ∙ inside i low high;
   outside = λ i apart.
       ap (λ (h : Geometry). sector_in h (unit_block (seen_at new) addr) i) (sym shape)
       ∙ outside i apart
@@ -381,8 +438,10 @@ range_written old new addr lba count bytes g shape inside outside others = recor
 }
 
 -- what was not written past the unit's end is zeros still
-pub padded_written : (old new : ArrayState) (addr : Addr) (n lba count : ℕ) (bytes : List ℕ) (answer : Completion) → IsPadded old → IsUnit old addr n → lba + count ≤ n
-    → is_broken old ≡ false → ArrayFollows old new → answer ≡ stored (is_broken new) → (answer ≡ Kept → WritesSectors old addr lba count bytes new) → IsPadded new
+pub padded_written : (old new : ArrayState) (addr : Addr) (n lba count : ℕ) (bytes : List ℕ) (answer : Completion)
+    → IsPadded old → IsUnit old addr n → lba + count ≤ n
+    → is_broken old ≡ false → ArrayFollows old new → answer ≡ stored (is_broken new)
+    → (answer ≡ Kept → WritesSectors old addr lba count bytes new) → IsPadded new
 padded_written old new addr n lba count bytes answer padded unit within sound follows told writes = record {
   zeros = λ now b i past.
       (let w : WritesSectors old addr lba count bytes new = writes (told ∙ ap stored now) in
@@ -403,7 +462,8 @@ padded_written old new addr n lba count bytes answer padded unit within sound fo
 }
 
 -- writes that were then forced are the same writes
-pub writes_then : (old mid new : ArrayState) (addr : Addr) (lba count : ℕ) (bytes : List ℕ) → WritesSectors old addr lba count bytes mid → SameSeen mid new → WritesSectors old addr lba count bytes new
+pub writes_then : (old mid new : ArrayState) (addr : Addr) (lba count : ℕ) (bytes : List ℕ)
+    → WritesSectors old addr lba count bytes mid → SameSeen mid new → WritesSectors old addr lba count bytes new
 unfolding sector_in
 writes_then old mid new addr lba count bytes w seen = record {
   inside = λ i low high. same i ∙ w.inside i low high;
@@ -411,41 +471,51 @@ writes_then old mid new addr lba count bytes w seen = record {
   others = λ k other. seen.same k ∙ w.others k other;
 }
   where
-    same : (i : ℕ) → sector_in (geometry_of old) (unit_block (seen_at new) addr) i ≡ sector_in (geometry_of old) (unit_block (seen_at mid) addr) i
-    same i = ap (λ b. sectors_at b (i % sectors_of (geometry_of old)) 1) (seen.same (key_of addr (i / sectors_of (geometry_of old))))
+    same : (i : ℕ) → sector_in (geometry_of old) (unit_block (seen_at new) addr) i
+        ≡ sector_in (geometry_of old) (unit_block (seen_at mid) addr) i
+    same i = ap (λ b. sectors_at b (i % sectors_of (geometry_of old)) 1)
+        (seen.same (key_of addr (i / sectors_of (geometry_of old))))
 
 abbrev write_of : ℕ → ℕ → Bool → Result Command Sense
 write_of lba count fua = Ok (Write lba count fua)
 
-forced_same : (addr : Addr) (lba count l n : ℕ) (new : ArrayState) (fua : Bool) → write_of lba count fua ≡ write_of l n true → (IsTrue fua → IsForced new addr lba count) → IsForced new addr l n
+forced_same : (addr : Addr) (lba count l n : ℕ) (new : ArrayState) (fua : Bool)
+    → write_of lba count fua ≡ write_of l n true → (IsTrue fua → IsForced new addr lba count) → IsForced new addr l n
 forced_same addr lba count l n new fua is forced =
     let first : lba ≡ l = cc in
     let many : count ≡ n = cc in
     let set : fua ≡ true = cc in
     subst (λ k. IsForced new addr l k) many (subst (λ k. IsForced new addr k count) first (forced set))
 
-stored_same : (addr : Addr) (lba count l n : ℕ) (old new : ArrayState) (fua f : Bool) → write_of lba count fua ≡ write_of l n f
+stored_same : (addr : Addr) (lba count l n : ℕ) (old new : ArrayState) (fua f : Bool)
+    → write_of lba count fua ≡ write_of l n f
     → StoresBlocks addr lba count fua old new → StoresBlocks addr l n f old new
 stored_same addr lba count l n old new fua f is stored =
     let first : lba ≡ l = cc in
     let many : count ≡ n = cc in
     let same : fua ≡ f = cc in
     subst (λ b. StoresBlocks addr l n b old new) same
-    (subst (λ k. StoresBlocks addr l k fua old new) many (subst (λ k. StoresBlocks addr k count fua old new) first stored))
+    (subst (λ k. StoresBlocks addr l k fua old new) many
+    (subst (λ k. StoresBlocks addr k count fua old new) first stored))
 
-stopped_same : (addr : Addr) (lba count l n : ℕ) (old new : ArrayState) (fua f : Bool) → write_of lba count fua ≡ write_of l n f
+stopped_same : (addr : Addr) (lba count l n : ℕ) (old new : ArrayState) (fua f : Bool)
+    → write_of lba count fua ≡ write_of l n f
     → StopsStoring addr lba count fua old new → StopsStoring addr l n f old new
 stopped_same addr lba count l n old new fua f is stopped =
     let first : lba ≡ l = cc in
     let many : count ≡ n = cc in
     let same : fua ≡ f = cc in
     subst (λ b. StopsStoring addr l n b old new) same
-    (subst (λ k. StopsStoring addr l k fua old new) many (subst (λ k. StopsStoring addr k count fua old new) first stopped))
+    (subst (λ k. StopsStoring addr l k fua old new) many
+    (subst (λ k. StopsStoring addr k count fua old new) first stopped))
 
 -- a WRITE that was not refused
-pub settles_write : (old new : ArrayState) (addr : Addr) (lba count : ℕ) (fua : Bool) (answer : Completion) (reply : Reply) → is_broken old ≡ false
-    → (answer ≡ Kept → reply ≡ good []) → (answer ≡ Lost → reply ≡ check internal_target_failure) → (answer ≡ Kept → IsTrue fua → IsForced new addr lba count)
-    → (answer ≡ Kept → StoresBlocks addr lba count fua old new) → answer ≡ stored (is_broken new) → (answer ≡ Lost → StopsStoring addr lba count fua old new)
+pub settles_write : (old new : ArrayState) (addr : Addr) (lba count : ℕ) (fua : Bool) (answer : Completion)
+    (reply : Reply) → is_broken old ≡ false
+    → (answer ≡ Kept → reply ≡ good []) → (answer ≡ Lost → reply ≡ check internal_target_failure)
+    → (answer ≡ Kept → IsTrue fua → IsForced new addr lba count)
+    → (answer ≡ Kept → StoresBlocks addr lba count fua old new) → answer ≡ stored (is_broken new)
+    → (answer ≡ Lost → StopsStoring addr lba count fua old new)
     → (count ≡ 0 → new ≡ old) → Settles old addr (Ok (Write lba count fua)) reply new
 settles_write old new addr lba count fua Kept reply sound done lost forced stores told stops none = record {
   still = λ nothing. none (no_more count nothing);

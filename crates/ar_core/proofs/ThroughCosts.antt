@@ -1,5 +1,7 @@
 -- What a WRITE costs in numbers, while all disks are present and nothing is cached: each of its blocks is one put.
-use Rattle.std.proofs.Common.{◌≡◌, inl, inr, ℕ, zero, suc, ◌-◌, ◌<◌, ◌≤◌, Bool, true, false, if◌then◌else◌, Option, Some, None, is_some, List, [], ◌∷◌, ◌++◌, length, take, drop, refl, sym, ap, subst, ◌∙◌, arith}
+use Rattle.std.proofs.Common.{◌≡◌, inl, inr, ℕ, zero, suc, ◌-◌, ◌<◌, ◌≤◌, Bool, true, false, if◌then◌else◌, Option}
+use Rattle.std.proofs.Common.{Some, None, is_some, List, [], ◌∷◌, ◌++◌, length, take, drop, refl, sym, ap, subst, ◌∙◌}
+use Rattle.std.proofs.Common.{arith}
 use Rattle.std.specs.Prelude.{All, nat_lt, slice_index_or}
 use Rattle.std.specs.Map.{keys_of, lookup, remove_entry}
 use Rattle.ar_disks.specs.declared.address.Addr.{Addr}
@@ -23,11 +25,13 @@ use Rattle.ar_store.proofs.PutCosts.{put_to_mirrored, put_to_parity}
 use Rattle.ar_store.proofs.SqueezeCosts.{made_none, made_then}
 use Rattle.ar_store.proofs.Ways.{parity_not_mirrored, unplaced_not_parity}
 use Rattle.ar_cache.specs.Backing.{InTurn}
-use Rattle.ar_cache.specs.Cache.{CacheState, TakesIn, same_key, cached, with_entries, with_room, without_key, last_keys, giving_way, pushed_out, put_through}
+use Rattle.ar_cache.specs.Cache.{CacheState, TakesIn, same_key, cached, with_entries, with_room, without_key, last_keys}
+use Rattle.ar_cache.specs.Cache.{giving_way, pushed_out, put_through}
 use Rattle.ar_volume.specs.Following.{PutsStored}
 use Rattle.ar_volume.specs.Image.{ArrayState, geometry_of, seen_at}
 use Rattle.ar_volume.specs.Sectors.{keys_in}
-use Rattle.ar_volume.specs.Storing.{ReadsBlock, PutsBlock, ForcesBlock, Overwrites, Replaces, StoresBlocks, destaged, is_whole}
+use Rattle.ar_volume.specs.Storing.{ReadsBlock, PutsBlock, ForcesBlock, Overwrites, Replaces, StoresBlocks, destaged}
+use Rattle.ar_volume.specs.Storing.{is_whole}
 use Rattle.ar_core.specs.WriteCosts.{for_each, WritesThrough, AreMirrored, StayAtParity}
 use Rattle.ar_core.proofs.WriteCosts.{Grow, calm_first, calm_last, block_grows, block_costs, blocks_grow, forced_grow}
 
@@ -54,18 +58,22 @@ either_none false = refl
 -- nothing is evicted
 none_pushed : (c : CacheState) (k : Key) → c.entries ≡ [] → pushed_out c k ≡ []
 none_pushed c k empty =
-    ap (λ (o : Option (List ℕ)). if is_some o then (let l : List Key = [] in l) else giving_way c) (none_cached c k empty)
-    ∙ ap (λ (es : List (Key × List ℕ)). if nat_lt (length es) c.capacity then (let l : List Key = [] in l) else last_keys es) empty
+    ap (λ (o : Option (List ℕ)). if is_some o then (let l : List Key = [] in l) else giving_way c)
+    (none_cached c k empty)
+    ∙ ap (λ (es : List (Key × List ℕ)). if nat_lt (length es)
+    c.capacity then (let l : List Key = [] in l) else last_keys es) empty
     ∙ either_none (nat_lt 0 c.capacity)
 
 -- the block itself is written through
 one_destaged : (old new : CacheState) (k : Key) → old.entries ≡ [] → new.entries ≡ [] → destaged old k new ≡ k ∷ []
 one_destaged old new k before after =
     ap (λ l. l ++ put_through new k) (none_pushed old k before)
-    ∙ ap (λ (o : Option (List ℕ)). if is_some o then (let l : List Key = [] in l) else (k ∷ [])) (none_cached new k after)
+    ∙ ap (λ (o : Option (List ℕ)). if is_some o then (let l : List Key = [] in l) else (k ∷ []))
+    (none_cached new k after)
 
 -- nothing is cached by a put
-stays_empty : (a : ArrayState) (k : Key) (b : ArrayState) → IsThrough a → PutsBlock a k b → (b.cache.entries ≡ []) × (b.cache.capacity ≡ 0)
+stays_empty : (a : ArrayState) (k : Key) (b : ArrayState) → IsThrough a → PutsBlock a k b
+    → (b.cache.entries ≡ []) × (b.cache.capacity ≡ 0)
 stays_empty a k b through put = elim (put.absent (none_cached a.cache k through.empty)) [
   | inl taken ↦ absurd (
       let P : CacheState → Type 0 = λ c. length c.entries ≤ c.capacity in
@@ -81,10 +89,12 @@ stays_empty a k b through put = elim (put.absent (none_cached a.cache k through.
 one_put : (a : ArrayState) (k : Key) (b : ArrayState) → IsThrough a → PutsBlock a k b → PutsStored a.store k b.store
 one_put a k b through put =
     let empty = (stays_empty a k b through put).0 in
-    let puts = subst (λ ks. InTurn PutsStored ks a.store b.store) (one_destaged a.cache b.cache k through.empty empty) put.stored in
+    let puts = subst (λ ks. InTurn PutsStored ks a.store b.store) (one_destaged a.cache b.cache k through.empty empty)
+    put.stored in
     subst (λ (s : StoreState). PutsStored a.store k s) (sym puts.2) puts.1
 
-still_through : (a : ArrayState) (k : Key) (b : ArrayState) → IsThrough a → PutsBlock a k b → NoneFaults a.store.disks b.store.disks → IsThrough b
+still_through : (a : ArrayState) (k : Key) (b : ArrayState) → IsThrough a → PutsBlock a k b
+    → NoneFaults a.store.disks b.store.disks → IsThrough b
 still_through a k b through put none =
     let empty = stays_empty a k b through put in
     record { healthy = (block_costs a k b put none).health ∙ through.healthy; capacity = empty.1; empty = empty.0 }
@@ -93,11 +103,14 @@ still_through a k b through put none =
 module _ (P : Tables → Key → Type 0) (kinds : List AccessKind)
     (stamps : (t : Tables) (k : Key) (new : Tables) → P t k → Puts t k new → new ≡ stamped t k)
     (stays : (t : Tables) (k j : Key) → P t j → P (stamped t k) j)
-    (makes : (a b : StoreState) (k : Key) → a.disks.health ≡ Whole → NoneFaults a.disks b.disks → P a.book k → PutsStored a k b
+    (makes : (a b : StoreState) (k : Key) → a.disks.health ≡ Whole → NoneFaults a.disks b.disks → P a.book k
+    → PutsStored a k b
     → MakesAccesses kinds a.disks b.disks) where
-  all_stay : (keys : List Key) (a b : StoreState) (k : Key) → P a.book k → PutsStored a k b → All (P a.book) keys → All (P b.book) keys
+  all_stay : (keys : List Key) (a b : StoreState) (k : Key) → P a.book k → PutsStored a k b → All (P a.book) keys
+      → All (P b.book) keys
   all_stay keys a b k this put all = λ i d lt.
-      subst (λ (t : Tables). P t (slice_index_or keys i d)) (sym (stamps a.book k b.book this put.tables)) (stays a.book k (slice_index_or keys i d) (all i d lt))
+      subst (λ (t : Tables). P t (slice_index_or keys i d)) (sym (stamps a.book k b.book this put.tables))
+      (stays a.book k (slice_index_or keys i d) (all i d lt))
 
   through_turns : (g : Geometry) (lba count : ℕ) (keys : List Key) (a b : ArrayState) → IsThrough a
       → All (λ key. is_whole g lba count key ≡ true) keys → All (P a.store.book) keys
@@ -118,7 +131,8 @@ module _ (P : Tables → Key → Type 0) (kinds : List AccessKind)
       let next = still_through a k mid through put calm in
       let rest_whole : All (λ key. is_whole g lba count key ≡ true) rest = λ i d lt. whole (suc i) d (omega arith) in
       let rest_all : All (P a.store.book) rest = λ i d lt. all (suc i) d (omega arith) in
-      let last = through_turns g lba count rest mid b next rest_whole (all_stay rest a.store mid.store k this stored rest_all) turns.2
+      let last = through_turns g lba count rest mid b next rest_whole
+      (all_stay rest a.store mid.store k this stored rest_all) turns.2
       (calm_last a.store.disks mid.store.disks b.store.disks here later none) in (
         made_then kinds (for_each rest kinds) a.store.disks mid.store.disks b.store.disks
             (makes a.store mid.store k through.healthy calm this stored) last.0,
@@ -135,32 +149,40 @@ module _ (P : Tables → Key → Type 0) (kinds : List AccessKind)
       let next : IsThrough mid = record {
         healthy = ap (λ (s : StoreState). s.disks.health) same ∙ through.healthy;
         capacity = ap (λ (c : CacheState). c.capacity) force.entries ∙ through.capacity;
-        empty = ap (λ (c : CacheState). c.entries) force.entries ∙ ap (λ (es : List (Key × List ℕ)). without_key es k) through.empty;
+        empty = ap (λ (c : CacheState). c.entries) force.entries
+            ∙ ap (λ (es : List (Key × List ℕ)). without_key es k) through.empty;
       } in
       none_forced rest mid b next turns.2 ∙ same
 
-  through_write : (addr : Addr) (lba count : ℕ) (fua : Bool) (old new : ArrayState) → StoresBlocks addr lba count fua old new
+  through_write : (addr : Addr) (lba count : ℕ) (fua : Bool) (old new : ArrayState)
+      → StoresBlocks addr lba count fua old new
       → NoneFaults old.store.disks new.store.disks → WritesThrough addr lba count old
       → All (P old.store.book) (keys_in (geometry_of old) addr lba count)
       → MakesAccesses (for_each (keys_in (geometry_of old) addr lba count) kinds) old.store.disks new.store.disks
   through_write addr lba count false old new stores none through all =
-      let is : IsThrough old = record { healthy = through.healthy; capacity = through.capacity; empty = through.empty } in
-      (through_turns (geometry_of old) lba count (keys_in (geometry_of old) addr lba count) old new is through.whole all stores none).0
+      let is : IsThrough old =
+      record { healthy = through.healthy; capacity = through.capacity; empty = through.empty } in
+      (through_turns (geometry_of old) lba count (keys_in (geometry_of old) addr lba count) old new is through.whole all
+      stores none).0
   through_write addr lba count true old new stores none through all =
-      let is : IsThrough old = record { healthy = through.healthy; capacity = through.capacity; empty = through.empty } in
+      let is : IsThrough old =
+      record { healthy = through.healthy; capacity = through.capacity; empty = through.empty } in
       let keys = keys_in (geometry_of old) addr lba count in
       let put = stores.0 in
       let here = blocks_grow (geometry_of old) lba count keys old put stores.1 in
       let later = forced_grow keys put new stores.2 in
       let first = through_turns (geometry_of old) lba count keys old put is through.whole all stores.1
       (calm_first old.store.disks put.store.disks new.store.disks here later none) in
-      subst (λ (s : StoreState). MakesAccesses (for_each keys kinds) old.store.disks s.disks) (sym (none_forced keys put new first.1 stores.2)) first.0
+      subst (λ (s : StoreState). MakesAccesses (for_each keys kinds) old.store.disks s.disks)
+      (sym (none_forced keys put new first.1 stores.2)) first.0
 
 -- mirrored blocks stay mirrored, and each costs two writes
-pub mirrored_write : (addr : Addr) (lba count : ℕ) (fua : Bool) (old new : ArrayState) → StoresBlocks addr lba count fua old new
+pub mirrored_write : (addr : Addr) (lba count : ℕ) (fua : Bool) (old new : ArrayState)
+    → StoresBlocks addr lba count fua old new
     → NoneFaults old.store.disks new.store.disks → WritesThrough addr lba count old
     → AreMirrored old.store.book (keys_in (geometry_of old) addr lba count)
-    → MakesAccesses (for_each (keys_in (geometry_of old) addr lba count) (Write ∷ Write ∷ [])) old.store.disks new.store.disks
+    → MakesAccesses (for_each (keys_in (geometry_of old) addr lba count) (Write ∷ Write ∷ [])) old.store.disks
+    new.store.disks
 mirrored_write =
     through_write (λ t k. level t k ≡ MirroredLevel) (Write ∷ Write ∷ [])
     (λ t k new at puts. puts.mirrored at)
@@ -175,17 +197,25 @@ record StaysLow (t : Tables) (k : Key) : Type 0 where
 
 stamped_none : (t : Tables) (k : Key) → HasNoHole t Mirrored → HasNoHole (stamped t k) Mirrored
 stamped_none t k none = record {
-  none = λ s hole. none.none s (record { group = hole.group; class = hole.class; slot = hole.slot; empty = hole.empty });
+  none = λ s hole. none.none s
+      (record { group = hole.group; class = hole.class; slot = hole.slot; empty = hole.empty });
 }
 
-pub parity_write : (addr : Addr) (lba count : ℕ) (fua : Bool) (old new : ArrayState) → StoresBlocks addr lba count fua old new
+pub parity_write : (addr : Addr) (lba count : ℕ) (fua : Bool) (old new : ArrayState)
+    → StoresBlocks addr lba count fua old new
     → NoneFaults old.store.disks new.store.disks → WritesThrough addr lba count old
     → StayAtParity old.store.book (keys_in (geometry_of old) addr lba count)
-    → MakesAccesses (for_each (keys_in (geometry_of old) addr lba count) (Read ∷ Read ∷ Write ∷ Write ∷ [])) old.store.disks new.store.disks
+    → MakesAccesses (for_each (keys_in (geometry_of old) addr lba count) (Read ∷ Read ∷ Write ∷ Write ∷ []))
+    old.store.disks new.store.disks
 parity_write addr lba count fua old new stores calm through stay =
     through_write StaysLow (Read ∷ Read ∷ Write ∷ Write ∷ [])
     (λ t k new low puts. puts.parity low.at_level low.none low.few)
-    (λ t k j low. record { at_level = stamped_level t k j ∙ low.at_level; none = stamped_none t k low.none; few = low.few })
+    (λ t k j low. record {
+      at_level = stamped_level t k j
+          ∙ low.at_level;
+      none = stamped_none t k low.none;
+      few = low.few;
+    })
     (λ a b k whole none low put. put_to_parity a b k whole none put.plan
     (record { low = λ high. parity_not_mirrored (sym low.at_level ∙ high); none = low.none; few = low.few })
     (record { way = λ unplaced n full few. unplaced_not_parity (sym unplaced ∙ low.at_level) }))

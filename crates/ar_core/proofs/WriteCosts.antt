@@ -1,6 +1,7 @@
--- What a WRITE costs where no disk faults: the reads of the blocks that it covers in part, and the puts of those that are
--- destaged.
-use Rattle.std.proofs.Common.{◌≡◌, ◌≢◌, inl, inr, ℕ, ◌+◌, ◌≤◌, Bool, true, false, Option, Some, None, IsSome, is_some, List, [], ◌∷◌, ◌++◌, refl, sym, ap, subst, ◌∙◌, arith}
+-- What a WRITE costs where no disk faults: the reads of the blocks that it covers in part, and the puts of those that
+-- are destaged.
+use Rattle.std.proofs.Common.{◌≡◌, ◌≢◌, inl, inr, ℕ, ◌+◌, ◌≤◌, Bool, true, false, Option, Some, None, IsSome, is_some}
+use Rattle.std.proofs.Common.{List, [], ◌∷◌, ◌++◌, refl, sym, ap, subst, ◌∙◌, arith}
 use Rattle.std.proofs.lemmas.List.{append-nil, append_assoc}
 use Rattle.std.proofs.lemmas.Option.{none-some}
 use Rattle.ar_disks.specs.declared.address.Addr.{Addr}
@@ -21,9 +22,11 @@ use Rattle.ar_cache.specs.Cache.{cached}
 use Rattle.ar_volume.specs.Following.{PutsStored}
 use Rattle.ar_volume.specs.Image.{ArrayState, geometry_of}
 use Rattle.ar_volume.specs.Sectors.{keys_in}
-use Rattle.ar_volume.specs.Storing.{ReadsBlock, PutsBlock, ForcesBlock, Overwrites, Replaces, StoresBlocks, destaged, is_whole}
+use Rattle.ar_volume.specs.Storing.{ReadsBlock, PutsBlock, ForcesBlock, Overwrites, Replaces, StoresBlocks, destaged}
+use Rattle.ar_volume.specs.Storing.{is_whole}
 use Rattle.ar_core.specs.Costs.{block_reads}
-use Rattle.ar_core.specs.WriteCosts.{MakesInTurn, PutMakes, BlockReadMakes, BlockPutMakes, OverwriteMakes, ForceMakes, WriteMakes, CostsExactly}
+use Rattle.ar_core.specs.WriteCosts.{MakesInTurn, PutMakes, BlockReadMakes, BlockPutMakes, OverwriteMakes, ForceMakes}
+use Rattle.ar_core.specs.WriteCosts.{WriteMakes, CostsExactly}
 use Rattle.ar_core.proofs.Costs.{calm_health, faults_grow, leaves, one_logged, one_health}
 
 -- fault counts don't fall
@@ -37,10 +40,12 @@ grow_then : (a b c : SetState) → Grow a b → Grow b c → Grow a c
 grow_then a b c first last d = let n = first d in let m = last d in omega arith
 
 pub calm_first : (a b c : SetState) → Grow a b → Grow b c → NoneFaults a c → NoneFaults a b
-calm_first a b c first last none = record { faults = λ d. let n = first d in let m = last d in let all = none.faults d in omega arith }
+calm_first a b c first last none =
+    record { faults = λ d. let n = first d in let m = last d in let all = none.faults d in omega arith }
 
 pub calm_last : (a b c : SetState) → Grow a b → Grow b c → NoneFaults a c → NoneFaults b c
-calm_last a b c first last none = record { faults = λ d. let n = first d in let m = last d in let all = none.faults d in omega arith }
+calm_last a b c first last none =
+    record { faults = λ d. let n = first d in let m = last d in let all = none.faults d in omega arith }
 
 no_costs : (a b : SetState) → b ≡ a → CostsExactly (λ made. made ≡ []) a b
 no_costs a b same = record {
@@ -53,10 +58,12 @@ no_costs a b same = record {
 -- Steps of one kind, and what each costs.
 module _ (S X : Type 0) (disks : S → SetState) (step : S → X → S → Type 0) (makes : S → X → S → List RowAccess → Type 0)
     (grow : (s : S) (x : X) (t : S) → step s x t → Grow (disks s) (disks t))
-    (cost : (s : S) (x : X) (t : S) → step s x t → NoneFaults (disks s) (disks t) → CostsExactly (makes s x t) (disks s) (disks t)) where
+    (cost : (s : S) (x : X) (t : S) → step s x t → NoneFaults (disks s) (disks t)
+    → CostsExactly (makes s x t) (disks s) (disks t)) where
   pub turns_grow : (xs : List X) (a b : S) → InTurn step xs a b → Grow (disks a) (disks b)
   turns_grow [] a b same = same_grow (disks a) (disks b) (ap disks same)
-  turns_grow (x ∷ rest) a b turns = grow_then (disks a) (disks turns.0) (disks b) (grow a x turns.0 turns.1) (turns_grow rest turns.0 b turns.2)
+  turns_grow (x ∷ rest) a b turns =
+      grow_then (disks a) (disks turns.0) (disks b) (grow a x turns.0 turns.1) (turns_grow rest turns.0 b turns.2)
 
   pub turns_cost : (xs : List X) (a b : S) → InTurn step xs a b → NoneFaults (disks a) (disks b)
       → CostsExactly (MakesInTurn makes xs a b) (disks a) (disks b)
@@ -89,7 +96,8 @@ put_by a b k put = elim put.plan.one [
 pub put_grows : (a : StoreState) (k : Key) (b : StoreState) → PutsStored a k b → Grow a.disks b.disks
 put_grows a k b put = let by = put_by a b k put in faults_grow by.plan a.disks b.disks by.carried
 
-pub put_costs : (a : StoreState) (k : Key) (b : StoreState) → PutsStored a k b → NoneFaults a.disks b.disks → CostsExactly (PutMakes a k b) a.disks b.disks
+pub put_costs : (a : StoreState) (k : Key) (b : StoreState) → PutsStored a k b → NoneFaults a.disks b.disks
+    → CostsExactly (PutMakes a k b) a.disks b.disks
 put_costs a k b put none =
     let by = put_by a b k put in
     let health = calm_health by.plan a.disks b.disks by.carried none in
@@ -109,7 +117,8 @@ puts_grow keys a b puts = turns_grow StoreState Key store_disks PutsStored PutMa
 
 pub puts_cost : (keys : List Key) (a b : StoreState) → InTurn PutsStored keys a b → NoneFaults a.disks b.disks
     → CostsExactly (MakesInTurn PutMakes keys a b) a.disks b.disks
-puts_cost keys a b puts none = turns_cost StoreState Key store_disks PutsStored PutMakes put_grows put_costs keys a b puts none
+puts_cost keys a b puts none =
+    turns_cost StoreState Key store_disks PutsStored PutMakes put_grows put_costs keys a b puts none
 
 -- one put of a block through the cache
 pub block_grows : (a : ArrayState) (k : Key) (b : ArrayState) → PutsBlock a k b → Grow a.store.disks b.store.disks
@@ -119,7 +128,12 @@ pub block_costs : (a : ArrayState) (k : Key) (b : ArrayState) → PutsBlock a k 
     → CostsExactly (BlockPutMakes a k b) a.store.disks b.store.disks
 block_costs a k b put none =
     let all = puts_cost (destaged a.cache k b.cache) a.store b.store put.stored none in
-    record { made = all.made; is_made = record { put = put; destages = all.is_made }; log = all.log; health = all.health }
+    record {
+      made = all.made;
+      is_made = record { put = put; destages = all.is_made };
+      log = all.log;
+      health = all.health;
+    }
 
 -- one read
 read_costs : (a : ArrayState) (k : Key) (b : ArrayState) → ReadsBlock a k b → NoneFaults a.store.disks b.store.disks
@@ -134,12 +148,15 @@ read_costs a k b read none =
     }
 
 -- one block that is overwritten
-replace_grows : (whole : Bool) (a : ArrayState) (k : Key) (b : ArrayState) → Replaces ReadsBlock PutsBlock whole a k b → Grow a.store.disks b.store.disks
+replace_grows : (whole : Bool) (a : ArrayState) (k : Key) (b : ArrayState) → Replaces ReadsBlock PutsBlock whole a k b
+    → Grow a.store.disks b.store.disks
 replace_grows true a k b put = block_grows a k b put
 replace_grows false a k b both =
-    grow_then a.store.disks both.0.store.disks b.store.disks (leaves a both.0 k both.1).faults (block_grows both.0 k b both.2)
+    grow_then a.store.disks both.0.store.disks b.store.disks (leaves a both.0 k both.1).faults
+    (block_grows both.0 k b both.2)
 
-replace_costs : (whole : Bool) (a : ArrayState) (k : Key) (b : ArrayState) → Replaces ReadsBlock PutsBlock whole a k b → NoneFaults a.store.disks b.store.disks
+replace_costs : (whole : Bool) (a : ArrayState) (k : Key) (b : ArrayState) → Replaces ReadsBlock PutsBlock whole a k b
+    → NoneFaults a.store.disks b.store.disks
     → CostsExactly (OverwriteMakes whole a k b) a.store.disks b.store.disks
 replace_costs true a k b put none = block_costs a k b put none
 replace_costs false a k b both none =
@@ -156,14 +173,17 @@ replace_costs false a k b both none =
     }
 
 -- one block that is forced
-force_grows_at : (o : Option (List ℕ)) (a : ArrayState) (k : Key) (b : ArrayState) → cached a.cache k ≡ o → ForcesBlock a k b → Grow a.store.disks b.store.disks
-force_grows_at None a k b is force = same_grow a.store.disks b.store.disks (ap (λ (s : StoreState). s.disks) (force.absent is))
+force_grows_at : (o : Option (List ℕ)) (a : ArrayState) (k : Key) (b : ArrayState) → cached a.cache k ≡ o
+    → ForcesBlock a k b → Grow a.store.disks b.store.disks
+force_grows_at None a k b is force =
+    same_grow a.store.disks b.store.disks (ap (λ (s : StoreState). s.disks) (force.absent is))
 force_grows_at (Some block) a k b is force = put_grows a.store k b.store (force.put (ap is_some is))
 
 pub force_grows : (a : ArrayState) (k : Key) (b : ArrayState) → ForcesBlock a k b → Grow a.store.disks b.store.disks
 force_grows a k b force = force_grows_at (cached a.cache k) a k b refl force
 
-force_costs_at : (o : Option (List ℕ)) (a : ArrayState) (k : Key) (b : ArrayState) → cached a.cache k ≡ o → ForcesBlock a k b
+force_costs_at : (o : Option (List ℕ)) (a : ArrayState) (k : Key) (b : ArrayState) → cached a.cache k ≡ o
+    → ForcesBlock a k b
     → NoneFaults a.store.disks b.store.disks → CostsExactly (ForceMakes a k b) a.store.disks b.store.disks
 force_costs_at None a k b is force none =
     let same : b.store.disks ≡ a.store.disks = ap (λ (s : StoreState). s.disks) (force.absent is) in
@@ -181,12 +201,17 @@ force_costs_at (Some block) a k b is force none =
     let put = put_costs a.store k b.store (force.put (ap is_some is)) none in
     record {
       made = put.made;
-      is_made = record { force = force; present = λ _. put.is_made; absent = λ absent. absurd (none-some block (sym absent ∙ is)) };
+      is_made = record {
+        force = force;
+        present = λ _. put.is_made;
+        absent = λ absent. absurd (none-some block (sym absent ∙ is));
+      };
       log = put.log;
       health = put.health;
     }
 
-pub force_costs : (a : ArrayState) (k : Key) (b : ArrayState) → ForcesBlock a k b → NoneFaults a.store.disks b.store.disks
+pub force_costs : (a : ArrayState) (k : Key) (b : ArrayState) → ForcesBlock a k b
+    → NoneFaults a.store.disks b.store.disks
     → CostsExactly (ForceMakes a k b) a.store.disks b.store.disks
 force_costs a k b force none = force_costs_at (cached a.cache k) a k b refl force none
 
@@ -203,28 +228,38 @@ module _ (g : Geometry) (lba count : ℕ) where
   over_grows : (a : ArrayState) (k : Key) (b : ArrayState) → Overwrites_here a k b → Grow a.store.disks b.store.disks
   over_grows a k b over = replace_grows (is_whole g lba count k) a k b over
 
-  over_costs : (a : ArrayState) (k : Key) (b : ArrayState) → Overwrites_here a k b → NoneFaults a.store.disks b.store.disks
+  over_costs : (a : ArrayState) (k : Key) (b : ArrayState) → Overwrites_here a k b
+      → NoneFaults a.store.disks b.store.disks
       → CostsExactly (Makes_here a k b) a.store.disks b.store.disks
   over_costs a k b over none = replace_costs (is_whole g lba count k) a k b over none
 
   -- the blocks that are overwritten, in order
-  pub blocks_grow : (keys : List Key) (a b : ArrayState) → InTurn Overwrites_here keys a b → Grow a.store.disks b.store.disks
-  blocks_grow keys a b turns = turns_grow ArrayState Key array_disks Overwrites_here Makes_here over_grows over_costs keys a b turns
+  pub blocks_grow : (keys : List Key) (a b : ArrayState) → InTurn Overwrites_here keys a b
+      → Grow a.store.disks b.store.disks
+  blocks_grow keys a b turns =
+      turns_grow ArrayState Key array_disks Overwrites_here Makes_here over_grows over_costs keys a b turns
 
-  pub blocks_cost : (keys : List Key) (a b : ArrayState) → InTurn Overwrites_here keys a b → NoneFaults a.store.disks b.store.disks
+  pub blocks_cost : (keys : List Key) (a b : ArrayState) → InTurn Overwrites_here keys a b
+      → NoneFaults a.store.disks b.store.disks
       → CostsExactly (MakesInTurn Makes_here keys a b) a.store.disks b.store.disks
-  blocks_cost keys a b turns none = turns_cost ArrayState Key array_disks Overwrites_here Makes_here over_grows over_costs keys a b turns none
+  blocks_cost keys a b turns none =
+      turns_cost ArrayState Key array_disks Overwrites_here Makes_here over_grows over_costs keys a b turns none
 
 pub forced_grow : (keys : List Key) (a b : ArrayState) → InTurn ForcesBlock keys a b → Grow a.store.disks b.store.disks
-forced_grow keys a b turns = turns_grow ArrayState Key array_disks ForcesBlock ForceMakes force_grows force_costs keys a b turns
+forced_grow keys a b turns =
+    turns_grow ArrayState Key array_disks ForcesBlock ForceMakes force_grows force_costs keys a b turns
 
-pub forced_cost : (keys : List Key) (a b : ArrayState) → InTurn ForcesBlock keys a b → NoneFaults a.store.disks b.store.disks
+pub forced_cost : (keys : List Key) (a b : ArrayState) → InTurn ForcesBlock keys a b
+    → NoneFaults a.store.disks b.store.disks
     → CostsExactly (MakesInTurn ForceMakes keys a b) a.store.disks b.store.disks
-forced_cost keys a b turns none = turns_cost ArrayState Key array_disks ForcesBlock ForceMakes force_grows force_costs keys a b turns none
+forced_cost keys a b turns none =
+    turns_cost ArrayState Key array_disks ForcesBlock ForceMakes force_grows force_costs keys a b turns none
 
 -- a whole WRITE
-pub write_accounted : (addr : Addr) (lba count : ℕ) (fua : Bool) (old new : ArrayState) → StoresBlocks addr lba count fua old new
-    → NoneFaults old.store.disks new.store.disks → CostsExactly (WriteMakes addr lba count fua old new) old.store.disks new.store.disks
+pub write_accounted : (addr : Addr) (lba count : ℕ) (fua : Bool) (old new : ArrayState)
+    → StoresBlocks addr lba count fua old new
+    → NoneFaults old.store.disks new.store.disks
+    → CostsExactly (WriteMakes addr lba count fua old new) old.store.disks new.store.disks
 write_accounted addr lba count false old new stores none =
     let all = blocks_cost (geometry_of old) lba count (keys_in (geometry_of old) addr lba count) old new stores none in
     record { made = all.made; is_made = all.is_made; log = all.log; health = all.health }
@@ -234,8 +269,10 @@ write_accounted addr lba count true old new stores none =
     let put = stores.0 in
     let here = blocks_grow g lba count keys old put stores.1 in
     let later = forced_grow keys put new stores.2 in
-    let first = blocks_cost g lba count keys old put stores.1 (calm_first old.store.disks put.store.disks new.store.disks here later none) in
-    let last = forced_cost keys put new stores.2 (calm_last old.store.disks put.store.disks new.store.disks here later none) in
+    let first = blocks_cost g lba count keys old put stores.1
+    (calm_first old.store.disks put.store.disks new.store.disks here later none) in
+    let last = forced_cost keys put new stores.2
+    (calm_last old.store.disks put.store.disks new.store.disks here later none) in
     record {
       made = first.made ++ last.made;
       is_made = (put, first.made, last.made, first.is_made, last.is_made, refl);

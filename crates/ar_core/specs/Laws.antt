@@ -28,21 +28,24 @@ pub record IsShapedAlikeAt (a : Address) (one : RunOf) (k : ℕ) (other : RunOf)
   pub met : own a (take k one.turns) ≡ own a (take j other.turns)
 
 -- step k is a command with this reply, other than BUSY, and the array hasn't failed after it
-pub record IsAnsweredSoundly (run : RunOf) (k : ℕ) (host : Host) (lun : ℕ) (cdb payload : List ℕ) (reply : Reply) : Type 0 where
+pub record IsAnsweredSoundly (run : RunOf) (k : ℕ) (host : Host) (lun : ℕ) (cdb payload : List ℕ) (reply : Reply)
+    : Type 0 where
   pub answered : IsAnswered run.turns k host lun cdb payload reply
   pub new : ArrayState
   pub after : slice_get run.states k ≡ Some new
   pub sound : is_broken new ≡ false
 
 -- step k is a command with this reply, other than BUSY, and the array has failed after it
-pub record IsAnsweredBroken (run : RunOf) (k : ℕ) (host : Host) (lun : ℕ) (cdb payload : List ℕ) (reply : Reply) : Type 0 where
+pub record IsAnsweredBroken (run : RunOf) (k : ℕ) (host : Host) (lun : ℕ) (cdb payload : List ℕ) (reply : Reply)
+    : Type 0 where
   pub answered : IsAnswered run.turns k host lun cdb payload reply
   pub new : ArrayState
   pub after : slice_get run.states k ≡ Some new
   pub broken : IsTrue (is_broken new)
 
 -- the CDB is a WRITE within the unit, with the data for its sectors, and no UNIT ATTENTION is pending
-pub record IsWriteWithin (old : ArrayState) (a : Address) (cdb payload : List ℕ) (sectors : List Sector) (lba count : ℕ) : Type 0 where
+pub record IsWriteWithin (old : ArrayState) (a : Address) (cdb payload : List ℕ) (sectors : List Sector) (lba count : ℕ)
+    : Type 0 where
   pub unit : image old a ≡ Present sectors false
   pub fua : Bool
   pub command : reading cdb ≡ Ok (Write lba count fua)

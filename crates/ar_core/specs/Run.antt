@@ -73,7 +73,8 @@ AreCalm old (turn ∷ turns) (new ∷ states) = IsCalm turn old new × AreCalm n
 AreCalm old turns states = Unit {0}
 
 -- step k is a command with a reply other than BUSY
-pub record IsAnswered (turns : List Turn) (k : ℕ) (host : Host) (lun : ℕ) (cdb payload : List ℕ) (reply : Reply) : Type 0 where
+pub record IsAnswered (turns : List Turn) (k : ℕ) (host : Host) (lun : ℕ) (cdb payload : List ℕ) (reply : Reply)
+    : Type 0 where
   pub turn : slice_get turns k ≡ Some (Did (CmdEvent host lun cdb payload) (CmdOutcome reply))
   pub not_busy : reply.status ≢ Busy
 
@@ -114,6 +115,7 @@ turns_of (event ∷ events) (outcome ∷ outcomes) = Did event outcome ∷ turns
 turns_of events outcomes = []
 
 -- the events have these outcomes, one each, and lead from the old state to the new one
-pub record AreOutcomes (old : ArrayState) (events : List Event) (outcomes : List Outcome) (new : ArrayState) : Type 0 where
+pub record AreOutcomes (old : ArrayState) (events : List Event) (outcomes : List Outcome) (new : ArrayState)
+    : Type 0 where
   pub each : length outcomes ≡ length events
   pub run : IsRun old (turns_of events outcomes) new

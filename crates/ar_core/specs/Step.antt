@@ -1,5 +1,6 @@
 -- What one event does to an array.
-use Rattle.std.specs.Prelude.{◌≡◌, ◌≢◌, ◌≤◌, ◌*◌, ℕ, nat_lt, Bool, true, false, ◌&&◌, not, ◌==◌, if◌then◌else◌, ◌⊎◌, IsTrue, List, [], ◌∷◌, length, Result, Ok}
+use Rattle.std.specs.Prelude.{◌≡◌, ◌≢◌, ◌≤◌, ◌*◌, ℕ, nat_lt, Bool, true, false, ◌&&◌, not, ◌==◌, if◌then◌else◌, ◌⊎◌}
+use Rattle.std.specs.Prelude.{IsTrue, List, [], ◌∷◌, length, Result, Ok}
 use Rattle.ar_disks.specs.declared.address.Addr.{Addr}
 use Rattle.ar_disks.specs.declared.address.Host.{Host}
 use Rattle.ar_scsi.specs.declared.command.Command.{Command}
@@ -19,9 +20,21 @@ use Rattle.ar_store.specs.Placing.{SameUnits}
 use Rattle.ar_unit.specs.Unit.{UnitEntry, Make, Grow, Remove, Cmd, answer, unit_run, IsGiven, IsServed}
 use Rattle.ar_unit.specs.Broken.{shape_of, broken_answer}
 use Rattle.ar_core.specs.Events.{Event}
-use Rattle.ar_core.specs.declared.event.EventOf.TheVariants.{Make as MakeEvent, Grow as GrowEvent, Remove as RemoveEvent, Cmd as CmdEvent, Flush as FlushEvent, FlushUnit as FlushUnitEvent, Demote as DemoteEvent, Clean as CleanEvent, Balance as BalanceEvent, AddDisk as AddDiskEvent, DiskOut as DiskOutEvent, Replace as ReplaceEvent, Rebuild as RebuildEvent}
+use Rattle.ar_core.specs.declared.event.EventOf.TheVariants.{Make as MakeEvent, Grow as GrowEvent}
+use Rattle.ar_core.specs.declared.event.EventOf.TheVariants.{Remove as RemoveEvent, Cmd as CmdEvent}
+use Rattle.ar_core.specs.declared.event.EventOf.TheVariants.{Flush as FlushEvent, FlushUnit as FlushUnitEvent}
+use Rattle.ar_core.specs.declared.event.EventOf.TheVariants.{Demote as DemoteEvent, Clean as CleanEvent}
+use Rattle.ar_core.specs.declared.event.EventOf.TheVariants.{Balance as BalanceEvent, AddDisk as AddDiskEvent}
+use Rattle.ar_core.specs.declared.event.EventOf.TheVariants.{DiskOut as DiskOutEvent, Replace as ReplaceEvent}
+use Rattle.ar_core.specs.declared.event.EventOf.TheVariants.{Rebuild as RebuildEvent}
 use Rattle.ar_core.specs.Events.{Outcome}
-use Rattle.ar_core.specs.declared.event.OutcomeOf.TheVariants.{Make as MakeOutcome, Grow as GrowOutcome, Remove as RemoveOutcome, Cmd as CmdOutcome, Flush as FlushOutcome, FlushUnit as FlushUnitOutcome, Demote as DemoteOutcome, Clean as CleanOutcome, Balance as BalanceOutcome, AddDisk as AddDiskOutcome, DiskOut as DiskOutOutcome, Replace as ReplaceOutcome, Rebuild as RebuildOutcome}
+use Rattle.ar_core.specs.declared.event.OutcomeOf.TheVariants.{Make as MakeOutcome, Grow as GrowOutcome}
+use Rattle.ar_core.specs.declared.event.OutcomeOf.TheVariants.{Remove as RemoveOutcome, Cmd as CmdOutcome}
+use Rattle.ar_core.specs.declared.event.OutcomeOf.TheVariants.{Flush as FlushOutcome, FlushUnit as FlushUnitOutcome}
+use Rattle.ar_core.specs.declared.event.OutcomeOf.TheVariants.{Demote as DemoteOutcome, Clean as CleanOutcome}
+use Rattle.ar_core.specs.declared.event.OutcomeOf.TheVariants.{Balance as BalanceOutcome, AddDisk as AddDiskOutcome}
+use Rattle.ar_core.specs.declared.event.OutcomeOf.TheVariants.{DiskOut as DiskOutOutcome, Replace as ReplaceOutcome}
+use Rattle.ar_core.specs.declared.event.OutcomeOf.TheVariants.{Rebuild as RebuildOutcome}
 use Rattle.ar_volume.specs.Sectors.{Address, address_of, keys_in, same_address}
 use Rattle.ar_volume.specs.Image.{ArrayState, geometry_of, is_broken, attention_at, image_at, image, with_book}
 use Rattle.ar_core.specs.Causes.{HasCause}
@@ -104,7 +117,8 @@ pub record MovesNothing (old : ArrayState) (addr : Addr) (cdb : List ℕ) (new :
 -- A command has the reply of its unit's sectors as they were; or, if the array has failed after it, that of a failed
 -- array. BUSY replaces only a reply with bytes.
 pub record Obeys (old : ArrayState) (addr : Addr) (cdb bytes : List ℕ) (reply : Reply) (new : ArrayState) : Type 0 where
-  pub sound : is_broken new ≡ false → IsServed (image_at old addr) (answer (image_at old addr) cdb bytes) reply (image_at new addr)
+  pub sound : is_broken new ≡ false
+      → IsServed (image_at old addr) (answer (image_at old addr) cdb bytes) reply (image_at new addr)
   pub broken : IsTrue (is_broken new) → IsGiven (broken_answer (shape_of (image_at old addr)) cdb (length bytes)) reply
   -- only a failed array replies HARDWARE ERROR, INTERNAL TARGET FAILURE
   pub failure : reply ≡ check internal_target_failure → IsTrue (is_broken new)
@@ -131,14 +145,16 @@ pub record Obeys (old : ArrayState) (addr : Addr) (cdb bytes : List ℕ) (reply 
   pub busy_read : (lba count : ℕ) → reading cdb ≡ Ok (Read lba count) → reply.status ≡ Busy
       → (new ≡ once_told old addr cdb) ⊎ InTurn ReadsBlock (keys_in (geometry_of old) addr lba count) old new
   -- a GOOD WRITE with FORCE UNIT ACCESS leaves none of its blocks in the cache (SBC-2, WRITE (10) command)
-  pub forced : (lba count : ℕ) → reading cdb ≡ Ok (Write lba count true) → reply.status ≡ Good → IsForced new addr lba count
+  pub forced : (lba count : ℕ) → reading cdb ≡ Ok (Write lba count true) → reply.status ≡ Good
+      → IsForced new addr lba count
   -- a GOOD WRITE has put each of its blocks once, in ascending order, and no other; it has read only the blocks that it
   -- covers in part, each before its put; with FORCE UNIT ACCESS it has then destaged each
   pub stored : (lba count : ℕ) (fua : Bool) → reading cdb ≡ Ok (Write lba count fua) → reply.status ≡ Good
       → StoresBlocks addr lba count fua old new
   -- a WRITE at which the array failed has put its blocks so up to the one whose read or put failed it, and no other;
   -- or, with FORCE UNIT ACCESS, it has put all, and destaged them in ascending order up to the one whose put failed it
-  pub stopped : (lba count : ℕ) (fua : Bool) → reading cdb ≡ Ok (Write lba count fua) → is_broken old ≡ false → IsTrue (is_broken new)
+  pub stopped : (lba count : ℕ) (fua : Bool) → reading cdb ≡ Ok (Write lba count fua) → is_broken old ≡ false
+      → IsTrue (is_broken new)
       → StopsStoring addr lba count fua old new
 
 -- the outcome is of the event's kind, and its relation holds

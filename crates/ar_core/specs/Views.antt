@@ -9,7 +9,8 @@ use Rattle.ar_extents.specs.Set.{SetState, HasExtent}
 use Rattle.ar_extents.specs.Access.{Gets, is_read}
 use Rattle.ar_extents.specs.Plans.{Attempts, read_at}
 use Rattle.ar_book.specs.declared.class.Level.{Level}
-use Rattle.ar_book.specs.declared.class.Level.TheVariants.{Unplaced as NowherePlaced, Mirrored as AtMirrored, Parity as AtParity}
+use Rattle.ar_book.specs.declared.class.Level.TheVariants.{Unplaced as NowherePlaced, Mirrored as AtMirrored}
+use Rattle.ar_book.specs.declared.class.Level.TheVariants.{Parity as AtParity}
 use Rattle.ar_book.specs.declared.class.Slot.{Slot}
 use Rattle.ar_book.specs.Tables.{GroupState, Tables, has_unit, unit_in, home, level, used}
 use Rattle.ar_core.specs.declared.views.LevelOf.{LevelOf}

@@ -28,7 +28,8 @@ pub record CostsExactly (makes : List RowAccess → Type 0) (old new : SetState)
   pub health : new.health ≡ old.health
 
 -- one step for each item, in order, and the accesses of all of them, joined
-abbrev pub MakesInTurn : {S X : Type 0} → (S → X → S → List RowAccess → Type 0) → List X → S → S → List RowAccess → Type 0
+abbrev pub MakesInTurn : {S X : Type 0} → (S → X → S → List RowAccess → Type 0) → List X → S → S → List RowAccess
+    → Type 0
 MakesInTurn makes [] from to made = (to ≡ from) × (made ≡ [])
 MakesInTurn {S} makes (this ∷ rest) from to made =
     (next : S) × (first : List RowAccess) × (more : List RowAccess)

@@ -1,12 +1,14 @@
 // Commands to units. The checks come in this order: presence, UNIT ATTENTION, CDB, range, data length, health; a disk
 // is accessed only after all of them. BUSY replaces only a reply with bytes.
-ghost use Rattle.std.specs.Prelude.{◌≡◌, ◌≢◌, ◌⊎◌, ℕ, ◌+◌, ◌-◌, ◌*◌, ◌/◌, ◌≤◌, ◌<◌, ◌==◌, not, false, true, IfOk, IsTrue, Ok, nat_lt, if◌then◌else◌, length, []};
+ghost use Rattle.std.specs.Prelude.{◌≡◌, ◌≢◌, ◌⊎◌, ℕ, ◌+◌, ◌-◌, ◌*◌, ◌/◌, ◌≤◌, ◌<◌, ◌==◌, not, false, true, IfOk};
+ghost use Rattle.std.specs.Prelude.{IsTrue, Ok, nat_lt, if◌then◌else◌, length, []};
 ghost use Rattle.ar_disks.specs.declared.address.Key.{Key};
 ghost use Rattle.ar_disks.specs.Geometry.{block_len_of, sectors_of};
 ghost use Rattle.ar_scsi.specs.declared.reply.Status.TheVariants.{Good, CheckCondition, Busy};
 ghost use Rattle.ar_scsi.specs.Reading.{reading};
 ghost use Rattle.ar_scsi.specs.Reply.{good, check, busy};
-ghost use Rattle.ar_scsi.specs.Sense.{internal_target_failure, logical_block_address_out_of_range, data_phase_error, capacity_data_has_changed};
+ghost use Rattle.ar_scsi.specs.Sense.{internal_target_failure, logical_block_address_out_of_range, data_phase_error};
+ghost use Rattle.ar_scsi.specs.Sense.{capacity_data_has_changed};
 ghost use Rattle.ar_unit.specs.Unit.{obeyed, IsGiven, leaving, read_reply, write_answer};
 ghost use Rattle.ar_unit.specs.Broken.{broken_obeyed};
 ghost use Rattle.ar_cache.specs.Backing.{InTurn, KeepsBacking, SameBlocks, StopsInTurn, stored};
@@ -18,7 +20,8 @@ ghost use Rattle.ar_volume.specs.Following.{ArrayFollows};
 ghost use Rattle.ar_volume.specs.Sectors.{key_of, keys_in, sectors_in, unit_block};
 ghost use Rattle.std.specs.List.{concat};
 ghost use Rattle.ar_volume.specs.Seen.{IsForced};
-ghost use Rattle.ar_volume.specs.Storing.{BreaksForced, FailsReading, ForcesBlock, PutsBlocks, ReadsBlock, ReadsFirst, StopsPutting, StopsStoring, StoresBlocks};
+ghost use Rattle.ar_volume.specs.Storing.{BreaksForced, FailsReading, ForcesBlock, PutsBlocks, ReadsBlock, ReadsFirst};
+ghost use Rattle.ar_volume.specs.Storing.{StopsPutting, StopsStoring, StoresBlocks};
 ghost use Rattle.ar_book.specs.Changes.{unmarked};
 
 use crate::{Array, Completion};
@@ -126,7 +129,8 @@ impl<D: Disk> Array<D> {
         requires { IsUnit self.old addr sectors }
         ensures serves { Serves self.old addr
             (leaving (present_at self.old addr) (read_reply (unit_sectors self.old addr) lba count))
-            (if nat_lt sectors (lba + count) then check logical_block_address_out_of_range else check internal_target_failure)
+            (if nat_lt sectors (lba + count) then check logical_block_address_out_of_range
+            else check internal_target_failure)
             result self.new }
         ensures settles { Settles self.old addr (Ok (Command.Read lba count)) result self.new }
         ensures few { length result.payload ≤ 65535 * 512 }
@@ -152,9 +156,11 @@ impl<D: Disk> Array<D> {
             (leaving (present_at self.old addr) (good (sectors_read self.old addr lba count)))
             (check internal_target_failure) result self.new }
         ensures begun { ReadsFirst ReadsBlock (geometry_of self.old) addr lba count self.old self.new }
-        ensures got { result.status ≡ Good → InTurn ReadsBlock (keys_in (geometry_of self.old) addr lba count) self.old self.new }
+        ensures got { result.status ≡ Good
+            → InTurn ReadsBlock (keys_in (geometry_of self.old) addr lba count) self.old self.new }
         ensures busy_read { result.status ≡ Busy
-            → (self.new ≡ self.old) ⊎ InTurn ReadsBlock (keys_in (geometry_of self.old) addr lba count) self.old self.new }
+            → (self.new ≡ self.old)
+            ⊎ InTurn ReadsBlock (keys_in (geometry_of self.old) addr lba count) self.old self.new }
 
         ensures failed { result.status ≡ CheckCondition → result ≡ check internal_target_failure }
         ensures few { length result.payload ≤ 65535 * 512 }
@@ -189,7 +195,8 @@ impl<D: Disk> Array<D> {
         ensures serves { Serves self.old addr
             (write_answer (unit_sectors self.old addr) (attention_at self.old.store.book addr) lba count bytes.now)
             (if nat_lt sectors (lba + count) then check logical_block_address_out_of_range
-            else (if not (length bytes.now == count * 512) then check data_phase_error else check internal_target_failure))
+            else (if not (length bytes.now == count * 512) then check data_phase_error
+            else check internal_target_failure))
             result self.new }
         ensures settles { Settles self.old addr (Ok (Command.Write lba count fua)) result self.new }
         ensures few { length result.payload ≤ 65535 * 512 }
@@ -279,7 +286,8 @@ impl<D: Disk> Array<D> {
 
         ensures answer { result ≡ stored (is_broken self.new) }
         ensures forced { result ≡ Completion.Done → IsForced self.new addr lba count }
-        ensures forces { result ≡ Completion.Done → InTurn ForcesBlock (keys_in (geometry_of self.old) addr lba count) self.old self.new }
+        ensures forces { result ≡ Completion.Done
+            → InTurn ForcesBlock (keys_in (geometry_of self.old) addr lba count) self.old self.new }
         ensures stopped { result ≡ Completion.Broken
             → StopsInTurn ForcesBlock BreaksForced (keys_in (geometry_of self.old) addr lba count) self.old self.new }
 
@@ -322,8 +330,10 @@ fn fetch_sectors<B: Backing>(
     ensures got { result.status ≡ Good → InTurn B.gets (keys_in geometry addr lba count) blocks.old blocks.new }
     ensures busy_read { result.status ≡ Busy
         → (blocks.new ≡ blocks.old) ⊎ InTurn B.gets (keys_in geometry addr lba count) blocks.old blocks.new }
-    ensures stopped { result.status ≡ CheckCondition → FailsReading B.gets B.is_broken geometry addr lba count blocks.old blocks.new }
-    ensures done { result.status ≡ Good → result ≡ good (concat (sectors_in geometry (unit_block (B.block_at blocks.old) addr) lba count)) }
+    ensures stopped { result.status ≡ CheckCondition
+        → FailsReading B.gets B.is_broken geometry addr lba count blocks.old blocks.new }
+    ensures done { result.status ≡ Good
+        → result ≡ good (concat (sectors_in geometry (unit_block (B.block_at blocks.old) addr) lba count)) }
     ensures busy { result.status ≡ Busy → result ≡ busy }
     ensures failed { result.status ≡ CheckCondition → result ≡ check internal_target_failure }
     ensures broken { result.status ≡ CheckCondition → IsTrue (B.is_broken blocks.new) }

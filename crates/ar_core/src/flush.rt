@@ -20,8 +20,8 @@ impl<D: Disk> Array<D> {
     }
 
     /// Destages all cached blocks of the unit at `addr`, in ascending order: the step of `EventOf::FlushUnit`. After
-    /// `Done` the disks have all of the unit's contents. Returns `Broken` if the array has failed, before or during this
-    /// call, and else `Absent` if there is no such unit.
+    /// `Done` the disks have all of the unit's contents. Returns `Broken` if the array has failed, before or during
+    /// this call, and else `Absent` if there is no such unit.
     pub fn flush_unit(&mut self, addr: Addr) -> UnitFlush
         ensures { Steps self.old (EventOf.FlushUnit addr) (OutcomeOf.FlushUnit result) self.new }
     {
@@ -34,7 +34,8 @@ impl<D: Disk> Array<D> {
         ensures answer { result ≡ stored (is_broken self.new) }
         ensures lost { IsTrue (is_broken self.old) → self.new ≡ self.old }
         ensures images { result ≡ Completion.Done → (addr : Addr) → image_at self.new addr ≡ image_at self.old addr }
-        ensures on_disks { result ≡ Completion.Done → (addr : Addr) → image_at self.new addr ≡ image_on_disks self.new.store addr }
+        ensures on_disks { result ≡ Completion.Done → (addr : Addr)
+            → image_at self.new addr ≡ image_on_disks self.new.store addr }
         ensures emptied { result ≡ Completion.Done → EmptiesCache self.old self.new }
         ensures quiet { self.old.cache.entries ≡ [] → self.new ≡ self.old }
         ensures stopped { result ≡ Completion.Broken → is_broken self.old ≡ false → LeavesSome self.old self.new }

@@ -24,7 +24,8 @@ ghost use Rattle.ar_scsi.specs.Reading.{reading};
 ghost use Rattle.ar_scsi.specs.declared.reply.Status.TheVariants.{Good};
 ghost use Rattle.ar_extents.specs.Plans.{NoneFaults};
 ghost use Rattle.ar_volume.specs.Sectors.{keys_in};
-ghost use Rattle.ar_core.specs.Laws.{RunOf, IsAlikeAt, IsShapedAlikeAt, IsAnsweredSoundly, IsAnsweredBroken, IsWriteWithin};
+ghost use Rattle.ar_core.specs.Laws.{RunOf, IsAlikeAt, IsShapedAlikeAt, IsAnsweredSoundly, IsAnsweredBroken};
+ghost use Rattle.ar_core.specs.Laws.{IsWriteWithin};
 ghost use Rattle.ar_extents.specs.declared.health.Health.TheVariants.{Whole};
 ghost use Rattle.ar_core.specs.Causes.{HurtsNone};
 ghost use Rattle.ar_core.specs.Events.{Event, Outcome};
@@ -53,7 +54,8 @@ pub fn own_entries_decide_replies()
 /// disk then stores. Every array keeps `IsKept` (`Array::health: kept`), so this holds between any two calls. The
 /// function does nothing.
 pub fn any_disk_may_go()
-    ensures { (array : ArrayState) (disk : ℕ) → IsKept array.store → array.store.disks.health ≡ Whole → SurvivesLossOf array.store disk }
+    ensures { (array : ArrayState) (disk : ℕ) → IsKept array.store → array.store.disks.health ≡ Whole
+        → SurvivesLossOf array.store disk }
 {}
 
 /// A healthy array stays healthy over an event in which no disk faults and none is taken out, and over a run of such
@@ -62,7 +64,8 @@ pub fn whole_disks_stay_whole()
     ensures event { (old new : ArrayState) (event : Event) (outcome : Outcome) → Steps old event outcome new
         → HurtsNone event old.store.disks new.store.disks
         → old.store.disks.health ≡ Whole → new.store.disks.health ≡ Whole }
-    ensures run { (old : ArrayState) (turns : List Turn) (states : List ArrayState) (k : ℕ) (new : ArrayState) → Run old turns states
+    ensures run { (old : ArrayState) (turns : List Turn) (states : List ArrayState) (k : ℕ) (new : ArrayState)
+        → Run old turns states
         → AreCalm old (take (suc k) turns) (take (suc k) states) → old.store.disks.health ≡ Whole
         → slice_get states k ≡ Some new → new.store.disks.health ≡ Whole }
 {}
@@ -70,7 +73,8 @@ pub fn whole_disks_stay_whole()
 /// No write fails for lack of space: a WRITE within its unit, with the data for its sectors and no UNIT ATTENTION
 /// pending, is done and GOOD unless the array has failed, however full it is. The function does nothing.
 pub fn writes_that_fit_are_done()
-    ensures { (old new : ArrayState) (host : Host) (lun : ℕ) (cdb payload : List ℕ) (reply : Reply) (sectors : List Sector) (lba count : ℕ)
+    ensures { (old new : ArrayState) (host : Host) (lun : ℕ) (cdb payload : List ℕ) (reply : Reply)
+        (sectors : List Sector) (lba count : ℕ)
         → Steps old (EventOf.Cmd host lun cdb payload) (OutcomeOf.Cmd reply) new
         → is_broken new ≡ false → IsWriteWithin old (host.number, lun) cdb payload sectors lba count
         → (reply ≡ good []) × (image new (host.number, lun) ≡ Present (written sectors lba count payload) false) }
@@ -83,42 +87,50 @@ pub fn reads_are_accounted_for()
     ensures { (old new : ArrayState) (host : Host) (lun : ℕ) (cdb payload : List ℕ) (reply : Reply) (lba count : ℕ)
         → Steps old (EventOf.Cmd host lun cdb payload) (OutcomeOf.Cmd reply) new
         → reading cdb ≡ Ok (Command.Read lba count) → reply.status ≡ Good → NoneFaults old.store.disks new.store.disks
-        → new.store.disks.log ≡ old.store.disks.log ++ reads_of old (keys_in (geometry_of old) (addr_in host lun) lba count) }
+        → new.store.disks.log
+        ≡ old.store.disks.log ++ reads_of old (keys_in (geometry_of old) (addr_in host lun) lba count) }
 {}
 
-/// The cost of a WRITE: where no disk faults, a GOOD one makes for each of its blocks, in ascending order, the reads that
-/// the block's home plans if it is covered in part, not cached and has a home, and then a put of each block that is
-/// destaged for it: the one that it evicts, and its own if it is written through. With FORCE UNIT ACCESS it then puts
-/// each of its blocks that is cached. There is no other access. The function does nothing.
+/// The cost of a WRITE: where no disk faults, a GOOD one makes for each of its blocks, in ascending order, the reads
+/// that the block's home plans if it is covered in part, not cached and has a home, and then a put of each block that
+/// is destaged for it: the one that it evicts, and its own if it is written through. With FORCE UNIT ACCESS it then
+/// puts each of its blocks that is cached. There is no other access. The function does nothing.
 pub fn writes_are_accounted_for()
-    ensures { (old new : ArrayState) (host : Host) (lun : ℕ) (cdb payload : List ℕ) (reply : Reply) (lba count : ℕ) (fua : Bool)
+    ensures { (old new : ArrayState) (host : Host) (lun : ℕ) (cdb payload : List ℕ) (reply : Reply) (lba count : ℕ)
+        (fua : Bool)
         → Steps old (EventOf.Cmd host lun cdb payload) (OutcomeOf.Cmd reply) new
-        → reading cdb ≡ Ok (Command.Write lba count fua) → reply.status ≡ Good → NoneFaults old.store.disks new.store.disks
+        → reading cdb ≡ Ok (Command.Write lba count fua) → reply.status ≡ Good
+        → NoneFaults old.store.disks new.store.disks
         → CostsExactly (WriteMakes (addr_in host lun) lba count fua old new) old.store.disks new.store.disks }
 {}
 
-/// The cost of a WRITE in numbers, of whole blocks that have homes, on healthy disks and without a cache: two writes for
-/// each of its blocks if these are mirrored, two reads and two writes if they stay at the parity level. The function
-/// does nothing.
+/// The cost of a WRITE in numbers, of whole blocks that have homes, on healthy disks and without a cache: two writes
+/// for each of its blocks if these are mirrored, two reads and two writes if they stay at the parity level. The
+/// function does nothing.
 pub fn write_accesses()
-    ensures mirrored { (old new : ArrayState) (host : Host) (lun : ℕ) (cdb payload : List ℕ) (reply : Reply) (lba count : ℕ) (fua : Bool)
+    ensures mirrored { (old new : ArrayState) (host : Host) (lun : ℕ) (cdb payload : List ℕ) (reply : Reply)
+        (lba count : ℕ) (fua : Bool)
         → Steps old (EventOf.Cmd host lun cdb payload) (OutcomeOf.Cmd reply) new
-        → reading cdb ≡ Ok (Command.Write lba count fua) → reply.status ≡ Good → NoneFaults old.store.disks new.store.disks
+        → reading cdb ≡ Ok (Command.Write lba count fua) → reply.status ≡ Good
+        → NoneFaults old.store.disks new.store.disks
         → WritesThrough (addr_in host lun) lba count old
         → AreMirrored old.store.book (keys_in (geometry_of old) (addr_in host lun) lba count)
         → MakesAccesses (for_each (keys_in (geometry_of old) (addr_in host lun) lba count) (Write ∷ Write ∷ []))
         old.store.disks new.store.disks }
-    ensures parity { (old new : ArrayState) (host : Host) (lun : ℕ) (cdb payload : List ℕ) (reply : Reply) (lba count : ℕ) (fua : Bool)
+    ensures parity { (old new : ArrayState) (host : Host) (lun : ℕ) (cdb payload : List ℕ) (reply : Reply)
+        (lba count : ℕ) (fua : Bool)
         → Steps old (EventOf.Cmd host lun cdb payload) (OutcomeOf.Cmd reply) new
-        → reading cdb ≡ Ok (Command.Write lba count fua) → reply.status ≡ Good → NoneFaults old.store.disks new.store.disks
+        → reading cdb ≡ Ok (Command.Write lba count fua) → reply.status ≡ Good
+        → NoneFaults old.store.disks new.store.disks
         → WritesThrough (addr_in host lun) lba count old
         → StayAtParity old.store.book (keys_in (geometry_of old) (addr_in host lun) lba count)
-        → MakesAccesses (for_each (keys_in (geometry_of old) (addr_in host lun) lba count) (Read ∷ Read ∷ Write ∷ Write ∷ []))
+        → MakesAccesses
+        (for_each (keys_in (geometry_of old) (addr_in host lun) lba count) (Read ∷ Read ∷ Write ∷ Write ∷ []))
         old.store.disks new.store.disks }
 {}
 
-/// The cost of a flush: where no disk faults, a flush of one cached block is one put, and that of a unit one put for each
-/// of its cached blocks, in ascending order. The function does nothing.
+/// The cost of a flush: where no disk faults, a flush of one cached block is one put, and that of a unit one put for
+/// each of its cached blocks, in ascending order. The function does nothing.
 pub fn flushes_are_accounted_for()
     ensures one { (old new : ArrayState) (key : Key) → Steps old EventOf.Flush (OutcomeOf.Flush (Flushed key)) new
         → NoneFaults old.store.disks new.store.disks

@@ -28,7 +28,8 @@ impl<D: Disk> Array<D> {
 
     /// Lists the groups by number. An extent in none of them is unassigned (`loose`). Fails only when out of memory.
     pub fn group_views(&self, alloc: Global) -> Result<Vec<GroupView>, AllocError>
-        ensures { IfOk result (λ groups. groups.items ≡ map (view_of self.now.store.book.geometry) self.now.store.book.groups) }
+        ensures { IfOk result (λ groups. groups.items
+            ≡ map (view_of self.now.store.book.geometry) self.now.store.book.groups) }
     {
         views_of(alloc, self.blocks.book())
     }

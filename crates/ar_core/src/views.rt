@@ -105,7 +105,8 @@ impl<D: Disk> Array<D> {
     /// the blocks of the units that exist.
     pub fn free_room(&self) -> u32
         ensures room { result ≡ room self.now.store.book }
-        ensures kept { reserved self.now.store.book + result ≡ 3 * rows_of (geometry_of self.now) * (length self.now.store.book.groups - 1) }
+        ensures kept { reserved self.now.store.book + result
+            ≡ 3 * rows_of (geometry_of self.now) * (length self.now.store.book.groups - 1) }
     {
         self.blocks.book().room()
     }
@@ -153,7 +154,8 @@ impl<D: Disk> Array<D> {
     /// any disk changes; a fault takes the disk out.
     pub fn block_at(&mut self, disk: u8, extent: u16, row: u16, into: &mut Block) -> Shown
         requires whole { length into.old ≡ block_len_of (geometry_of self.old) }
-        ensures shows { Shows self.old.store.disks self.new.store.disks (record { disk = disk; extent = extent }) row into.new result }
+        ensures shows { Shows self.old.store.disks self.new.store.disks
+            (record { disk = disk; extent = extent }) row into.new result }
         ensures looks { LooksAt self.old self.new }
         ensures images { is_broken self.new ≡ false → (addr : Addr) → image_at self.new addr ≡ image_at self.old addr }
         ensures len { length into.new ≡ length into.old }

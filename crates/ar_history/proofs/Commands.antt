@@ -1,5 +1,6 @@
 -- What a host's command leaves of a history.
-use Rattle.std.proofs.Common.{◌≡◌, ◌≢◌, ◌⊎◌, ℕ, ◌-◌, Bool, true, false, cond, Option, Some, None, List, [], ◌∷◌, ◌++◌, length, take, refl, sym, ap, subst, ◌∙◌, inl, inr, arith, append-nil, length-append}
+use Rattle.std.proofs.Common.{◌≡◌, ◌≢◌, ◌⊎◌, ℕ, ◌-◌, Bool, true, false, cond, Option, Some, None, List, [], ◌∷◌, ◌++◌}
+use Rattle.std.proofs.Common.{length, take, refl, sym, ap, subst, ◌∙◌, inl, inr, arith, append-nil, length-append}
 use Rattle.std.specs.Prelude.{◌==◌, ◌&&◌, not, count_by, ◌+◌}
 use Rattle.std.proofs.lemmas.Bool.{eqb-true}
 use Rattle.std.proofs.lemmas.List.Sums.{sum_by-append}
@@ -59,18 +60,22 @@ same_is (x, y) (u, v) e =
     ap (λ (n : ℕ). (n, y)) (eqb-true x u p.0) ∙ ap (λ (n : ℕ). (u, n)) (eqb-true y v p.1)
 
 -- one more command in a list
-pub count_command : (history : List Entry) (entry : Entry) → is_command entry ≡ true → count_by is_command (history ++ entry ∷ []) ≡ count_by is_command history + 1
+pub count_command : (history : List Entry) (entry : Entry) → is_command entry ≡ true
+    → count_by is_command (history ++ entry ∷ []) ≡ count_by is_command history + 1
 count_command history entry is =
     let more = sum_by-append (λ (e : Entry). cond {A = ℕ} (is_command e) 1 0) history (entry ∷ []) in
     let one : cond {A = ℕ} (is_command entry) 1 0 ≡ 1 = ap (λ (b : Bool). cond {A = ℕ} b 1 0) is in
     omega (arith, more, one)
 
-pub count_total : (was now : ℕ) (history : List Entry) (entry : Entry) → is_command entry ≡ true → was ≡ count_by is_command history → now ≡ was + 1
+pub count_total : (was now : ℕ) (history : List Entry) (entry : Entry) → is_command entry ≡ true
+    → was ≡ count_by is_command history → now ≡ was + 1
     → now ≡ count_by is_command (history ++ entry ∷ [])
-count_total was now history entry is before more = more ∙ ap (λ (n : ℕ). n + 1) before ∙ sym (count_command history entry is)
+count_total was now history entry is before more =
+    more ∙ ap (λ (n : ℕ). n + 1) before ∙ sym (count_command history entry is)
 
 -- a unit that a command leaves, at every address
-left_at : (u : UnitState) (cdb bytes : List ℕ) (b quiet : Bool) → (b ≡ true → quiet ≡ false → (answer u cdb bytes).state ≡ u)
+left_at : (u : UnitState) (cdb bytes : List ℕ) (b quiet : Bool)
+    → (b ≡ true → quiet ≡ false → (answer u cdb bytes).state ≡ u)
     → unit_run u (cond b (cond quiet no_entry (UnitCmd cdb bytes ∷ [])) no_entry) ≡ u
 left_at u cdb bytes false quiet left = refl
 left_at u cdb bytes true true left = refl
@@ -78,7 +83,8 @@ left_at u cdb bytes true false left = left refl refl
 
 -- a reply that isn't recorded leaves every unit
 pub same_images : (old new : ArrayState) (host : Host) (lun : ℕ) (cdb payload : List ℕ) (reply : Reply)
-    → Steps old (CmdEvent host lun cdb payload) (CmdOutcome reply) new → IsBusyFor reply → is_broken new ≡ false → (a : Address) → image new a ≡ image old a
+    → Steps old (CmdEvent host lun cdb payload) (CmdOutcome reply) new → IsBusyFor reply → is_broken new ≡ false
+    → (a : Address) → image new a ≡ image old a
 same_images old new host lun cdb payload reply steps none now a =
     let here = image_here (image_at old) (addr_in host lun) in
     steps.images now a
@@ -89,13 +95,16 @@ same_images old new host lun cdb payload reply steps none now a =
       | inr bytes ↦
           (let table : reply ≡ (answer (image_at old (addr_in host lun)) cdb payload).reply =
           (steps.answers.sound now).given.answered (not_busy reply.status answered) in
-          let unit : image_at old (addr_in host lun) ≡ image old a = sym here ∙ ap (λ (x : Address). image old x) (same_is (host.number, lun) a same) in
-          let is : reply ≡ (answer (image old a) cdb payload).reply = table ∙ ap (λ (u : UnitState). (answer u cdb payload).reply) unit in
+          let unit : image_at old (addr_in host lun) ≡ image old a =
+          sym here ∙ ap (λ (x : Address). image old x) (same_is (host.number, lun) a same) in
+          let is : reply ≡ (answer (image old a) cdb payload).reply =
+          table ∙ ap (λ (u : UnitState). (answer u cdb payload).reply) unit in
           answer-with_bytes (image old a) cdb payload (λ empty. bytes (ap (λ (r : Reply). r.payload) is ∙ empty)))
     ])
 
 -- whether a unit is there, and its length, no command changes
-lengths_if : (b quiet : Bool) (u : UnitState) (cdb bytes : List ℕ) → SameLength (unit_run u (cond b (cond quiet no_entry (UnitCmd cdb bytes ∷ [])) no_entry)) u
+lengths_if : (b quiet : Bool) (u : UnitState) (cdb bytes : List ℕ)
+    → SameLength (unit_run u (cond b (cond quiet no_entry (UnitCmd cdb bytes ∷ [])) no_entry)) u
 lengths_if false quiet u cdb bytes = record { present = refl; sectors = refl }
 lengths_if true true u cdb bytes = record { present = refl; sectors = refl }
 lengths_if true false u cdb bytes = record {
@@ -104,7 +113,8 @@ lengths_if true false u cdb bytes = record {
 }
 
 -- so the history stays what the array holds, where each unit stays or the data are lost
-pub kept_unrecorded : (old new : ArrayState) (host : Host) (lun : ℕ) (cdb payload : List ℕ) (reply : Reply) (history : List Entry) → HistoryAgrees old history
+pub kept_unrecorded : (old new : ArrayState) (host : Host) (lun : ℕ) (cdb payload : List ℕ) (reply : Reply)
+    (history : List Entry) → HistoryAgrees old history
     → Steps old (CmdEvent host lun cdb payload) (CmdOutcome reply) new
     → (is_broken new ≡ false → (a : Address) → image new a ≡ image old a) → HistoryAgrees new history
 kept_unrecorded old new host lun cdb payload reply history kept steps same = record {
@@ -118,27 +128,37 @@ kept_unrecorded old new host lun cdb payload reply history kept steps same = rec
       });
 }
 
-pub broken_unrecorded : (old new : ArrayState) (host : Host) (lun : ℕ) (cdb payload : List ℕ) (reply : Reply) (history : List Entry) → HistoryAgrees old history
-    → Steps old (CmdEvent host lun cdb payload) (CmdOutcome reply) new → is_broken new ≡ true → HistoryAgrees new history
+pub broken_unrecorded : (old new : ArrayState) (host : Host) (lun : ℕ) (cdb payload : List ℕ) (reply : Reply)
+    (history : List Entry) → HistoryAgrees old history
+    → Steps old (CmdEvent host lun cdb payload) (CmdOutcome reply) new → is_broken new ≡ true
+    → HistoryAgrees new history
 broken_unrecorded old new host lun cdb payload reply history kept steps lost =
-    kept_unrecorded old new host lun cdb payload reply history kept steps (λ now. absurd (let no : true ≡ false = sym lost ∙ now in cc))
+    kept_unrecorded old new host lun cdb payload reply history kept steps
+    (λ now. absurd (let no : true ≡ false = sym lost ∙ now in cc))
 
 -- the reply of a command that was answered
-pub reply_kept : (old new : ArrayState) (host : Host) (lun : ℕ) (cdb payload : List ℕ) (reply : Reply) (history : List Entry) → HistoryAgrees old history
-    → Steps old (CmdEvent host lun cdb payload) (CmdOutcome reply) new → is_busy reply.status ≡ false → is_broken new ≡ false
+pub reply_kept : (old new : ArrayState) (host : Host) (lun : ℕ) (cdb payload : List ℕ) (reply : Reply)
+    (history : List Entry) → HistoryAgrees old history
+    → Steps old (CmdEvent host lun cdb payload) (CmdOutcome reply) new → is_busy reply.status ≡ false
+    → is_broken new ≡ false
     → reply ≡ (answer (replay history (host.number, lun)) cdb payload).reply
 reply_kept old new host lun cdb payload reply history kept steps answered now =
     (steps.answers.sound now).given.answered (not_busy reply.status answered)
     ∙ ap (λ (u : UnitState). (answer u cdb payload).reply)
-    (sym (image_here (image_at old) (addr_in host lun)) ∙ kept.images (was_sound (CmdEvent host lun cdb payload) old new steps.disks now) (host.number, lun))
+    (sym (image_here (image_at old) (addr_in host lun))
+    ∙ kept.images (was_sound (CmdEvent host lun cdb payload) old new steps.disks now) (host.number, lun))
 
 -- and the history with it
-pub kept_recorded : (old new : ArrayState) (host : Host) (lun : ℕ) (cdb payload : List ℕ) (reply : Reply) (history : List Entry) → HistoryAgrees old history
-    → Steps old (CmdEvent host lun cdb payload) (CmdOutcome reply) new → is_busy reply.status ≡ false → is_broken new ≡ false
+pub kept_recorded : (old new : ArrayState) (host : Host) (lun : ℕ) (cdb payload : List ℕ) (reply : Reply)
+    (history : List Entry) → HistoryAgrees old history
+    → Steps old (CmdEvent host lun cdb payload) (CmdOutcome reply) new → is_busy reply.status ≡ false
+    → is_broken new ≡ false
     → HistoryAgrees new (history ++ Cmd host (exchange_of lun cdb payload reply) ∷ [])
 kept_recorded old new host lun cdb payload reply history kept steps answered now =
-    kept_more old new (CmdEvent host lun cdb payload) (CmdOutcome reply) history (Cmd host (exchange_of lun cdb payload reply)) kept steps
-    (λ a. ap (λ (b : Bool). cond (same_address (host.number, lun) a) (cond b no_entry (UnitCmd cdb payload ∷ [])) no_entry) answered)
+    kept_more old new (CmdEvent host lun cdb payload) (CmdOutcome reply) history
+    (Cmd host (exchange_of lun cdb payload reply)) kept steps
+    (λ a. ap (λ (b : Bool). cond (same_address (host.number, lun) a) (cond b no_entry (UnitCmd cdb payload ∷ []))
+    no_entry) answered)
     (reply_kept old new host lun cdb payload reply history kept steps answered now)
 
 -- a unit's shape, by what is known of it
@@ -146,30 +166,37 @@ shape_marked : (u v : UnitState) → SameLength u v → shape_of (with_attention
 shape_marked Absent Absent same = refl
 shape_marked Absent (Present t l) same = let p = same.present in absurd (cc)
 shape_marked (Present s m) Absent same = let p = same.present in absurd (cc)
-shape_marked (Present s m) (Present t l) same = ap (λ n. record { present = true; sectors = n; attention = m }) (sym same.sectors)
+shape_marked (Present s m) (Present t l) same =
+    ap (λ n. record { present = true; sectors = n; attention = m }) (sym same.sectors)
 
 -- what a broken array answers, by the history
-broken_reply : (old new : ArrayState) (host : Host) (lun : ℕ) (cdb payload : List ℕ) (reply : Reply) (history : List Entry) → HistoryAgrees old history
+broken_reply : (old new : ArrayState) (host : Host) (lun : ℕ) (cdb payload : List ℕ) (reply : Reply)
+    (history : List Entry) → HistoryAgrees old history
     → Steps old (CmdEvent host lun cdb payload) (CmdOutcome reply) new → is_broken new ≡ true
     → IsGiven (where_broken cdb (answer (replayed_unit old history (host.number, lun)) cdb payload).reply) reply
 broken_reply old new host lun cdb payload reply history kept steps lost =
     let a : Address = (host.number, lun) in
     let unit : shape_of (image_at old (addr_in host lun)) ≡ shape_of (replayed_unit old history a) =
-    ap shape_of (sym (image_here (image_at old) (addr_in host lun))) ∙ sym (shape_marked (image old a) (replay history a) (kept.lengths a)) in
+    ap shape_of (sym (image_here (image_at old) (addr_in host lun)))
+    ∙ sym (shape_marked (image old a) (replay history a) (kept.lengths a)) in
     subst (λ (r : Reply). IsGiven r reply)
-    (ap (λ (s : Shape). broken_answer s cdb (length payload)) unit ∙ broken_answer-is (replayed_unit old history a) cdb payload)
+    (ap (λ (s : Shape). broken_answer s cdb (length payload)) unit
+    ∙ broken_answer-is (replayed_unit old history a) cdb payload)
     (steps.answers.broken lost)
 
 -- what is there of a unit after entries, by what was there before
-shape_run : (entries : List UnitEntry) (u v : UnitState) → shape_of u ≡ shape_of v → shape_of (unit_run u entries) ≡ shape_of (unit_run v entries)
+shape_run : (entries : List UnitEntry) (u v : UnitState) → shape_of u ≡ shape_of v
+    → shape_of (unit_run u entries) ≡ shape_of (unit_run v entries)
 shape_run [] u v same = same
 shape_run (entry ∷ entries) u v same =
     shape_run entries (after u entry) (after v entry)
     (after-shape u entry ∙ ap (λ (s : Shape). shape_after s entry) same ∙ sym (after-shape v entry))
 
 -- a broken array stays broken
-pub stays_lost : (old new : ArrayState) (event : Event) (outcome : Outcome) → Steps old event outcome new → is_broken old ≡ true → is_broken new ≡ true
-stays_lost old new event outcome steps lost = ap is_broken_set (steps.disks.stays_broken (broken_is old.store.disks.health lost))
+pub stays_lost : (old new : ArrayState) (event : Event) (outcome : Outcome) → Steps old event outcome new
+    → is_broken old ≡ true → is_broken new ≡ true
+stays_lost old new event outcome steps lost =
+    ap is_broken_set (steps.disks.stays_broken (broken_is old.store.disks.health lost))
 
 -- when a command is recorded, and when not
 pub recorded_parts : (lost quiet : Bool) → not lost && not quiet ≡ true → (lost ≡ false) × (quiet ≡ false)
@@ -186,7 +213,8 @@ abbrev pub command_entry : Host → ℕ → List ℕ → List ℕ → Reply → 
 command_entry host lun cdb payload reply = Cmd host (exchange_of lun cdb payload reply) ∷ []
 
 -- the same growth, by what is known of the test and of the data
-pub grown_as : (new : ArrayState) (host : Host) (lun : ℕ) (cdb payload seen : List ℕ) (reply : Reply) (was now : List Entry) (test : Bool)
+pub grown_as : (new : ArrayState) (host : Host) (lun : ℕ) (cdb payload seen : List ℕ) (reply : Reply)
+    (was now : List Entry) (test : Bool)
     → test ≡ is_recorded new reply → seen ≡ payload → now ≡ was ++ cond test (command_entry host lun cdb seen reply) []
     → now ≡ was ++ cond (is_recorded new reply) (command_entry host lun cdb payload reply) []
 grown_as new host lun cdb payload seen reply was now test tested same grown =
@@ -194,7 +222,8 @@ grown_as new host lun cdb payload seen reply was now test tested same grown =
     ∙ ap (λ (l : List ℕ). was ++ cond (is_recorded new reply) (command_entry host lun cdb l reply) []) same
 
 -- a command to a live array, whose history is then `now`
-pub served : (old new : ArrayState) (host : Host) (lun : ℕ) (cdb payload : List ℕ) (reply : Reply) (was now : List Entry) → HistoryAgrees old was
+pub served : (old new : ArrayState) (host : Host) (lun : ℕ) (cdb payload : List ℕ) (reply : Reply)
+    (was now : List Entry) → HistoryAgrees old was
     → Steps old (CmdEvent host lun cdb payload) (CmdOutcome reply) new
     → now ≡ was ++ cond (is_recorded new reply) (command_entry host lun cdb payload reply) []
     → ServesCommand old was host lun cdb payload reply new now
@@ -208,12 +237,14 @@ served old new host lun cdb payload reply was now kept steps grown = record {
   broken = λ lost. broken_reply old new host lun cdb payload reply was kept steps lost;
   shapes = λ _ a.
       steps.shapes a
-      ∙ shape_run (entry_at a (CmdEvent host lun cdb payload) (CmdOutcome reply)) (image old a) (replayed_unit old was a)
+      ∙ shape_run (entry_at a (CmdEvent host lun cdb payload) (CmdOutcome reply)) (image old a)
+      (replayed_unit old was a)
       (sym (shape_marked (image old a) (replay was a) (kept.lengths a)));
 }
 
 -- and the array is what that history makes it
-pub kept_served : (old new : ArrayState) (host : Host) (lun : ℕ) (cdb payload : List ℕ) (reply : Reply) (was now : List Entry) → HistoryAgrees old was
+pub kept_served : (old new : ArrayState) (host : Host) (lun : ℕ) (cdb payload : List ℕ) (reply : Reply)
+    (was now : List Entry) → HistoryAgrees old was
     → Steps old (CmdEvent host lun cdb payload) (CmdOutcome reply) new
     → now ≡ was ++ cond (is_recorded new reply) (command_entry host lun cdb payload reply) [] → HistoryAgrees new now
 kept_served old new host lun cdb payload reply was now kept steps grown =
@@ -222,40 +253,51 @@ kept_served old new host lun cdb payload reply was now kept steps grown =
     by : (lost quiet : Bool) → is_broken new ≡ lost → is_busy reply.status ≡ quiet
         → HistoryAgrees new (was ++ cond (not lost && not quiet) (command_entry host lun cdb payload reply) [])
     by true quiet lost is =
-        subst (λ (l : List Entry). HistoryAgrees new l) (sym (append-nil was)) (broken_unrecorded old new host lun cdb payload reply was kept steps lost)
+        subst (λ (l : List Entry). HistoryAgrees new l) (sym (append-nil was))
+        (broken_unrecorded old new host lun cdb payload reply was kept steps lost)
     by false true sound is =
         subst (λ (l : List Entry). HistoryAgrees new l) (sym (append-nil was))
-        (kept_unrecorded old new host lun cdb payload reply was kept steps (same_images old new host lun cdb payload reply steps (inl is)))
+        (kept_unrecorded old new host lun cdb payload reply was kept steps
+        (same_images old new host lun cdb payload reply steps (inl is)))
     by false false sound is = kept_recorded old new host lun cdb payload reply was kept steps is sound
 
 -- and if the reply has bytes, it is what the history before makes it, too
-pub kept_bytes : (old new : ArrayState) (host : Host) (lun : ℕ) (cdb payload : List ℕ) (reply : Reply) (was : List Entry) → HistoryAgrees old was
+pub kept_bytes : (old new : ArrayState) (host : Host) (lun : ℕ) (cdb payload : List ℕ) (reply : Reply)
+    (was : List Entry) → HistoryAgrees old was
     → Steps old (CmdEvent host lun cdb payload) (CmdOutcome reply) new → reply.payload ≢ [] → HistoryAgrees new was
 kept_bytes old new host lun cdb payload reply was kept steps bytes =
-    kept_unrecorded old new host lun cdb payload reply was kept steps (same_images old new host lun cdb payload reply steps (inr bytes))
+    kept_unrecorded old new host lun cdb payload reply was kept steps
+    (same_images old new host lun cdb payload reply steps (inr bytes))
 
 -- the history after a command that isn't recorded
-pub unrecorded_history : (old new : ArrayState) (host : Host) (lun : ℕ) (cdb payload : List ℕ) (reply : Reply) (was now : List Entry)
+pub unrecorded_history : (old new : ArrayState) (host : Host) (lun : ℕ) (cdb payload : List ℕ) (reply : Reply)
+    (was now : List Entry)
     → ServesCommand old was host lun cdb payload reply new now → is_recorded new reply ≡ false → now ≡ was
 unrecorded_history old new host lun cdb payload reply was now serves none =
-    serves.history ∙ ap (λ (b : Bool). was ++ cond b (command_entry host lun cdb payload reply) []) none ∙ append-nil was
+    serves.history ∙ ap (λ (b : Bool). was ++ cond b (command_entry host lun cdb payload reply) []) none
+    ∙ append-nil was
 
 -- and after one that is
-pub recorded_history : (old new : ArrayState) (host : Host) (lun : ℕ) (cdb payload : List ℕ) (reply : Reply) (was now : List Entry)
+pub recorded_history : (old new : ArrayState) (host : Host) (lun : ℕ) (cdb payload : List ℕ) (reply : Reply)
+    (was now : List Entry)
     → ServesCommand old was host lun cdb payload reply new now → is_recorded new reply ≡ true
     → now ≡ was ++ Cmd host (exchange_of lun cdb payload reply) ∷ []
 recorded_history old new host lun cdb payload reply was now serves is =
     serves.history ∙ ap (λ (b : Bool). was ++ cond b (command_entry host lun cdb payload reply) []) is
 
 -- the same of a stored history that is the ghost one
-pub served_stored : (old new : ArrayState) (host : Host) (lun : ℕ) (cdb payload : List ℕ) (reply : Reply) (was items now : List Entry) → was ≡ items
-    → ServesCommand old was host lun cdb payload reply new now → ServesCommand old items host lun cdb payload reply new now
+pub served_stored : (old new : ArrayState) (host : Host) (lun : ℕ) (cdb payload : List ℕ) (reply : Reply)
+    (was items now : List Entry) → was ≡ items
+    → ServesCommand old was host lun cdb payload reply new now
+    → ServesCommand old items host lun cdb payload reply new now
 served_stored old new host lun cdb payload reply was items now same serves =
     subst (λ (l : List Entry). ServesCommand old l host lun cdb payload reply new now) same serves
 
-pub served_unstored : (old new : ArrayState) (host : Host) (lun : ℕ) (cdb payload : List ℕ) (reply : Reply) (was items now : List Entry) → was ≡ items
+pub served_unstored : (old new : ArrayState) (host : Host) (lun : ℕ) (cdb payload : List ℕ) (reply : Reply)
+    (was items now : List Entry) → was ≡ items
     → is_recorded new reply ≡ false
-    → ServesCommand old was host lun cdb payload reply new now → ServesCommand old items host lun cdb payload reply new items
+    → ServesCommand old was host lun cdb payload reply new now
+    → ServesCommand old items host lun cdb payload reply new items
 served_unstored old new host lun cdb payload reply was items now same none serves =
     subst (λ (l : List Entry). ServesCommand old items host lun cdb payload reply new l)
     (unrecorded_history old new host lun cdb payload reply was now serves none ∙ same)
@@ -272,18 +314,23 @@ withdrawn was now entry grown =
     ap before_last grown ∙ ap (λ (n : ℕ). take n (was ++ entry ∷ [])) long ∙ take_first was (entry ∷ [])
 
 -- a stored history that has grown by the command is the ghost one
-pub stored_as : (was items now stored : List Entry) (host whose : Host) (exchange ours : Exchange) → was ≡ items → whose ≡ host → ours ≡ exchange
+pub stored_as : (was items now stored : List Entry) (host whose : Host) (exchange ours : Exchange) → was ≡ items
+    → whose ≡ host → ours ≡ exchange
     → now ≡ was ++ Cmd host exchange ∷ [] → stored ≡ items ++ Cmd whose ours ∷ [] → now ≡ stored
 stored_as was items now stored host whose exchange ours same own one grown kept =
-    grown ∙ ap (λ (l : List Entry). l ++ Cmd host exchange ∷ []) same ∙ ap (λ (h : Host). items ++ Cmd h exchange ∷ []) (sym own)
+    grown ∙ ap (λ (l : List Entry). l ++ Cmd host exchange ∷ []) same
+    ∙ ap (λ (h : Host). items ++ Cmd h exchange ∷ []) (sym own)
     ∙ ap (λ (x : Exchange). items ++ Cmd whose x ∷ []) (sym one) ∙ sym kept
 
 -- a command that a live array hasn't recorded
-pub unrecorded : (old : KeptState) (before : SeatState) (lun : ℕ) (cdb payload : List ℕ) (reply : Reply) (new : KeptState)
-    → ServesCommand old.array old.history before.host lun cdb payload reply new.array new.history → is_recorded new.array reply ≡ false
+pub unrecorded : (old : KeptState) (before : SeatState) (lun : ℕ) (cdb payload : List ℕ) (reply : Reply)
+    (new : KeptState)
+    → ServesCommand old.array old.history before.host lun cdb payload reply new.array new.history
+    → is_recorded new.array reply ≡ false
     → IsUnrecorded old before lun cdb payload reply new before
 unrecorded old before lun cdb payload reply new serves none = record {
-  history = unrecorded_history old.array new.array before.host lun cdb payload reply old.history new.history serves none;
+  history = unrecorded_history old.array new.array before.host lun cdb payload reply old.history new.history serves
+      none;
   transcript = refl;
   busy_is = λ sound. serves.busy_is sound (then_busy (is_broken new.array) (is_busy reply.status) none sound);
   images = λ sound. serves.images sound (then_busy (is_broken new.array) (is_busy reply.status) none sound);
@@ -292,8 +339,10 @@ unrecorded old before lun cdb payload reply new serves none = record {
 }
 
 -- a command that is BUSY
-pub unrecorded_busy : (old : KeptState) (before : SeatState) (lun : ℕ) (cdb payload : List ℕ) (first : Reply) (new : KeptState)
-    → Steps old.array (CmdEvent before.host lun cdb payload) (CmdOutcome first) new.array → IsBusyFor first → is_broken new.array ≡ false → new.history ≡ old.history
+pub unrecorded_busy : (old : KeptState) (before : SeatState) (lun : ℕ) (cdb payload : List ℕ) (first : Reply)
+    (new : KeptState)
+    → Steps old.array (CmdEvent before.host lun cdb payload) (CmdOutcome first) new.array → IsBusyFor first
+    → is_broken new.array ≡ false → new.history ≡ old.history
     → IsUnrecorded old before lun cdb payload busy new before
 unrecorded_busy old before lun cdb payload first new steps none now same = record {
   history = same;
@@ -306,7 +355,8 @@ unrecorded_busy old before lun cdb payload first new steps none now same = recor
 
 -- and how it was done
 pub begins_busy : (old new : ArrayState) (host : Host) (lun : ℕ) (cdb payload : List ℕ) (first : Reply)
-    → Steps old (CmdEvent host lun cdb payload) (CmdOutcome first) new → IsBusyFor first → is_broken new ≡ false → Begins old host lun cdb payload busy new
+    → Steps old (CmdEvent host lun cdb payload) (CmdOutcome first) new → IsBusyFor first → is_broken new ≡ false
+    → Begins old host lun cdb payload busy new
 begins_busy old new host lun cdb payload first steps none now =
     elim none [
       | inl is ↦
@@ -316,10 +366,13 @@ begins_busy old new host lun cdb payload first steps none now =
     ]
 
 -- a command that was answered
-pub recorded : (old : KeptState) (before : SeatState) (lun : ℕ) (cdb payload : List ℕ) (reply : Reply) (position : ℕ) (new : KeptState) (after : SeatState)
-    (now : List Entry) (ours theirs : Exchange) → ServesCommand old.array old.history before.host lun cdb payload reply new.array now
+pub recorded : (old : KeptState) (before : SeatState) (lun : ℕ) (cdb payload : List ℕ) (reply : Reply) (position : ℕ)
+    (new : KeptState) (after : SeatState)
+    (now : List Entry) (ours theirs : Exchange)
+    → ServesCommand old.array old.history before.host lun cdb payload reply new.array now
     → is_recorded new.array reply ≡ true
-    → position ≡ length old.history → new.history ≡ old.history ++ Cmd before.host ours ∷ [] → after.transcript ≡ before.transcript ++ theirs ∷ []
+    → position ≡ length old.history → new.history ≡ old.history ++ Cmd before.host ours ∷ []
+    → after.transcript ≡ before.transcript ++ theirs ∷ []
     → ours ≡ exchange_of lun cdb payload reply → theirs ≡ exchange_of lun cdb payload reply
     → IsRecorded old before lun cdb payload reply position new after
 recorded old before lun cdb payload reply position new after now ours theirs serves is at history transcript one other =
@@ -334,7 +387,8 @@ recorded old before lun cdb payload reply position new after now ours theirs ser
     }
 
 -- a command is served as well from an array and a seat with more room
-serves_roomy : (old : KeptState) (before : SeatState) (room seat_room : ℕ) (lun : ℕ) (cdb payload : List ℕ) (reply : Reply) (at : Option ℕ) (new : KeptState) (after : SeatState)
+serves_roomy : (old : KeptState) (before : SeatState) (room seat_room : ℕ) (lun : ℕ) (cdb payload : List ℕ)
+    (reply : Reply) (at : Option ℕ) (new : KeptState) (after : SeatState)
     → ServesHost (record old { room = room }) (record before { room = seat_room }) lun cdb payload reply at new after
     → ServesHost old before lun cdb payload reply at new after
 serves_roomy old before room seat_room lun cdb payload reply None new after serves = record {
@@ -354,16 +408,20 @@ serves_roomy old before room seat_room lun cdb payload reply (Some position) new
   sound = serves.sound;
 }
 
-pub serves_from : (old roomy : KeptState) (before ready : SeatState) (lun : ℕ) (cdb payload : List ℕ) (reply : Reply) (at : Option ℕ) (new : KeptState) (after : SeatState)
+pub serves_from : (old roomy : KeptState) (before ready : SeatState) (lun : ℕ) (cdb payload : List ℕ) (reply : Reply)
+    (at : Option ℕ) (new : KeptState) (after : SeatState)
     → roomy ≡ record old { room = roomy.room } → ready ≡ record before { room = ready.room }
-    → ServesHost roomy ready lun cdb payload reply at new after → ServesHost old before lun cdb payload reply at new after
+    → ServesHost roomy ready lun cdb payload reply at new after
+    → ServesHost old before lun cdb payload reply at new after
 serves_from old roomy before ready lun cdb payload reply at new after same same_seat serves =
     serves_roomy old before roomy.room ready.room lun cdb payload reply at new after
-    (subst (λ (s : SeatState). ServesHost (record old { room = roomy.room }) s lun cdb payload reply at new after) same_seat
+    (subst (λ (s : SeatState). ServesHost (record old { room = roomy.room }) s lun cdb payload reply at new after)
+    same_seat
     (subst (λ (k : KeptState). ServesHost k ready lun cdb payload reply at new after) same serves))
 
 -- what is counted changes nothing of it
-pub serves_counted : (old : KeptState) (before : SeatState) (lun : ℕ) (cdb payload : List ℕ) (reply : Reply) (at : Option ℕ) (new : KeptState) (after : SeatState)
+pub serves_counted : (old : KeptState) (before : SeatState) (lun : ℕ) (cdb payload : List ℕ) (reply : Reply)
+    (at : Option ℕ) (new : KeptState) (after : SeatState)
     (counts : Counts) (events : ℕ) → ServesHost old before lun cdb payload reply at new after
     → ServesHost old before lun cdb payload reply at (record new { counts = counts; events = events }) after
 serves_counted old before lun cdb payload reply None new after counts events serves = record {

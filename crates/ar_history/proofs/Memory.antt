@@ -1,5 +1,6 @@
 -- What a command leaves that was answered BUSY.
-use Rattle.std.proofs.Common.{◌≡◌, ◌≢◌, ℕ, Bool, true, false, cond, not, Option, Some, None, List, [], refl, sym, ap, subst, ◌∙◌, inl, inr}
+use Rattle.std.proofs.Common.{◌≡◌, ◌≢◌, ℕ, Bool, true, false, cond, not, Option, Some, None, List, [], refl, sym, ap}
+use Rattle.std.proofs.Common.{subst, ◌∙◌, inl, inr}
 use Rattle.std.specs.Map.{lookup}
 use Rattle.std.specs.Prelude.{◌==◌, ◌&&◌, Result, Ok, Err, is_some, unwrap_or}
 use Rattle.ar_disks.specs.declared.address.Addr.{Addr}
@@ -40,7 +41,9 @@ tells_none Absent cdb bytes some = refl
 tells_none (Present sectors false) cdb bytes some = refl
 tells_none (Present sectors true) cdb bytes some = by (operation_code cdb == 0x12) some
   where
-    by : (b : Bool) → (cond b (obeyed sectors true (reading cdb) bytes) (leaving (Present sectors false) (check capacity_data_has_changed))).reply.payload ≢ []
+    by : (b : Bool)
+        → (cond b (obeyed sectors true (reading cdb) bytes)
+        (leaving (Present sectors false) (check capacity_data_has_changed))).reply.payload ≢ []
         → true && not b ≡ false
     by true some = refl
     by false some = absurd (some refl)
@@ -48,14 +51,20 @@ tells_none (Present sectors true) cdb bytes some = by (operation_code cdb == 0x1
 -- the mark that the tables have for a unit
 abbrev shape_at : Option UnitTableState → Shape
 shape_at found =
-    cond (is_some found) (record { present = true; sectors = (unwrap_or found no_unit).sectors; attention = (unwrap_or found no_unit).attention })
+    cond (is_some found)
+    (record {
+      present = true;
+      sectors = (unwrap_or found no_unit).sectors;
+      attention = (unwrap_or found no_unit).attention;
+    })
     (record { present = false; sectors = 0; attention = false })
 
 mark_by : (found : Option UnitTableState) → (shape_at found).attention ≡ (unwrap_or found no_unit).attention
 mark_by None = refl
 mark_by (Some unit) = refl
 
-told_none : (s : ArrayState) (addr : Addr) (cdb bytes : List ℕ) → (answer (image_at s addr) cdb bytes).reply.payload ≢ []
+told_none : (s : ArrayState) (addr : Addr) (cdb bytes : List ℕ)
+    → (answer (image_at s addr) cdb bytes).reply.payload ≢ []
     → told s.store.book addr cdb ≡ s.store.book
 told_none s addr cdb bytes some =
     let mark : (shape_of (image_at s addr)).attention ≡ attention_at s.store.book addr =
@@ -72,7 +81,8 @@ some_unbroken cdb reply some = by (is_good reply.status && needs_blocks (reading
     by false some = some
 
 -- where BUSY stands in its place, the table's reply has bytes
-busy_bytes : (old new : ArrayState) (addr : Addr) (cdb bytes : List ℕ) (reply : Reply) → Obeys old addr cdb bytes reply new → reply.status ≡ Busy
+busy_bytes : (old new : ArrayState) (addr : Addr) (cdb bytes : List ℕ) (reply : Reply)
+    → Obeys old addr cdb bytes reply new → reply.status ≡ Busy
     → (answer (image_at old addr) cdb bytes).reply.payload ≢ []
 busy_bytes old new addr cdb bytes reply obeys is = by (is_broken new) refl
   where
@@ -80,7 +90,8 @@ busy_bytes old new addr cdb bytes reply obeys is = by (is_broken new) refl
     by false sound = (obeys.sound sound).given.memory is
     by true lost =
         some_unbroken cdb (answer (image_at old addr) cdb bytes).reply
-        (subst (λ (r : Reply). r.payload ≢ []) (broken_answer-is (image_at old addr) cdb bytes) ((obeys.broken lost).memory is))
+        (subst (λ (r : Reply). r.payload ≢ []) (broken_answer-is (image_at old addr) cdb bytes)
+        ((obeys.broken lost).memory is))
 
 leaves_by : (old new : ArrayState) (addr : Addr) (cdb bytes : List ℕ) → MovesNothing old addr cdb new
     → (answer (image_at old addr) cdb bytes).reply.payload ≢ [] → LeavesStorage old new
@@ -91,13 +102,15 @@ leaves_by old new addr cdb bytes moves some = record {
 }
 
 steps_leave : (old new : ArrayState) (host : Host) (lun : ℕ) (cdb payload : List ℕ) (reply : Reply)
-    → Steps old (CmdEvent host lun cdb payload) (CmdOutcome reply) new → is_busy reply.status ≡ true → LeavesStorage old new
+    → Steps old (CmdEvent host lun cdb payload) (CmdOutcome reply) new → is_busy reply.status ≡ true
+    → LeavesStorage old new
 steps_leave old new host lun cdb payload reply steps is =
     let status = busy_is reply.status is in
     leaves_by old new (addr_in host lun) cdb payload (steps.answers.busy status)
     (busy_bytes old new (addr_in host lun) cdb payload reply steps.answers status)
 
-no_write : (r : Result Command Sense) → ((lba count : ℕ) (fua : Bool) → r ≡ Ok (Write lba count fua) → ⊥) → is_write r ≡ false
+no_write : (r : Result Command Sense) → ((lba count : ℕ) (fua : Bool) → r ≡ Ok (Write lba count fua) → ⊥)
+    → is_write r ≡ false
 no_write (Err sense) none = refl
 no_write (Ok TestReady) none = refl
 no_write (Ok (Inquiry len)) none = refl
@@ -110,12 +123,15 @@ uncopied_leaves : (old new : ArrayState) (host : Host) (lun : ℕ) (cdb payload 
 uncopied_leaves old new host lun cdb payload reply lost =
     let addr : Addr = addr_in host lun in
     let served = lost.steps.answers.sound lost.sound in
-    let answered : lost.first.status ≢ Busy = λ is. lost.bytes (ap (λ (r : Reply). r.payload) (served.given.refused is)) in
+    let answered : lost.first.status ≢ Busy =
+    λ is. lost.bytes (ap (λ (r : Reply). r.payload) (served.given.refused is)) in
     let same : lost.first ≡ (answer (image_at old addr) cdb payload).reply = served.given.answered answered in
-    let some : (answer (image_at old addr) cdb payload).reply.payload ≢ [] = λ none. lost.bytes (ap (λ (r : Reply). r.payload) same ∙ none) in
+    let some : (answer (image_at old addr) cdb payload).reply.payload ≢ [] =
+    λ none. lost.bytes (ap (λ (r : Reply). r.payload) same ∙ none) in
     leaves_by old new addr cdb payload
     (lost.steps.answers.reads
-    (no_write (reading cdb) (λ lba count fua is. some ((answer-takes_no_memory (image_at old addr) cdb payload).writes lba count fua is))))
+    (no_write (reading cdb)
+    (λ lba count fua is. some ((answer-takes_no_memory (image_at old addr) cdb payload).writes lba count fua is))))
     some
 
 -- a command that is BUSY has moved nothing
@@ -144,7 +160,8 @@ pub begun_does : (old new : ArrayState) (host : Host) (lun : ℕ) (cdb payload :
 begun_does old new host lun cdb payload reply begun = elim begun [ inl steps ↦ inl (inl steps) | inr lost ↦ inr lost ]
 
 -- what is counted changes nothing of it
-pub begins_counted : (old : KeptState) (before : SeatState) (lun : ℕ) (cdb payload : List ℕ) (reply : Reply) (new : KeptState) (after : SeatState)
+pub begins_counted : (old : KeptState) (before : SeatState) (lun : ℕ) (cdb payload : List ℕ) (reply : Reply)
+    (new : KeptState) (after : SeatState)
     (counts : Counts) (events : ℕ) → BeginsByPlace old before lun cdb payload reply new after
     → BeginsByPlace old before lun cdb payload reply (record new { counts = counts; events = events }) after
 begins_counted old before lun cdb payload reply new after counts events begins = record {

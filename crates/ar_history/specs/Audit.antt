@@ -1,5 +1,6 @@
 -- The audit: transcripts compared with a history.
-use Rattle.std.specs.Prelude.{◌≡◌, ◌≢◌, ℕ, ◌<◌, ◌≤◌, Bool, true, false, ◌==◌, if◌then◌else◌, Option, Some, None, List, ◌∷◌, ◌++◌, take, slice_get, length}
+use Rattle.std.specs.Prelude.{◌≡◌, ◌≢◌, ℕ, ◌<◌, ◌≤◌, Bool, true, false, ◌==◌, if◌then◌else◌, Option, Some, None, List}
+use Rattle.std.specs.Prelude.{◌∷◌, ◌++◌, take, slice_get, length}
 use Rattle.ar_disks.specs.declared.address.Host.{Host}
 use Rattle.ar_unit.specs.Unit.{answer}
 use Rattle.ar_history.specs.declared.entry.Exchange.{Exchange}
@@ -22,7 +23,8 @@ IsHostsPart history seat = seat.transcript ≡ part seat.host.number history
 pub record IsFirstMismatch (history : List Entry) (seats : List SeatState) (number position : ℕ) : Type 0 where
   pub there : number < length seats
   pub before : (k : ℕ) (seat : SeatState) → slice_get seats k ≡ Some seat → k < number → IsHostsPart history seat
-  pub differs : (seat : SeatState) → slice_get seats number ≡ Some seat → DiffersAt position seat.transcript (part number history)
+  pub differs : (seat : SeatState) → slice_get seats number ≡ Some seat
+      → DiffersAt position seat.transcript (part number history)
 
 -- the command of an entry, if it is one of this host
 abbrev pub command_of : ℕ → Entry → Option Exchange
@@ -49,11 +51,13 @@ pub record IsSame (test : Bool) (one other : Exchange) : Type 0 where
 
 -- A command of a host's part is in the history at `place`, after `position` others of the part, and its reply is that
 -- of its unit, as the unit's own create, resize, delete and I/O commands before it have made it.
-pub record IsExecutedAt (history : List Entry) (number position : ℕ) (exchange : Exchange) (place : ℕ) (host : Host) : Type 0 where
+pub record IsExecutedAt (history : List Entry) (number position : ℕ) (exchange : Exchange) (place : ℕ) (host : Host)
+    : Type 0 where
   pub entry : slice_get history place ≡ Some (Cmd host exchange)
   pub host_is : host.number ≡ number
   pub before : part number (take place history) ≡ take position (part number history)
-  pub reply : exchange.reply ≡ (answer (replay (take place history) (number, exchange.lun)) exchange.cdb exchange.payload).reply
+  pub reply : exchange.reply
+      ≡ (answer (replay (take place history) (number, exchange.lun)) exchange.cdb exchange.payload).reply
 
 -- each command of a transcript is in the history so
 abbrev pub IsTranscriptIsolated : List Entry → SeatState → Type 0

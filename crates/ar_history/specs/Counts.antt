@@ -1,5 +1,6 @@
 -- What is counted of commands and of background work.
-use Rattle.std.specs.Prelude.{◌≡◌, ℕ, ◌+◌, min, Bool, ◌==◌, ◌||◌, true, false, if◌then◌else◌, List, [], ◌∷◌, length, get_or, set}
+use Rattle.std.specs.Prelude.{◌≡◌, ℕ, ◌+◌, min, Bool, ◌==◌, ◌||◌, true, false, if◌then◌else◌, List, [], ◌∷◌, length}
+use Rattle.std.specs.Prelude.{get_or, set}
 use Rattle.ar_scsi.specs.declared.reply.Reply.{Reply}
 use Rattle.ar_scsi.specs.declared.reply.Status.{Status}
 use Rattle.ar_scsi.specs.declared.reply.Status.TheVariants.{Good, CheckCondition, Busy}
@@ -58,8 +59,8 @@ replies_after counts Good = record counts { good = raised counts.good 1 }
 replies_after counts CheckCondition = record counts { check = raised counts.check 1 }
 replies_after counts Busy = record counts { busy = raised counts.busy 1 }
 
--- the replies by operation after one to a command with this operation code: those of SPC-3 and SBC-2 that units know, and
--- all others together
+-- the replies by operation after one to a command with this operation code: those of SPC-3 and SBC-2 that units know,
+-- and all others together
 unfoldable pub operations_after : OperationCounts → ℕ → Status → OperationCounts
 operations_after counts code status =
     if code == 0x00 then record counts { ready = replies_after counts.ready status }
@@ -69,8 +70,8 @@ operations_after counts code status =
     else (if (code == 0x2A) || (code == 0x8A) then record counts { write = replies_after counts.write status }
     else record counts { other = replies_after counts.other status }))))
 
--- A host's counts after a command with `sent` bytes of data-out. Each reply is counted by its operation; apart from that BUSY
--- counts nothing, and data-out counts only with GOOD.
+-- A host's counts after a command with `sent` bytes of data-out. Each reply is counted by its operation; apart from
+-- that BUSY counts nothing, and data-out counts only with GOOD.
 abbrev pub host_counts_after : HostCounts → List ℕ → ℕ → Reply → HostCounts
 host_counts_after counts cdb sent reply =
     let replies = operations_after counts.replies (operation_code cdb) reply.status in
@@ -85,7 +86,8 @@ host_counts_after counts cdb sent reply =
 -- the counts after a command of this host: no other host's have changed, nor those of background work
 abbrev pub counts_after : Counts → ℕ → List ℕ → ℕ → Reply → Counts
 counts_after counts host cdb sent reply =
-    record counts { hosts = set counts.hosts host (host_counts_after (get_or counts.hosts host no_host) cdb sent reply) }
+    record counts
+    { hosts = set counts.hosts host (host_counts_after (get_or counts.hosts host no_host) cdb sent reply) }
 
 -- whether a task had nothing to do, or could do nothing, by its outcome
 abbrev pub is_idle : Outcome → Bool
@@ -116,7 +118,8 @@ pub record CountsNothing (old new : KeptState) : Type 0 where
   pub events : new.events ≡ old.events
 
 -- a command of this host is counted, and as an event; `sent` are its bytes of data-out
-pub record CountsCommand (old : KeptState) (host : ℕ) (cdb : List ℕ) (sent : ℕ) (reply : Reply) (new : KeptState) : Type 0 where
+pub record CountsCommand (old : KeptState) (host : ℕ) (cdb : List ℕ) (sent : ℕ) (reply : Reply) (new : KeptState)
+    : Type 0 where
   pub counts : new.counts ≡ counts_after old.counts host cdb sent reply
   pub events : new.events ≡ raised old.events 1
 
@@ -127,5 +130,6 @@ pub record CountsOperation (old new : KeptState) : Type 0 where
 
 -- a step of background work is counted, and as an event, exactly if its outcome isn't idle
 pub record CountsTask (old : KeptState) (task : Task) (outcome : Outcome) (new : KeptState) : Type 0 where
-  pub counts : new.counts ≡ (if is_idle outcome then old.counts else record old.counts { tasks = task_counts_after old.counts.tasks task })
+  pub counts : new.counts
+      ≡ (if is_idle outcome then old.counts else record old.counts { tasks = task_counts_after old.counts.tasks task })
   pub events : new.events ≡ (if is_idle outcome then old.events else raised old.events 1)

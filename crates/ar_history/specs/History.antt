@@ -1,6 +1,8 @@
 -- A history: what was done to units, in the order in which it was done.
-use Rattle.std.specs.Prelude.{◌≡◌, ℕ, ◌<◌, ◌≤◌, ◌-◌, Bool, true, false, ◌==◌, if◌then◌else◌, Some, List, [], ◌∷◌, take, length, slice_get}
-use Rattle.ar_unit.specs.Unit.{UnitState, Absent, UnitEntry, Make as UnitMake, Grow as UnitGrow, Remove as UnitRemove, Cmd as UnitCmd, answer, unit_run}
+use Rattle.std.specs.Prelude.{◌≡◌, ℕ, ◌<◌, ◌≤◌, ◌-◌, Bool, true, false, ◌==◌, if◌then◌else◌, Some, List, [], ◌∷◌, take}
+use Rattle.std.specs.Prelude.{length, slice_get}
+use Rattle.ar_unit.specs.Unit.{UnitState, Absent, UnitEntry, Make as UnitMake, Grow as UnitGrow, Remove as UnitRemove}
+use Rattle.ar_unit.specs.Unit.{Cmd as UnitCmd, answer, unit_run}
 use Rattle.ar_unit.specs.Broken.{shape_of}
 use Rattle.ar_volume.specs.Sectors.{Address, address_of, same_address}
 use Rattle.ar_history.specs.declared.entry.Exchange.{Exchange}
@@ -53,7 +55,8 @@ Fits state (Cmd host exchange) = exchange.reply ≡ (answer state exchange.cdb e
 
 -- each entry fits what the entries before it have made of its unit
 pub record IsLegal (history : List Entry) : Type 0 where
-  pub fits : (k : ℕ) (entry : Entry) → slice_get history k ≡ Some entry → Fits (replay (take k history) (address_in entry)) entry
+  pub fits : (k : ℕ) (entry : Entry) → slice_get history k ≡ Some entry
+      → Fits (replay (take k history) (address_in entry)) entry
 
 -- the commands of a host, with their replies
 abbrev pub part : ℕ → List Entry → List Exchange
@@ -61,7 +64,8 @@ part number [] = []
 part number (Make addr sectors ∷ history) = part number history
 part number (Grow addr sectors ∷ history) = part number history
 part number (Remove addr ∷ history) = part number history
-part number (Cmd host exchange ∷ history) = if host.number == number then exchange ∷ part number history else part number history
+part number (Cmd host exchange ∷ history) =
+    if host.number == number then exchange ∷ part number history else part number history
 
 -- whether an entry is a command
 abbrev pub is_command : Entry → Bool

@@ -7,8 +7,10 @@ use Rattle.ar_volume.specs.Image.{ArrayState, is_broken, image}
 use Rattle.ar_volume.specs.Sectors.{Address}
 use Rattle.ar_core.specs.Events.{Event, Outcome}
 use Rattle.ar_core.specs.Step.{is_busy}
-use Rattle.ar_core.specs.declared.event.EventOf.TheVariants.{Make as MakeEvent, Grow as GrowEvent, Remove as RemoveEvent, Cmd as CmdEvent}
-use Rattle.ar_core.specs.declared.event.OutcomeOf.TheVariants.{Make as MakeOutcome, Grow as GrowOutcome, Remove as RemoveOutcome, Cmd as CmdOutcome}
+use Rattle.ar_core.specs.declared.event.EventOf.TheVariants.{Make as MakeEvent, Grow as GrowEvent}
+use Rattle.ar_core.specs.declared.event.EventOf.TheVariants.{Remove as RemoveEvent, Cmd as CmdEvent}
+use Rattle.ar_core.specs.declared.event.OutcomeOf.TheVariants.{Make as MakeOutcome, Grow as GrowOutcome}
+use Rattle.ar_core.specs.declared.event.OutcomeOf.TheVariants.{Remove as RemoveOutcome, Cmd as CmdOutcome}
 use Rattle.ar_history.specs.declared.counts.Counts.{Counts}
 use Rattle.ar_history.specs.declared.entry.Exchange.{Exchange}
 use Rattle.ar_history.specs.declared.entry.Entry.{Entry}

@@ -7,8 +7,8 @@ use Rattle.ar_history.specs.Kept.{KeptState, StaysKept, history_entry}
 use Rattle.ar_history.specs.Operations.{Does, event_of_task}
 use Rattle.ar_history.specs.declared.operation.Task.{Task}
 
--- An operation's event was one step of the array, or was not begun. The history has grown by what was done, the array was
--- kept before and after, and an event is counted.
+-- An operation's event was one step of the array, or was not begun. The history has grown by what was done, the array
+-- was kept before and after, and an event is counted.
 pub record Operates (event : Event) (old : KeptState) (outcome : Outcome) (new : KeptState) : Type 0 where
   pub does : Does old.array event outcome new.array
   pub recorded : new.history ≡ old.history ++ history_entry event outcome

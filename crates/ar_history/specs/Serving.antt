@@ -1,5 +1,6 @@
 -- How a host's command is executed, and recorded in history and transcript.
-use Rattle.std.specs.Prelude.{◌≡◌, ◌≢◌, ◌⊎◌, ◌&&◌, ◌<◌, ℕ, Bool, true, false, not, if◌then◌else◌, List, [], ◌∷◌, ◌++◌, length, Option, Some, None}
+use Rattle.std.specs.Prelude.{◌≡◌, ◌≢◌, ◌⊎◌, ◌&&◌, ◌<◌, ℕ, Bool, true, false, not, if◌then◌else◌, List, [], ◌∷◌, ◌++◌}
+use Rattle.std.specs.Prelude.{length, Option, Some, None}
 use Rattle.ar_disks.specs.declared.address.Host.{Host}
 use Rattle.ar_scsi.specs.declared.reply.Reply.{Reply}
 use Rattle.ar_scsi.specs.Reply.{busy}
@@ -23,9 +24,10 @@ use Rattle.ar_history.specs.Seat.{SeatState}
 abbrev pub is_recorded : ArrayState → Reply → Bool
 is_recorded new reply = not (is_broken new) && not (is_busy reply.status)
 
--- A command to a live array. Unless the reply is BUSY or the array has failed after it, the history `was` has grown by the
--- command with its reply, which is that of its unit, as the history so far has made the unit.
-pub record ServesCommand (old : ArrayState) (was : List Entry) (host : Host) (lun : ℕ) (cdb payload : List ℕ) (reply : Reply)
+-- A command to a live array. Unless the reply is BUSY or the array has failed after it, the history `was` has grown by
+-- the command with its reply, which is that of its unit, as the history so far has made the unit.
+pub record ServesCommand (old : ArrayState) (was : List Entry) (host : Host) (lun : ℕ) (cdb payload : List ℕ)
+    (reply : Reply)
     (new : ArrayState) (now : List Entry) : Type 0 where
   pub history : now ≡ was ++ (if is_recorded new reply then Cmd host (exchange_of lun cdb payload reply) ∷ [] else [])
   pub reply_is : is_recorded new reply ≡ true → reply ≡ (answer (replay was (host.number, lun)) cdb payload).reply
@@ -40,7 +42,8 @@ pub record ServesCommand (old : ArrayState) (was : List Entry) (host : Host) (lu
   pub shapes :
       is_broken new ≡ true
       → (a : Address)
-      → shape_of (image new a) ≡ shape_of (unit_run (replayed_unit old was a) (entry_at a (CmdEvent host lun cdb payload) (CmdOutcome reply)))
+      → shape_of (image new a)
+      ≡ shape_of (unit_run (replayed_unit old was a) (entry_at a (CmdEvent host lun cdb payload) (CmdOutcome reply)))
 
 -- a command with another reply
 abbrev pub with_reply : Exchange → Reply → Exchange
@@ -48,7 +51,8 @@ with_reply exchange reply = record exchange { reply = reply }
 
 -- The command is recorded: history and transcript have grown by it and its reply, which is that of its unit, as the
 -- history so far has made the unit.
-pub record IsRecorded (old : KeptState) (before : SeatState) (lun : ℕ) (cdb payload : List ℕ) (reply : Reply) (position : ℕ)
+pub record IsRecorded (old : KeptState) (before : SeatState) (lun : ℕ) (cdb payload : List ℕ) (reply : Reply)
+    (position : ℕ)
     (new : KeptState) (after : SeatState) : Type 0 where
   pub position_is : position ≡ length old.history
   pub history : new.history ≡ old.history ++ Cmd before.host (exchange_of lun cdb payload reply) ∷ []
@@ -77,11 +81,13 @@ pub record IsUnrecorded (old : KeptState) (before : SeatState) (lun : ℕ) (cdb 
 
 -- recorded at the position of its entry, or not recorded
 abbrev pub ServesHost : KeptState → SeatState → ℕ → List ℕ → List ℕ → Reply → Option ℕ → KeptState → SeatState → Type 0
-ServesHost old before lun cdb payload reply (Some position) new after = IsRecorded old before lun cdb payload reply position new after
+ServesHost old before lun cdb payload reply (Some position) new after =
+    IsRecorded old before lun cdb payload reply position new after
 ServesHost old before lun cdb payload reply None new after = IsUnrecorded old before lun cdb payload reply new after
 
 -- the array executed the command, but the bytes of its reply couldn't be shared, and BUSY replaces it
-pub record IsUncopied (old : ArrayState) (host : Host) (lun : ℕ) (cdb payload : List ℕ) (reply : Reply) (new : ArrayState) : Type 0 where
+pub record IsUncopied (old : ArrayState) (host : Host) (lun : ℕ) (cdb payload : List ℕ) (reply : Reply)
+    (new : ArrayState) : Type 0 where
   pub first : Reply
   pub steps : Steps old (CmdEvent host lun cdb payload) (CmdOutcome first) new
   pub sound : is_broken new ≡ false
@@ -107,7 +113,8 @@ pub record HasCapacity (old new : KeptState) (before after : SeatState) (payload
 
 -- A command with capacity in both lists and no data to share is begun. Until the array fails, one without capacity in
 -- either list is not.
-pub record BeginsByPlace (old : KeptState) (before : SeatState) (lun : ℕ) (cdb payload : List ℕ) (reply : Reply) (new : KeptState)
+pub record BeginsByPlace (old : KeptState) (before : SeatState) (lun : ℕ) (cdb payload : List ℕ) (reply : Reply)
+    (new : KeptState)
     (after : SeatState) : Type 0 where
   pub begun : HasCapacity old new before after payload → Begins old.array before.host lun cdb payload reply new.array
   pub unbegun : new.room ≡ length old.history → is_broken old.array ≡ false → new.array ≡ old.array

@@ -1,6 +1,8 @@
 // The audit: each host's transcript must equal its part of the history.
-ghost use Rattle.std.specs.Prelude.{◌≡◌, ◌≤◌, ◌∷◌, [], Some, None, All, IfOk, OnOk, IfErr, MatchOption, map, sum, count_by, length};
-ghost use Rattle.ar_history.specs.Audit.{DiffersAt, IsHostsPart, IsFirstMismatch, IsTranscriptIsolated, Agrees, Departs, command_of, IsSame};
+ghost use Rattle.std.specs.Prelude.{◌≡◌, ◌≤◌, ◌∷◌, [], Some, None, All, IfOk, OnOk, IfErr, MatchOption, map, sum};
+ghost use Rattle.std.specs.Prelude.{count_by, length};
+ghost use Rattle.ar_history.specs.Audit.{DiffersAt, IsHostsPart, IsFirstMismatch, IsTranscriptIsolated, Agrees};
+ghost use Rattle.ar_history.specs.Audit.{Departs, command_of, IsSame};
 ghost use Rattle.ar_history.specs.History.{IsLegal, is_command, part};
 ghost use Rattle.ar_history.specs.Seat.{SeatState};
 
@@ -35,12 +37,14 @@ impl<D: Disk, L: Ledger> Kept<D, L> {
 
         // If all four agree.
         ensures parts { OnOk result (All (IsHostsPart self.now.history) seats.now) }
-        ensures commands { IfOk result (λ report. report.commands ≡ map (λ (s : SeatState). length s.transcript) seats.now) }
+        ensures commands { IfOk result
+            (λ report. report.commands ≡ map (λ (s : SeatState). length s.transcript) seats.now) }
         ensures isolated { OnOk result (All (IsTranscriptIsolated self.now.history) seats.now) }
         ensures none_else { IfOk result (λ report. sum report.commands ≡ count_by is_command self.now.history) }
 
         // If they don't.
-        ensures mismatch { IfErr result (λ mismatch. IsFirstMismatch self.now.history seats.now mismatch.host.number mismatch.position) }
+        ensures mismatch { IfErr result
+            (λ mismatch. IsFirstMismatch self.now.history seats.now mismatch.host.number mismatch.position) }
     {
         audited(self.history.as_slice(), seats)
     }
@@ -71,8 +75,10 @@ pub fn first_difference(history: &[Entry], host: Host, transcript: &[Exchange]) 
 fn audited<L: Ledger>(history: &[Entry], seats: &[Seat<L>; 4]) -> Result<Report, Mismatch>
     requires order { map (λ (s : SeatState). s.host.number) seats.now ≡ 0 ∷ 1 ∷ 2 ∷ 3 ∷ [] }
     ensures parts { OnOk result (All (IsHostsPart history.now) seats.now) }
-    ensures commands { IfOk result (λ report. report.commands ≡ map (λ (s : SeatState). length s.transcript) seats.now) }
-    ensures mismatch { IfErr result (λ mismatch. IsFirstMismatch history.now seats.now mismatch.host.number mismatch.position) }
+    ensures commands { IfOk result
+        (λ report. report.commands ≡ map (λ (s : SeatState). length s.transcript) seats.now) }
+    ensures mismatch { IfErr result
+        (λ mismatch. IsFirstMismatch history.now seats.now mismatch.host.number mismatch.position) }
 {
     Ok(Report {
         commands: [
@@ -89,7 +95,8 @@ fn count<L: Ledger>(history: &[Entry], seat: &Seat<L>) -> Result<u64, Mismatch>
     ensures part { OnOk result (IsHostsPart history.now seat.now) }
     ensures count { IfOk result (λ count. count ≡ length seat.now.transcript) }
     ensures host { IfErr result (λ mismatch. mismatch.host ≡ seat.now.host) }
-    ensures position { IfErr result (λ mismatch. DiffersAt mismatch.position seat.now.transcript (part seat.now.host.number history.now)) }
+    ensures position { IfErr result
+        (λ mismatch. DiffersAt mismatch.position seat.now.transcript (part seat.now.host.number history.now)) }
 {
     let host = seat.host();
     let transcript = seat.transcript();

@@ -1,6 +1,8 @@
 // What was done since the start, in numbers for an operator. Each saturates, so that no count refuses a command.
 ghost use Rattle.std.specs.Prelude.{◌≡◌};
-ghost use Rattle.ar_history.specs.Counts.{counts_after, host_counts_after, operations_after, replies_after, task_counts_after, no_counts, no_host, no_operations, no_replies, no_tasks, is_idle};
+ghost use Rattle.ar_history.specs.Counts.{counts_after, host_counts_after, operations_after, replies_after};
+ghost use Rattle.ar_history.specs.Counts.{task_counts_after, no_counts, no_host, no_operations, no_replies, no_tasks};
+ghost use Rattle.ar_history.specs.Counts.{is_idle};
 
 use crate::Task;
 use ar_core::{Balance, Flush, Move, Outcome, OutcomeOf, Rebuild};

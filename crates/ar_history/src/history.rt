@@ -1,5 +1,5 @@
-// A history that contracts alone see. Its list is ghost: it occupies no bytes, and its calls do nothing at run time. Four
-// of them are proved by hand, since no generated proof makes such a struct.
+// A history that contracts alone see. Its list is ghost: it occupies no bytes, and its calls do nothing at run time.
+// Four of them are proved by hand, since no generated proof makes such a struct.
 ghost use Rattle.std.specs.Prelude.{◌≡◌, List, [], ◌∷◌, ◌++◌, if◌then◌else◌};
 ghost use Rattle.std.specs.Borrow.{ftrue};
 ghost use Rattle.ar_history.specs.declared.entry.Entry.{Entry};
@@ -54,7 +54,8 @@ impl GhostHistory {
     // Appends a command with its reply, if it is recorded.
     pub(crate) fn record(&mut self, asked: &Asked, reply: &Reply, recorded: bool)
         ensures { self.new.entries ≡ self.old.entries ++ (if recorded
-            then Entry.Cmd asked.now.host (exchange_of asked.now.lun asked.now.cdb asked.now.payload.value reply.now) ∷ []
+            then Entry.Cmd asked.now.host
+            (exchange_of asked.now.lun asked.now.cdb asked.now.payload.value reply.now) ∷ []
             else []) }
     {
         if recorded {
@@ -79,7 +80,8 @@ impl GhostHistory {
     // The history with one command more.
     fn with_command(&self, asked: &Asked, reply: &Reply) -> GhostHistory
         ensures { result.entries ≡ self.now.entries
-            ++ Entry.Cmd asked.now.host (exchange_of asked.now.lun asked.now.cdb asked.now.payload.value reply.now) ∷ [] }
+            ++ Entry.Cmd asked.now.host (exchange_of asked.now.lun asked.now.cdb asked.now.payload.value reply.now)
+            ∷ [] }
     {
         GhostHistory {}
     }

@@ -1,12 +1,14 @@
 // Commands of hosts. Capacity in both lists is reserved before the array acts, so that history and transcript record a
 // command together, or neither does.
-ghost use Rattle.std.specs.Prelude.{◌≡◌, ◌≢◌, ◌⊎◌, ◌+◌, ◌<◌, ◌++◌, ◌∷◌, ◌↔◌, [], None, true, false, IsOk, IfOk, OnOk, length, vec_len, vec_capacity};
+ghost use Rattle.std.specs.Prelude.{◌≡◌, ◌≢◌, ◌⊎◌, ◌+◌, ◌<◌, ◌++◌, ◌∷◌, ◌↔◌, [], None, true, false, IsOk, IfOk, OnOk};
+ghost use Rattle.std.specs.Prelude.{length, vec_len, vec_capacity};
 ghost use Rattle.ar_volume.specs.Image.{is_broken};
 ghost use Rattle.ar_scsi.specs.Reply.{busy};
 ghost use Rattle.ar_core.specs.Step.{Steps, is_busy};
 ghost use Rattle.ar_history.specs.Counts.{CountsCommand, CountsNothing};
 ghost use Rattle.ar_history.specs.Kept.{StaysKept, exchange_of};
-ghost use Rattle.ar_history.specs.Serving.{ServesHost, Begins, BeginsByPlace, DoesCommand, HasCapacity, LeavesStorage, Allocates, ServesCommand, with_reply};
+ghost use Rattle.ar_history.specs.Serving.{ServesHost, Begins, BeginsByPlace, DoesCommand, HasCapacity, LeavesStorage};
+ghost use Rattle.ar_history.specs.Serving.{Allocates, ServesCommand, with_reply};
 
 use crate::entry::shared;
 use crate::operate::reserve_place;
@@ -83,9 +85,11 @@ impl<D: Disk + Drop, L: Ledger> Kept<D, L> {
     // Executes a command on a failed array.
     fn unrecorded(&mut self, host: Host, lun: u8, cdb: [u8; 16], payload: Bytes) -> Served
         requires { is_broken self.old.array ≡ true }
-        ensures serves { ServesCommand self.old.array self.old.history host lun cdb payload result.reply self.new.array self.new.history }
+        ensures serves { ServesCommand self.old.array self.old.history host lun cdb payload result.reply self.new.array
+            self.new.history }
         ensures broken { is_broken self.new.array ≡ true }
-        ensures steps { Steps self.old.array (EventOf.Cmd host lun cdb payload) (OutcomeOf.Cmd result.reply) self.new.array }
+        ensures steps { Steps self.old.array (EventOf.Cmd host lun cdb payload)
+            (OutcomeOf.Cmd result.reply) self.new.array }
         ensures at { result.at ≡ None }
         ensures room { self.new.room ≡ self.old.room }
         ensures uncounted { CountsNothing self.old self.new }
@@ -126,8 +130,10 @@ impl<D: Disk + Drop, L: Ledger> Kept<D, L> {
         requires room { length self.old.history < self.old.room }
         requires seat_room { length seat.old.transcript < seat.old.room }
 
-        ensures serves { ServesHost self.old seat.old copies.ours.lun copies.ours.cdb payload result.reply result.at self.new seat.new }
-        ensures begun { Begins self.old.array seat.old.host copies.ours.lun copies.ours.cdb payload result.reply self.new.array }
+        ensures serves { ServesHost self.old seat.old copies.ours.lun copies.ours.cdb payload
+            result.reply result.at self.new seat.new }
+        ensures begun { Begins self.old.array seat.old.host copies.ours.lun copies.ours.cdb payload
+            result.reply self.new.array }
         ensures host { seat.new.host ≡ seat.old.host }
 
         ensures kept_room { self.new.room ≡ self.old.room }

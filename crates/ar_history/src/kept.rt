@@ -1,5 +1,5 @@
-// A live array with its history stored: the stored list is the one that contracts see of the live array, so that what is
-// proved of that one (`HistoryAgrees`) is true of it. The ledger's total is the number of commands in the history.
+// A live array with its history stored: the stored list is the one that contracts see of the live array, so that what
+// is proved of that one (`HistoryAgrees`) is true of it. The ledger's total is the number of commands in the history.
 ghost use Rattle.std.specs.Prelude.{◌≡◌, ◌<◌, ◌+◌, [], ◌∷◌, map};
 ghost use Rattle.ar_history.specs.Counts.{no_counts};
 ghost use Rattle.ar_history.specs.Kept.{HistoryAgrees};
@@ -15,8 +15,8 @@ use std::sync::ledger::{Blank, Book, Ledger, Share};
 /// An array with its stored history. The ledger counts the commands in it; each seat's share counts those of its host.
 ///
 /// A history is append-only. An entry takes 136 bytes, and a command another 128 bytes in its host's transcript; both
-/// full lists grow by half of their capacity, from four on. Data-out and reply bytes are stored once, however many share
-/// them: a READ or WRITE of n sectors keeps 512 n bytes.
+/// full lists grow by half of their capacity, from four on. Data-out and reply bytes are stored once, however many
+/// share them: a READ or WRITE of n sectors keeps 512 n bytes.
 #[derive(Drop)]
 pub struct Kept<D: Disk, L: Ledger> {
     pub(crate) live: LiveArray<D>,

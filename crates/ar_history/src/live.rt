@@ -1,5 +1,6 @@
-// The array with a history that contracts alone see. Until data loss every unit is what its entries make it; presence and
-// length stay so for good (`HistoryAgrees`). No memory is requested to record an entry, so what the array does is recorded.
+// The array with a history that contracts alone see. Until data loss every unit is what its entries make it; presence
+// and length stay so for good (`HistoryAgrees`). No memory is requested to record an entry, so what the array does is
+// recorded.
 ghost use Rattle.std.specs.Prelude.{◌≡◌, [], if◌then◌else◌};
 ghost use Rattle.ar_volume.specs.Image.{is_broken};
 ghost use Rattle.ar_history.specs.Counts.{no_counts, counts_after, task_counts_after, raised};

@@ -1,5 +1,5 @@
-// Commands of hosts to a live array. Each is one step of the array, and is recorded unless the reply is BUSY or the array
-// has failed.
+// Commands of hosts to a live array. Each is one step of the array, and is recorded unless the reply is BUSY or the
+// array has failed.
 ghost use Rattle.std.specs.Prelude.{◌≡◌, ◌≢◌, [], true, length};
 ghost use Rattle.ar_core.specs.Step.{Steps, is_busy};
 ghost use Rattle.ar_history.specs.Counts.{CountsCommand, CountsNothing};
@@ -22,7 +22,8 @@ impl<D: Disk + Drop> LiveArray<D> {
     /// reply is BUSY, the history has grown by the command with its reply, which is the one that the unit's own entries
     /// give. The reply is BUSY only when out of memory for its own data. A failed array records nothing.
     pub fn host(&mut self, host: Host, lun: u8, cdb: [u8; 16], payload: Bytes) -> Reply
-        ensures serves { ServesCommand self.old.array self.old.history host lun cdb payload result self.new.array self.new.history }
+        ensures serves { ServesCommand self.old.array self.old.history host lun cdb payload result self.new.array
+            self.new.history }
         ensures steps { Steps self.old.array (EventOf.Cmd host lun cdb payload) (OutcomeOf.Cmd result) self.new.array }
         ensures kept { StaysKept self.old self.new }
         ensures counts { CountsCommand self.old host.number cdb (length payload) result self.new }
@@ -37,7 +38,8 @@ impl<D: Disk + Drop> LiveArray<D> {
 
     // Executes a command, and counts nothing.
     pub(crate) fn execute(&mut self, host: Host, lun: u8, cdb: [u8; 16], payload: Bytes) -> Reply
-        ensures serves { ServesCommand self.old.array self.old.history host lun cdb payload result self.new.array self.new.history }
+        ensures serves { ServesCommand self.old.array self.old.history host lun cdb payload result self.new.array
+            self.new.history }
         ensures steps { Steps self.old.array (EventOf.Cmd host lun cdb payload) (OutcomeOf.Cmd result) self.new.array }
         ensures kept { StaysKept self.old self.new }
         // A reply with bytes has changed no unit.

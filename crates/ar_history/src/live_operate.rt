@@ -33,7 +33,8 @@ impl<D: Disk + Drop> LiveArray<D> {
         ensures steps { Steps self.old.array (event_of_task task) result self.new.array }
         ensures history { self.new.history ≡ self.old.history }
         ensures room { self.new.room ≡ self.old.room }
-        ensures images { is_broken self.new.array ≡ false → (a : Address) → image self.new.array a ≡ image self.old.array a }
+        ensures images { is_broken self.new.array ≡ false → (a : Address)
+            → image self.new.array a ≡ image self.old.array a }
         ensures kept { StaysKept self.old self.new }
         ensures counts { CountsTask self.old task result self.new }
     {
@@ -47,10 +48,12 @@ impl<D: Disk + Drop> LiveArray<D> {
     /// history doesn't change, nor until data loss does any unit.
     pub fn flush_unit(&mut self, addr: Addr) -> UnitFlush
         ensures steps { Steps self.old.array (EventOf.FlushUnit addr) (OutcomeOf.FlushUnit result) self.new.array }
-        ensures on_disks { result ≡ UnitFlush.Done → image_at self.new.array addr ≡ image_on_disks self.new.array.store addr }
+        ensures on_disks { result ≡ UnitFlush.Done → image_at self.new.array addr
+            ≡ image_on_disks self.new.array.store addr }
         ensures history { self.new.history ≡ self.old.history }
         ensures room { self.new.room ≡ self.old.room }
-        ensures images { is_broken self.new.array ≡ false → (a : Address) → image self.new.array a ≡ image self.old.array a }
+        ensures images { is_broken self.new.array ≡ false → (a : Address)
+            → image self.new.array a ≡ image self.old.array a }
         ensures kept { StaysKept self.old self.new }
         ensures counts { CountsOperation self.old self.new }
     {
@@ -116,7 +119,8 @@ impl<D: Disk + Drop> LiveArray<D> {
         ensures steps { Steps self.old.array event result self.new.array }
         ensures history { self.new.history ≡ self.old.history }
         ensures room { self.new.room ≡ self.old.room }
-        ensures images { is_broken self.new.array ≡ false → (a : Address) → image self.new.array a ≡ image self.old.array a }
+        ensures images { is_broken self.new.array ≡ false → (a : Address)
+            → image self.new.array a ≡ image self.old.array a }
         ensures kept { StaysKept self.old self.new }
         ensures uncounted { CountsNothing self.old self.new }
     {
@@ -128,7 +132,8 @@ impl<D: Disk + Drop> LiveArray<D> {
         ensures steps { Steps self.old.array (EventOf.FlushUnit addr) (OutcomeOf.FlushUnit result) self.new.array }
         ensures history { self.new.history ≡ self.old.history }
         ensures room { self.new.room ≡ self.old.room }
-        ensures images { is_broken self.new.array ≡ false → (a : Address) → image self.new.array a ≡ image self.old.array a }
+        ensures images { is_broken self.new.array ≡ false → (a : Address)
+            → image self.new.array a ≡ image self.old.array a }
         ensures kept { StaysKept self.old self.new }
         ensures uncounted { CountsNothing self.old self.new }
     {

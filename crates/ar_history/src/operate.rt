@@ -1,6 +1,7 @@
 // Operations and background work. Capacity for an entry is reserved before the array acts, so that each create, resize
 // or delete that is done is recorded.
-ghost use Rattle.std.specs.Prelude.{◌≡◌, ◌≢◌, ◌⊎◌, ◌<◌, ◌++◌, true, false, Some, None, IsTrue, IsOk, OnOk, length, vec_len, vec_capacity};
+ghost use Rattle.std.specs.Prelude.{◌≡◌, ◌≢◌, ◌⊎◌, ◌<◌, ◌++◌, true, false, Some, None, IsTrue, IsOk, OnOk, length};
+ghost use Rattle.std.specs.Prelude.{vec_len, vec_capacity};
 ghost use Rattle.ar_volume.specs.Image.{is_broken, image, image_at, image_on_disks};
 ghost use Rattle.ar_volume.specs.Sectors.{Address};
 ghost use Rattle.ar_core.specs.Step.{Steps, is_quiet};
@@ -33,8 +34,10 @@ impl<D: Disk + Drop, L: Ledger> Kept<D, L> {
 
         // The operation fails for lack of memory only if the history has no capacity and gets none, or if the array
         // says so.
-        ensures begun { length self.old.history < self.new.room → Steps self.old.array (event_of operation) result self.new.array }
-        ensures unbegun { self.new.room ≡ length self.old.history → is_broken self.old.array ≡ false → entry_asked (event_of operation) ≢ None
+        ensures begun { length self.old.history < self.new.room
+            → Steps self.old.array (event_of operation) result self.new.array }
+        ensures unbegun { self.new.room ≡ length self.old.history → is_broken self.old.array ≡ false
+            → entry_asked (event_of operation) ≢ None
             → IsRefused self.old.array (event_of operation) result self.new.array }
         ensures memory { AllocatesFor (event_of operation) self.old self.new }
     {
@@ -51,7 +54,8 @@ impl<D: Disk + Drop, L: Ledger> Kept<D, L> {
         ensures steps { Steps self.old.array (event_of_task task) result self.new.array }
         ensures history { self.new.history ≡ self.old.history }
         ensures room { self.new.room ≡ self.old.room }
-        ensures images { is_broken self.new.array ≡ false → (a : Address) → image self.new.array a ≡ image self.old.array a }
+        ensures images { is_broken self.new.array ≡ false → (a : Address)
+            → image self.new.array a ≡ image self.old.array a }
         ensures kept { StaysKept self.old self.new }
         ensures counts { CountsTask self.old task result self.new }
     {
@@ -63,10 +67,12 @@ impl<D: Disk + Drop, L: Ledger> Kept<D, L> {
     /// history doesn't change, nor until data loss does any unit.
     pub fn flush_unit(&mut self, addr: Addr) -> UnitFlush
         ensures steps { Steps self.old.array (EventOf.FlushUnit addr) (OutcomeOf.FlushUnit result) self.new.array }
-        ensures on_disks { result ≡ UnitFlush.Done → image_at self.new.array addr ≡ image_on_disks self.new.array.store addr }
+        ensures on_disks { result ≡ UnitFlush.Done → image_at self.new.array addr
+            ≡ image_on_disks self.new.array.store addr }
         ensures history { self.new.history ≡ self.old.history }
         ensures room { self.new.room ≡ self.old.room }
-        ensures images { is_broken self.new.array ≡ false → (a : Address) → image self.new.array a ≡ image self.old.array a }
+        ensures images { is_broken self.new.array ≡ false → (a : Address)
+            → image self.new.array a ≡ image self.old.array a }
         ensures kept { StaysKept self.old self.new }
         ensures counts { CountsOperation self.old self.new }
     {
@@ -77,8 +83,10 @@ impl<D: Disk + Drop, L: Ledger> Kept<D, L> {
     fn perform(&mut self, operation: Operation<D>) -> Outcome<D>
         ensures does { Does self.old.array (event_of operation) result self.new.array }
         ensures recorded { self.new.history ≡ self.old.history ++ history_entry (event_of operation) result }
-        ensures begun { length self.old.history < self.new.room → Steps self.old.array (event_of operation) result self.new.array }
-        ensures unbegun { self.new.room ≡ length self.old.history → is_broken self.old.array ≡ false → entry_asked (event_of operation) ≢ None
+        ensures begun { length self.old.history < self.new.room
+            → Steps self.old.array (event_of operation) result self.new.array }
+        ensures unbegun { self.new.room ≡ length self.old.history → is_broken self.old.array ≡ false
+            → entry_asked (event_of operation) ≢ None
             → IsRefused self.old.array (event_of operation) result self.new.array }
         ensures memory { AllocatesFor (event_of operation) self.old self.new }
         ensures uncounted { CountsNothing self.old self.new }
@@ -96,7 +104,8 @@ impl<D: Disk + Drop, L: Ledger> Kept<D, L> {
     fn make(&mut self, addr: Addr, sectors: u32) -> Outcome<D>
         ensures does { Does self.old.array (EventOf.Make addr sectors) result self.new.array }
         ensures recorded { self.new.history ≡ self.old.history ++ history_entry (EventOf.Make addr sectors) result }
-        ensures begun { length self.old.history < self.new.room → Steps self.old.array (EventOf.Make addr sectors) result self.new.array }
+        ensures begun { length self.old.history < self.new.room
+            → Steps self.old.array (EventOf.Make addr sectors) result self.new.array }
         ensures unbegun { self.new.room ≡ length self.old.history → is_broken self.old.array ≡ false
             → IsRefused self.old.array (EventOf.Make addr sectors) result self.new.array }
         ensures memory { AllocatesFor (EventOf.Make addr sectors) self.old self.new }
@@ -111,7 +120,8 @@ impl<D: Disk + Drop, L: Ledger> Kept<D, L> {
     fn grow(&mut self, addr: Addr, sectors: u32) -> Outcome<D>
         ensures does { Does self.old.array (EventOf.Grow addr sectors) result self.new.array }
         ensures recorded { self.new.history ≡ self.old.history ++ history_entry (EventOf.Grow addr sectors) result }
-        ensures begun { length self.old.history < self.new.room → Steps self.old.array (EventOf.Grow addr sectors) result self.new.array }
+        ensures begun { length self.old.history < self.new.room
+            → Steps self.old.array (EventOf.Grow addr sectors) result self.new.array }
         ensures unbegun { self.new.room ≡ length self.old.history → is_broken self.old.array ≡ false
             → IsRefused self.old.array (EventOf.Grow addr sectors) result self.new.array }
         ensures memory { AllocatesFor (EventOf.Grow addr sectors) self.old self.new }
@@ -126,7 +136,8 @@ impl<D: Disk + Drop, L: Ledger> Kept<D, L> {
     fn remove(&mut self, addr: Addr) -> Outcome<D>
         ensures does { Does self.old.array (EventOf.Remove addr) result self.new.array }
         ensures recorded { self.new.history ≡ self.old.history ++ history_entry (EventOf.Remove addr) result }
-        ensures begun { length self.old.history < self.new.room → Steps self.old.array (EventOf.Remove addr) result self.new.array }
+        ensures begun { length self.old.history < self.new.room
+            → Steps self.old.array (EventOf.Remove addr) result self.new.array }
         ensures unbegun { self.new.room ≡ length self.old.history → is_broken self.old.array ≡ false
             → IsRefused self.old.array (EventOf.Remove addr) result self.new.array }
         ensures memory { AllocatesFor (EventOf.Remove addr) self.old self.new }
@@ -144,7 +155,8 @@ impl<D: Disk + Drop, L: Ledger> Kept<D, L> {
         ensures steps { Steps self.old.array event result self.new.array }
         ensures history { self.new.history ≡ self.old.history }
         ensures room { self.new.room ≡ self.old.room }
-        ensures images { is_broken self.new.array ≡ false → (a : Address) → image self.new.array a ≡ image self.old.array a }
+        ensures images { is_broken self.new.array ≡ false → (a : Address)
+            → image self.new.array a ≡ image self.old.array a }
         ensures kept { HistoryAgrees self.old.array self.old.history }
         ensures uncounted { CountsNothing self.old self.new }
     {
@@ -189,7 +201,8 @@ pub(crate) fn reserve_place<T>(list: &mut Vec<T>) -> Result<(), AllocError>
     ensures items { list.new.items ≡ list.old.items }
     ensures place { OnOk result (vec_len list.new < vec_capacity list.new) }
     ensures granted { vec_len list.old < vec_capacity list.new → IsOk result }
-    ensures placed { vec_len list.old < vec_capacity list.old → IsOk result × (vec_capacity list.new ≡ vec_capacity list.old) }
+    ensures placed { vec_len list.old < vec_capacity list.old
+        → IsOk result × (vec_capacity list.new ≡ vec_capacity list.old) }
     ensures grown { MayGrow (vec_capacity list.old) (vec_capacity list.new) }
 {
     if list.len() < list.capacity() {

@@ -9,8 +9,8 @@ use ar_core::{Array, EventOf, NewDisk, Outcome};
 use ar_disks::{Addr, Disk};
 use std::sync::ledger::Ledger;
 
-/// An array on disks `D` with its history, stored (`Kept`) or seen by contracts alone (`LiveArray`): until data loss each
-/// unit is what the history makes it.
+/// An array on disks `D` with its history, stored (`Kept`) or seen by contracts alone (`LiveArray`): until data loss
+/// each unit is what the history makes it.
 ///
 /// An operation returns the array's outcome. A create, resize or delete that is done is the history's next entry; no
 /// other operation changes the history. Where a stored history can't grow, these three fail with `NoMemory` and change

@@ -20,13 +20,15 @@ use Rattle.ar_moves.specs.Demotion.{IsOldestMirrored, IsSlotFor, NamesNoSlot, De
 use Rattle.ar_moves.specs.Cleaning.{Cleans, NamesCleaning}
 
 -- what follows of each block that moved follows of the one that did
-pub if_moved_then : (m : Move) (P Q : Key → Slot → Type 0) → IfMoved m P → ((k : Key) (s : Slot) → P k s → Q k s) → IfMoved m Q
+pub if_moved_then : (m : Move) (P Q : Key → Slot → Type 0) → IfMoved m P → ((k : Key) (s : Slot) → P k s → Q k s)
+    → IfMoved m Q
 if_moved_then (Moved key to) P Q has then = then key to has
 if_moved_then Idle P Q has then = tt
 if_moved_then Broken P Q has then = tt
 
 -- the oldest block was demoted
-pub oldest_demoted : (t new : Tables) (key : Key) → IsOldestMirrored t key → (k : Key) (s : Slot) → DemotesTo t key new k s → Demotes t k s new
+pub oldest_demoted : (t new : Tables) (key : Key) → IsOldestMirrored t key → (k : Key) (s : Slot)
+    → DemotesTo t key new k s → Demotes t k s new
 oldest_demoted t new key oldest k s demotes = record {
   ready = demotes.ready;
   names = record { oldest = subst (λ x. IsOldestMirrored t x) (sym demotes.key_is) oldest; slot = demotes.slot };
@@ -34,20 +36,24 @@ oldest_demoted t new key oldest k s demotes = record {
 }
 
 -- the block that cleaning names was moved
-pub named_cleaned : (t new : Tables) (key : Key) (to : Slot) → NamesCleaning t key to → (k : Key) (s : Slot) → IsMovedTo t key to new k s → Cleans t k s new
+pub named_cleaned : (t new : Tables) (key : Key) (to : Slot) → NamesCleaning t key to → (k : Key) (s : Slot)
+    → IsMovedTo t key to new k s → Cleans t k s new
 named_cleaned t new key to names k s moved =
     subst (λ x. Cleans t x s new) (sym moved.key_is)
     (subst (λ x. Cleans t key x new) (sym moved.slot_is) (record { names = names; moved = moved.tables }))
 
 -- a move takes no free group
-pub moved_free : (m : Move) (t new : Tables) (key : Key) (to : Slot) → IfMoved m (IsMovedTo t key to new) → m ≢ Idle → (m ≡ Broken → new ≡ t) → free_groups t ≤ free_groups new
+pub moved_free : (m : Move) (t new : Tables) (key : Key) (to : Slot) → IfMoved m (IsMovedTo t key to new) → m ≢ Idle
+    → (m ≡ Broken → new ≡ t) → free_groups t ≤ free_groups new
 moved_free (Moved k s) t new key to has some unmoved =
     subst (λ (x : Tables). free_groups t ≤ free_groups x) (sym has.tables.tables) (assigned_free_groups t key to)
 moved_free Idle t new key to has some unmoved = absurd (some refl)
-moved_free Broken t new key to has some unmoved = subst (λ (x : Tables). free_groups t ≤ free_groups x) (sym (unmoved refl)) (omega arith)
+moved_free Broken t new key to has some unmoved =
+    subst (λ (x : Tables). free_groups t ≤ free_groups x) (sym (unmoved refl)) (omega arith)
 
 -- what two calls leave, one after another
-pub leaves_then : (a b c : StoreState) → AllStand a b → SameUnits a.book b.book → IsAccessed a.disks b.disks → (a.disks.health ≡ AllBroken → b ≡ a) → LeavesBlocks b c
+pub leaves_then : (a b c : StoreState) → AllStand a b → SameUnits a.book b.book → IsAccessed a.disks b.disks
+    → (a.disks.health ≡ AllBroken → b ≡ a) → LeavesBlocks b c
     → LeavesBlocks a c
 leaves_then a b c stand units access same rest = record {
   stands = stand_then a b c rest.accessed.follows stand rest.stands;
@@ -57,7 +63,8 @@ leaves_then a b c stand units access same rest = record {
 }
 
 -- the block was moved to the hole that was there
-pub hole_there : (t new : Tables) (key : Key) (to : Slot) → IsLowestHole t Parity to → (k : Key) (s : Slot) → IsMovedTo t key to new k s → DemotesTo t key new k s
+pub hole_there : (t new : Tables) (key : Key) (to : Slot) → IsLowestHole t Parity to → (k : Key) (s : Slot)
+    → IsMovedTo t key to new k s → DemotesTo t key new k s
 hole_there t new key to lowest k s moved = record {
   key_is = moved.key_is;
   ready = t;
@@ -66,37 +73,57 @@ hole_there t new key to lowest k s moved = record {
 }
 
 -- the block was moved to the hole that was made for it
-pub hole_made : (t mid new : Tables) (key : Key) (g : ℕ) → HasNoHole t Parity → IsOpened t mid Parity g → (k : Key) (s : Slot) → IsMovedTo mid key (slot_at g 0) new k s → DemotesTo t key new k s
+pub hole_made : (t mid new : Tables) (key : Key) (g : ℕ) → HasNoHole t Parity → IsOpened t mid Parity g
+    → (k : Key) (s : Slot) → IsMovedTo mid key (slot_at g 0) new k s → DemotesTo t key new k s
 hole_made t mid new key g none opening k s moved = record {
   key_is = moved.key_is;
   ready = mid;
-  slot = subst (λ x. IsSlotFor t x mid) (sym moved.slot_is) (inr (record { none = none; group = g; opened = opening; first = refl }));
+  slot = subst (λ x. IsSlotFor t x mid) (sym moved.slot_is)
+      (inr (record { none = none; group = g; opened = opening; first = refl }));
   moved = subst (λ x. TablesMoved mid key x new) (sym moved.slot_is) moved.tables;
 }
 
 -- a group that was opened is ready for the oldest block
-pub ready_for : (t new : Tables) (key : Key) → IsOldestMirrored t key → HasNoHole t Parity → (new ≡ t) ⊎ ((group : ℕ) × IsOpened t new Parity group) → MayHaveOpened t new
+pub ready_for : (t new : Tables) (key : Key) → IsOldestMirrored t key → HasNoHole t Parity
+    → (new ≡ t) ⊎ ((group : ℕ) × IsOpened t new Parity group) → MayHaveOpened t new
 ready_for t new key oldest none (inl same) = inl same
 ready_for t new key oldest none (inr opening) =
-    inr (key, slot_at opening.0 0, record { oldest = oldest; slot = inr (record { none = none; group = opening.0; opened = opening.1; first = refl }) })
+    inr (
+      key,
+      slot_at opening.0 0,
+      record {
+        oldest = oldest;
+        slot = inr (record { none = none; group = opening.0; opened = opening.1; first = refl });
+      },
+    )
 
 -- a group that was opened has a slot for a block
 pub opens_slot : (t new : Tables) (g : ℕ) → HasNoHole t Parity → IsOpened t new Parity g → NamesNoSlot t → ⊥
-opens_slot t new g none opening named = named.none (slot_at g 0) new (inr (record { none = none; group = g; opened = opening; first = refl }))
+opens_slot t new g none opening named =
+    named.none (slot_at g 0) new (inr (record { none = none; group = g; opened = opening; first = refl }))
 
 -- the disks broke while a group was opened: its tables, and that nothing has changed where there was none to open
-pub cut_tables : (old new : StoreState) → BreaksOpening old new Parity → (new.book ≡ old.book) ⊎ ((group : ℕ) × IsOpened old.book new.book Parity group)
-cut_tables old new cut = elim cut.tables [ inl was ↦ inl (ap (λ (s : StoreState). s.book) was.same) | inr opening ↦ inr opening ]
+pub cut_tables : (old new : StoreState) → BreaksOpening old new Parity
+    → (new.book ≡ old.book) ⊎ ((group : ℕ) × IsOpened old.book new.book Parity group)
+cut_tables old new cut =
+    elim cut.tables [ inl was ↦ inl (ap (λ (s : StoreState). s.book) was.same) | inr opening ↦ inr opening ]
 
-pub cut_nothing : (old new : StoreState) → HasNoHole old.book Parity → BreaksOpening old new Parity → NamesNoSlot old.book → new ≡ old
+pub cut_nothing : (old new : StoreState) → HasNoHole old.book Parity → BreaksOpening old new Parity
+    → NamesNoSlot old.book → new ≡ old
 cut_nothing old new none cut named =
-    elim cut.tables [ inl was ↦ was.same | inr opening ↦ absurd (opens_slot old.book new.book opening.0 none opening.1 named) ]
+    elim cut.tables [
+      | inl was ↦ was.same
+      | inr opening ↦
+          absurd (opens_slot old.book new.book opening.0 none opening.1 named)
+    ]
 
 -- the other slots of the group that the block went to hold what they held
-pub moved_beside : (old new : StoreState) (m : Move) (t u : Tables) (key : Key) (to : Slot) → IfMoved m (IsMovedTo t key to u) → BesideHold old new to
+pub moved_beside : (old new : StoreState) (m : Move) (t u : Tables) (key : Key) (to : Slot)
+    → IfMoved m (IsMovedTo t key to u) → BesideHold old new to
     → IfMoved m (λ k s. BesideHold old new s)
 moved_beside old new m t u key to moved beside =
-    if_moved_then m (IsMovedTo t key to u) (λ k s. BesideHold old new s) moved (λ k s has. subst (λ x. BesideHold old new x) (sym has.slot_is) beside)
+    if_moved_then m (IsMovedTo t key to u) (λ k s. BesideHold old new s) moved
+    (λ k s has. subst (λ x. BesideHold old new x) (sym has.slot_is) beside)
 
 -- all that follows of the block that moved, in one record
 pub if_moved_all : (m : Move) (P Q R T : Key → Slot → Type 0) → IfMoved m P → IfMoved m Q → IfMoved m R

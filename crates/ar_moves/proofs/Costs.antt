@@ -28,39 +28,48 @@ use Rattle.ar_moves.specs.Demotion.{IsOldestMirrored, CarriesOutDemotion}
 use Rattle.ar_moves.specs.Cleaning.{NamesCleaningOf, NamesParityCleaning, CarriesOutCleaning}
 
 -- a mirrored block has a home, in a group that isn't free
-home_at : (t : Tables) (key : Key) (o : Option Slot) → home t key ≡ o → level t key ≡ MirroredLevel → (s : Slot) × (home t key ≡ Some s)
+home_at : (t : Tables) (key : Key) (o : Option Slot) → home t key ≡ o → level t key ≡ MirroredLevel
+    → (s : Slot) × (home t key ≡ Some s)
 home_at t key None is at = absurd (unplaced_not_mirrored (sym (nowhere t key is) ∙ at))
 home_at t key (Some s) is at = (s, is)
 
 level_used : (c : Class) → level_of c ≡ MirroredLevel → c ≢ Free
 level_used c at free = unplaced_not_mirrored (sym (ap level_of free) ∙ at)
 
-mirrored_home : (t : Tables) (key : Key) → level t key ≡ MirroredLevel → (s : Slot) × (home t key ≡ Some s) × (class_of t s.group ≢ Free)
+mirrored_home : (t : Tables) (key : Key) → level t key ≡ MirroredLevel
+    → (s : Slot) × (home t key ≡ Some s) × (class_of t s.group ≢ Free)
 mirrored_home t key at =
     let found = home_at t key (home t key) refl at in
     (found.0, found.1, level_used (class_of t found.0.group) (sym (home_level t key found.0 found.1) ∙ at))
 
-pub demotion_made : (old new : StoreState) (key : Key) (from to : Slot) → home old.book key ≡ Some from → ReadsUsableOf old from
-    → WritesUsableAs Parity old to → NoneFaults old.disks new.disks → CarriesOutDemotion old new → IsOldestMirrored old.book key
+pub demotion_made : (old new : StoreState) (key : Key) (from to : Slot) → home old.book key ≡ Some from
+    → ReadsUsableOf old from
+    → WritesUsableAs Parity old to → NoneFaults old.disks new.disks → CarriesOutDemotion old new
+    → IsOldestMirrored old.book key
     → IsLowestHole old.book Parity to → MakesAccesses (Read ∷ Read ∷ Read ∷ Write ∷ Write ∷ []) old.disks new.disks
 demotion_made old new key from to placed reads writes none demotes oldest lowest =
-    let used = level_used (class_of old.book from.group) (sym (home_level old.book key from placed) ∙ oldest.mirrored.level) in
-    moved_to_parity old new.disks key from to reads writes none placed used lowest.hole.class (demotes.there key to oldest lowest)
+    let used = level_used (class_of old.book from.group) (sym (home_level old.book key from placed)
+    ∙ oldest.mirrored.level) in
+    moved_to_parity old new.disks key from to reads writes none placed used lowest.hole.class
+    (demotes.there key to oldest lowest)
 
 -- a group that is opened for parity leaves the other groups used
 opened_used : (t : Tables) (g i : ℕ) → IsLowestFree t g → class_of t i ≢ Free → class_of (opened t g Parity) i ≢ Free
 opened_used t g i lowest used is = elim (eqb_tells i g) [
   | inl same ↦ (
-      let parity : class_of (opened t g Parity) i ≡ Parity = ap (λ n. class_of (opened t g Parity) n) same.1 ∙ opened_class t g Parity lowest.there in
+      let parity : class_of (opened t g Parity) i ≡ Parity =
+      ap (λ n. class_of (opened t g Parity) n) same.1 ∙ opened_class t g Parity lowest.there in
       let clash : Parity ≡ Free = sym parity ∙ is in
       cc)
   | inr other ↦ used (sym (opened_class_other t g Parity i other.1) ∙ is)
 ]
 
-pub opening_made : (old new : StoreState) (key : Key) (group : ℕ) → old.disks.health ≡ Whole → NoneFaults old.disks new.disks
+pub opening_made : (old new : StoreState) (key : Key) (group : ℕ) → old.disks.health ≡ Whole
+    → NoneFaults old.disks new.disks
     → CarriesOutDemotion old new → IsOldestMirrored old.book key → HasNoHole old.book Parity → 2 ≤ free_groups old.book
     → IsLowestFree old.book group
-    → MakesAccesses (fill_kinds (rows_of old.disks.geometry) ++ Read ∷ Read ∷ Read ∷ Write ∷ Write ∷ []) old.disks new.disks
+    → MakesAccesses (fill_kinds (rows_of old.disks.geometry) ++ Read ∷ Read ∷ Read ∷ Write ∷ Write ∷ []) old.disks
+    new.disks
 opening_made old new key group whole none demotes oldest full many lowest =
     let steps = demotes.made key group oldest full many lowest in
     let a = old.disks in
@@ -75,30 +84,39 @@ opening_made old new key group whole none demotes oldest full many lowest =
     let now = still_whole a b whole first calm in
     let to = slot_at group 0 in
     made_then (fill_kinds (rows_of a.geometry)) (Read ∷ Read ∷ Read ∷ Write ∷ Write ∷ []) a b c
-    (makes (fill_plan a.geometry m) (fill_kinds (rows_of a.geometry)) a b whole calm steps.fills.plan (stripes_kinds m 0 (rows_of a.geometry)))
-    (moved_to_parity mid c key from.0 to (whole_reads (class_in mid from.0.group) b (members_of mid from.0.group) from.0.slot now)
+    (makes (fill_plan a.geometry m) (fill_kinds (rows_of a.geometry)) a b whole calm steps.fills.plan
+    (stripes_kinds m 0 (rows_of a.geometry)))
+    (moved_to_parity mid c key from.0 to
+    (whole_reads (class_in mid from.0.group) b (members_of mid from.0.group) from.0.slot now)
     (whole_writes Parity b (members_of mid group) 0 now) (calm_second a b c first last none) from.1
-    (opened_used old.book group from.0.group lowest from.2) (opened_class old.book group Parity lowest.there) steps.moves)
+    (opened_used old.book group from.0.group lowest from.2) (opened_class old.book group Parity lowest.there)
+    steps.moves)
 
 -- a home is in a group of the class that its block is cleaned from
-cleaned_used : (t : Tables) (c : Class) (key : Key) (from to : Slot) → TablesAgree t → (names : NamesCleaningOf t c key to)
+cleaned_used : (t : Tables) (c : Class) (key : Key) (from to : Slot) → TablesAgree t
+    → (names : NamesCleaningOf t c key to)
     → home t key ≡ Some from → c ≢ Free → class_of t from.group ≢ Free
 cleaned_used t c key from to ok names placed used free =
     let same = same_Some from (slot_at names.group names.first.slot)
     (sym placed ∙ key_home t ok (slot_at names.group names.first.slot) key names.first.names) in
     used (sym names.emptiest.can.has.class ∙ sym (ap (λ (s : Slot). class_of t s.group) same) ∙ free)
 
-pub mirrored_cleaning_made : (old new : StoreState) (key : Key) (from to : Slot) → home old.book key ≡ Some from → ReadsUsableOf old from
-    → WritesUsableAs Mirrored old to → NoneFaults old.disks new.disks → CarriesOutCleaning old new → TablesAgree old.book
+pub mirrored_cleaning_made : (old new : StoreState) (key : Key) (from to : Slot) → home old.book key ≡ Some from
+    → ReadsUsableOf old from
+    → WritesUsableAs Mirrored old to → NoneFaults old.disks new.disks → CarriesOutCleaning old new
+    → TablesAgree old.book
     → NamesCleaningOf old.book Mirrored key to → MakesAccesses (Read ∷ Write ∷ Write ∷ []) old.disks new.disks
 mirrored_cleaning_made old new key from to placed reads writes none cleans ok names =
-    moved_to_mirrored old new.disks key from to reads writes none placed (cleaned_used old.book Mirrored key from to ok names placed (λ e. cc))
+    moved_to_mirrored old new.disks key from to reads writes none placed
+    (cleaned_used old.book Mirrored key from to ok names placed (λ e. cc))
     names.hole.found.hole.class (cleans key to (inl names))
 
-pub parity_cleaning_made : (old new : StoreState) (key : Key) (from to : Slot) → home old.book key ≡ Some from → ReadsUsableOf old from
+pub parity_cleaning_made : (old new : StoreState) (key : Key) (from to : Slot) → home old.book key ≡ Some from
+    → ReadsUsableOf old from
     → WritesUsableAs Parity old to → NoneFaults old.disks new.disks → CarriesOutCleaning old new → TablesAgree old.book
     → NamesParityCleaning old.book key to → MakesAccesses (Read ∷ Read ∷ Read ∷ Write ∷ Write ∷ []) old.disks new.disks
 parity_cleaning_made old new key from to placed reads writes none cleans ok parity =
     let names = parity.names in
-    moved_to_parity old new.disks key from to reads writes none placed (cleaned_used old.book Parity key from to ok names placed (λ e. cc))
+    moved_to_parity old new.disks key from to reads writes none placed
+    (cleaned_used old.book Parity key from to ok names placed (λ e. cc))
     names.hole.found.hole.class (cleans key to (inr parity))

@@ -31,7 +31,8 @@ cut_made : (a c : StoreState) (key : Key) (group : ℕ) → c.disks.health ≡ A
 cut_made a c key group broken filled = record {
   filled = c.disks;
   fills = filled_broken (members_of a group) a.disks c.disks filled broken;
-  moves = carries_broken (move_plan (store_of c.disks (opened a.book group Parity)) key (slot_at group 0)) c.disks broken;
+  moves = carries_broken (move_plan (store_of c.disks (opened a.book group Parity)) key (slot_at group 0)) c.disks
+      broken;
 }
 
 -- nothing was demoted, as the array had failed
@@ -50,7 +51,8 @@ demotes_nothing s none = record {
 }
 
 -- the block moved to the hole that was there
-pub moved_there : (a c : StoreState) (key : Key) (to : Slot) → TablesAgree a.book → IsOldestMirrored a.book key → IsLowestHole a.book Parity to
+pub moved_there : (a c : StoreState) (key : Key) (to : Slot) → TablesAgree a.book → IsOldestMirrored a.book key
+    → IsLowestHole a.book Parity to
     → CarriesOut (move_plan a key to) a.disks c.disks → CarriesOutDemotion a c
 moved_there a c key to ok oldest lowest plan = record {
   there = λ other slot other_oldest other_lowest.
@@ -62,8 +64,10 @@ moved_there a c key to ok oldest lowest plan = record {
 }
 
 -- a group was opened, and the block moved to its first slot
-pub moved_to_new : (a b c : StoreState) (key : Key) (g : ℕ) → TablesAgree a.book → IsOldestMirrored a.book key → HasNoHole a.book Parity
-    → IsOpened a.book b.book Parity g → CarriesOut (fill_plan a.disks.geometry (members_of a g)) a.disks b.disks → HoldsZeros b g
+pub moved_to_new : (a b c : StoreState) (key : Key) (g : ℕ) → TablesAgree a.book → IsOldestMirrored a.book key
+    → HasNoHole a.book Parity
+    → IsOpened a.book b.book Parity g → CarriesOut (fill_plan a.disks.geometry (members_of a g)) a.disks b.disks
+    → HoldsZeros b g
     → CarriesOut (move_plan b key (slot_at g 0)) b.disks c.disks → CarriesOutDemotion a c
 moved_to_new a b c key g ok oldest none opening filled holds plan = record {
   there = λ other slot other_oldest lowest. absurd (none.none slot lowest.hole);

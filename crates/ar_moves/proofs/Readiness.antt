@@ -34,14 +34,17 @@ pub record IsReadyToMove (t : Tables) (key : Key) (to : Slot) : Type 0 where
 some_home : (o : Option Slot) (s : Slot) → o ≡ Some s → IsSome o
 some_home o s e = subst (λ x. IsSome x) (sym e) refl
 
-class_ready : (t : Tables) (c : Class) (key : Key) (to : Slot) → TablesAgree t → NamesCleaningOf t c key to → IsReadyToMove t key to
+class_ready : (t : Tables) (c : Class) (key : Key) (to : Slot) → TablesAgree t → NamesCleaningOf t c key to
+    → IsReadyToMove t key to
 class_ready t c key to ok names = record {
-  placed = some_home (home t key) (slot_at names.group names.first.slot) (key_home t ok (slot_at names.group names.first.slot) key names.first.names);
+  placed = some_home (home t key) (slot_at names.group names.first.slot)
+      (key_home t ok (slot_at names.group names.first.slot) key names.first.names);
   hole = hole_vacant t c to names.hole.found.hole;
 }
 
 -- those that cleaning names are
-pub cleaning_ready : (t : Tables) (key : Key) (to : Slot) → TablesAgree t → NamesCleaning t key to → IsReadyToMove t key to
+pub cleaning_ready : (t : Tables) (key : Key) (to : Slot) → TablesAgree t → NamesCleaning t key to
+    → IsReadyToMove t key to
 cleaning_ready t key to ok (inl mirrored) = class_ready t Mirrored key to ok mirrored
 cleaning_ready t key to ok (inr parity) = class_ready t Parity key to ok parity.names
 
@@ -50,24 +53,30 @@ slots_some Paper = omega arith
 slots_some Small = omega arith
 
 -- each slot of a group that was opened is a hole
-pub opened_holes : (t u : Tables) (g i : ℕ) → TablesAgree t → IsOpened t u Parity g → i < slots_of t.geometry Parity → IsVacant u (slot_at g i)
+pub opened_holes : (t u : Tables) (g i : ℕ) → TablesAgree t → IsOpened t u Parity g → i < slots_of t.geometry Parity
+    → IsVacant u (slot_at g i)
 opened_holes t u g i ok opening inside =
     subst (λ (x : Tables). IsVacant x (slot_at g i)) (sym opening.tables)
-    (hole_vacant (opened t g Parity) Parity (slot_at g i) (opened_hole t g Parity ok opening.lowest.there opening.lowest.free i inside))
+    (hole_vacant (opened t g Parity) Parity (slot_at g i)
+    (opened_hole t g Parity ok opening.lowest.there opening.lowest.free i inside))
 
 pub opened_first : (t u : Tables) (g : ℕ) → TablesAgree t → IsOpened t u Parity g → IsVacant u (slot_at g 0)
 opened_first t u g ok opening = opened_holes t u g 0 ok opening (slots_some t.geometry)
 
 -- and once a block has moved there, the others still hold zeros
-pub zeros_beside : (old mid new : StoreState) (g : ℕ) → IsKept old → IsOpened old.book mid.book Parity g → HoldsZeros mid g → BesideHold mid new (slot_at g 0)
-    → mid.disks.geometry ≡ old.disks.geometry → new.disks.geometry ≡ mid.disks.geometry → HoldsZerosBeside new (slot_at g 0)
+pub zeros_beside : (old mid new : StoreState) (g : ℕ) → IsKept old → IsOpened old.book mid.book Parity g
+    → HoldsZeros mid g → BesideHold mid new (slot_at g 0)
+    → mid.disks.geometry ≡ old.disks.geometry → new.disks.geometry ≡ mid.disks.geometry
+    → HoldsZerosBeside new (slot_at g 0)
 zeros_beside old mid new g kept opening holds beside first second = record {
   slots = λ i lt ne.
       let lt_mid : i < 3 * rows_of mid.disks.geometry = subst (λ x. i < 3 * rows_of x) second lt in
       let lt_old : i < 3 * rows_of old.disks.geometry = subst (λ x. i < 3 * rows_of x) first lt_mid in
-      let inside : i < slots_of old.book.geometry Parity = subst (λ x. i < slots_of x Parity) (sym kept.space.geometry) lt_old in
+      let inside : i < slots_of old.book.geometry Parity =
+      subst (λ x. i < slots_of x Parity) (sym kept.space.geometry) lt_old in
       subst (λ x. SlotHolds new (slot_at g i) (zeros (block_len_of x))) (sym second)
-      (beside.slots (slot_at g i) (zeros (block_len_of mid.disks.geometry)) (opened_holes old.book mid.book g i kept.space.tables opening inside).there refl
+      (beside.slots (slot_at g i) (zeros (block_len_of mid.disks.geometry))
+      (opened_holes old.book mid.book g i kept.space.tables opening inside).there refl
       (λ same. ne (ap (λ (s : Slot). s.slot) same)) (holds.slots i lt_mid));
 }
 

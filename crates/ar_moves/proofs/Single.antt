@@ -1,5 +1,6 @@
 -- Each rule names one block and one slot at most.
-use Rattle.std.proofs.Common.{◌≡◌, ◌≢◌, ◌⊎◌, ℕ, ◌<◌, ◌≤◌, Option, Some, IsSome, slice_get, refl, sym, ap, subst, ◌∙◌, inl, inr, arith}
+use Rattle.std.proofs.Common.{◌≡◌, ◌≢◌, ◌⊎◌, ℕ, ◌<◌, ◌≤◌, Option, Some, IsSome, slice_get, refl, sym, ap, subst, ◌∙◌}
+use Rattle.std.proofs.Common.{inl, inr, arith}
 use Rattle.std.proofs.lemmas.Bool.{cases_lt}
 use Rattle.std.proofs.lemmas.Option.{same_Some}
 use Rattle.ar_disks.specs.declared.address.Addr.{Addr}
@@ -37,14 +38,16 @@ group_single t g h (inr a) (inl b) = absurd (omega (arith, a.0))
 group_single t g h (inr a) (inr b) = omega (arith, a.1, b.1)
 
 -- two units with one place are one
-place_single : (t : Tables) (k j : Key) → TablesAgree t → HasBlock t k → HasBlock t j → place_of t k.addr ≡ place_of t j.addr → k.addr ≡ j.addr
+place_single : (t : Tables) (k j : Key) → TablesAgree t → HasBlock t k → HasBlock t j
+    → place_of t k.addr ≡ place_of t j.addr → k.addr ≡ j.addr
 place_single t k j ok here there same =
     let p = some_place t.units k.addr ok.units.distinct (has_by_block t.units k.addr k.rb here) in
     let q = some_place t.units j.addr ok.units.distinct (has_by_block t.units j.addr j.rb there) in
     let at = ap (λ n. slice_get t.units n) same in
     ap (λ (x : Addr × UnitTableState). x.0) (same_Some (k.addr, p.0) (j.addr, q.0) (sym p.1 ∙ at ∙ q.1))
 
-block_single : (t : Tables) (k j : Key) → TablesAgree t → HasBlock t k → HasBlock t j → IsNoNewer t k j → IsNoNewer t j k → k ≡ j
+block_single : (t : Tables) (k j : Key) → TablesAgree t → HasBlock t k → HasBlock t j → IsNoNewer t k j
+    → IsNoNewer t j k → k ≡ j
 block_single t k j ok here there (inl a) (inl b) = absurd (omega arith)
 block_single t k j ok here there (inl a) (inr b) = absurd (omega (arith, b.0))
 block_single t k j ok here there (inr a) (inl b) = absurd (omega (arith, a.0))
@@ -58,7 +61,8 @@ block_single t k j ok here there (inr a) (inr b) = by a.1 b.1
     by (inr x) (inr y) = make_key k j (place_single t k j ok here there x.0) (omega (arith, x.1, y.1))
 
 pub oldest_single : (t : Tables) (k j : Key) → TablesAgree t → IsOldestMirrored t k → IsOldestMirrored t j → k ≡ j
-oldest_single t k j ok a b = block_single t k j ok a.mirrored.block b.mirrored.block (a.oldest j b.mirrored) (b.oldest k a.mirrored)
+oldest_single t k j ok a b =
+    block_single t k j ok a.mirrored.block b.mirrored.block (a.oldest j b.mirrored) (b.oldest k a.mirrored)
 
 -- two lowest free groups are one
 pub free_single : (t : Tables) (g h : ℕ) → IsLowestFree t g → IsLowestFree t h → g ≡ h
@@ -72,9 +76,14 @@ pub record AreOne (s r : Slot) (t u : Tables) : Type 0 where
   pub slots : s ≡ r
   pub tables : t ≡ u
 
-pub demoted_single : (t ready tables : Tables) (s r : Slot) → IsSlotFor t s ready → IsSlotFor t r tables → AreOne s r ready tables
+pub demoted_single : (t ready tables : Tables) (s r : Slot) → IsSlotFor t s ready → IsSlotFor t r tables
+    → AreOne s r ready tables
 demoted_single t ready tables s r (inl a) (inl b) =
-    record { slots = slot_single s r (a.lowest.least r b.lowest.hole) (b.lowest.least s a.lowest.hole); tables = a.same ∙ sym b.same }
+    record {
+      slots = slot_single s r (a.lowest.least r b.lowest.hole) (b.lowest.least s a.lowest.hole);
+      tables = a.same
+          ∙ sym b.same;
+    }
 demoted_single t ready tables s r (inl a) (inr b) = absurd (b.none.none s a.lowest.hole)
 demoted_single t ready tables s r (inr a) (inl b) = absurd (a.none.none r b.lowest.hole)
 demoted_single t ready tables s r (inr a) (inr b) =
@@ -86,14 +95,17 @@ demoted_single t ready tables s r (inr a) (inr b) =
 
 -- the tables in which some slot is ready are those in which the slot is that the rule names
 pub leaves_ready : (t new ready : Tables) (s : Slot) → IsSlotFor t s ready → new ≡ ready → LeavesReady t new
-leaves_ready t new ready s slot same = record { ready = λ key to tables names. same ∙ (demoted_single t ready tables s to slot names.slot).tables }
+leaves_ready t new ready s slot same =
+    record { ready = λ key to tables names. same ∙ (demoted_single t ready tables s to slot names.slot).tables }
 
 -- so they are where the disks broke while the group was opened
-pub cut_ready : (old new : StoreState) → HasNoHole old.book Parity → old.disks.health ≢ AllBroken → BreaksOpening old new Parity → LeavesReady old.book new.book
+pub cut_ready : (old new : StoreState) → HasNoHole old.book Parity → old.disks.health ≢ AllBroken
+    → BreaksOpening old new Parity → LeavesReady old.book new.book
 cut_ready old new none sound cut = elim cut.tables [
   | inl was ↦ absurd (sound was.was)
   | inr opening ↦
-      leaves_ready old.book new.book new.book (slot_at opening.0 0) (inr (record { none = none; group = opening.0; opened = opening.1; first = refl })) refl
+      leaves_ready old.book new.book new.book (slot_at opening.0 0)
+      (inr (record { none = none; group = opening.0; opened = opening.1; first = refl })) refl
 ]
 
 some_of : (o : Option Key) (k : Key) → o ≡ Some k → IsSome o
@@ -111,9 +123,11 @@ pub record AreSame (k j : Key) (s r : Slot) : Type 0 where
   pub keys : k ≡ j
   pub slots : s ≡ r
 
-class_single : (t : Tables) (c : Class) (k j : Key) (s r : Slot) → NamesCleaningOf t c k s → NamesCleaningOf t c j r → AreSame k j s r
+class_single : (t : Tables) (c : Class) (k j : Key) (s r : Slot) → NamesCleaningOf t c k s → NamesCleaningOf t c j r
+    → AreSame k j s r
 class_single t c k j s r a b =
-    let group = group_single t a.group b.group (a.emptiest.least b.group b.emptiest.can) (b.emptiest.least a.group a.emptiest.can) in
+    let group = group_single t a.group b.group (a.emptiest.least b.group b.emptiest.can)
+    (b.emptiest.least a.group a.emptiest.can) in
     let first = subst (λ n. IsFirstBlock t n j) (sym group) b.first in
     let hole = subst (λ n. IsLowestHoleBeside t c n r) (sym group) b.hole in
     record {

@@ -1,5 +1,6 @@
 -- How the work that is left falls with a block that moves from a group to one that isn't emptier.
-use Rattle.std.proofs.Common.{◌≡◌, ◌≢◌, ◌⊎◌, ℕ, ◌<◌, ◌≤◌, ◌+◌, ◌-◌, ◌*◌, if◌then◌else◌, eqb, refl, ap, ◌∙◌, inl, inr, arith}
+use Rattle.std.proofs.Common.{◌≡◌, ◌≢◌, ◌⊎◌, ℕ, ◌<◌, ◌≤◌, ◌+◌, ◌-◌, ◌*◌, if◌then◌else◌, eqb, refl, ap, ◌∙◌, inl, inr}
+use Rattle.std.proofs.Common.{arith}
 use Rattle.std.proofs.lemmas.Bool.Decides.{eqb_tells}
 use Rattle.ar_book.specs.declared.class.Class.{Class}
 use Rattle.ar_book.specs.declared.class.Class.TheVariants.{Free, Mirrored, Parity}
@@ -21,7 +22,8 @@ work_open Mirrored b taken_up = refl
 work_open Parity b taken_up = refl
 
 -- the group that the block leaves has others
-several : (a v n m : ℕ) → a + 1 + v ≡ 48 → n + 1 + m ≡ 48 → a + 1 ≤ n → a * (v + 1) + (n + 1) * m < (a + 1) * v + n * (m + 1)
+several : (a v n m : ℕ) → a + 1 + v ≡ 48 → n + 1 + m ≡ 48 → a + 1 ≤ n
+    → a * (v + 1) + (n + 1) * m < (a + 1) * v + n * (m + 1)
 several a v n m p q h = omega arith
 
 several_alone : (a v : ℕ) → a + 1 + v ≡ 48 → a * (v + 1) + 47 < (a + 1) * v + 96
@@ -35,7 +37,8 @@ last_one n m q h = omega arith
 unfoldable pub work_after : ℕ → ℕ
 work_after a = if eqb a 0 then 0 else work_in a
 
-pub work_falls : (a n : ℕ) → a + 1 ≤ 48 → n + 1 ≤ 48 → (n ≡ 0) ⊎ (a + 1 ≤ n) → work_after a + work_in (n + 1) < work_in (a + 1) + work_in n
+pub work_falls : (a n : ℕ) → a + 1 ≤ 48 → n + 1 ≤ 48 → (n ≡ 0) ⊎ (a + 1 ≤ n)
+    → work_after a + work_in (n + 1) < work_in (a + 1) + work_in n
 unfolding work_after
 work_falls a n fits_a fits_n order =
     let v = 47 - a in

@@ -58,7 +58,8 @@ pub record Demotes (t : Tables) (key : Key) (to : Slot) (new : Tables) : Type 0 
 
 -- each other slot of the parity group holds the zero block
 pub record HoldsZerosBeside (s : StoreState) (to : Slot) : Type 0 where
-  pub slots : (i : ℕ) → i < 3 * rows_of s.disks.geometry → i ≢ to.slot → SlotHolds s (slot_at to.group i) (zeros (block_len_of s.disks.geometry))
+  pub slots : (i : ℕ) → i < 3 * rows_of s.disks.geometry → i ≢ to.slot
+      → SlotHolds s (slot_at to.group i) (zeros (block_len_of s.disks.geometry))
 
 -- What a demotion makes of a store, and of the block's new group: the rule's move of the tables; each other slot of the
 -- group keeps its block, and holds the zero block if the group was opened for it.

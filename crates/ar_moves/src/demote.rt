@@ -33,7 +33,8 @@ pub fn demote_one<D: Disk>(store: &mut Store<D>) -> Move
     ensures nothing { NamesNoDemotion store.old.book → store.new ≡ store.old }
     ensures broken { (result ≡ Move.Broken) ↔ (store.new.disks.health ≡ Health.Broken) }
     ensures opened { result ≡ Move.Broken → MayHaveOpened store.old.book store.new.book }
-    ensures ready { result ≡ Move.Broken → store.old.disks.health ≢ Health.Broken → LeavesReady store.old.book store.new.book }
+    ensures ready { result ≡ Move.Broken → store.old.disks.health ≢ Health.Broken
+        → LeavesReady store.old.book store.new.book }
     ensures plan { CarriesOutDemotion store.old store.new }
     ensures leaves { LeavesBlocks store.old store.new }
 {
@@ -55,7 +56,8 @@ fn demote<D: Disk>(store: &mut Store<D>, key: Key) -> Move
     ensures nothing { NamesNoSlot store.old.book → store.new ≡ store.old }
     ensures broken { (result ≡ Move.Broken) ↔ (store.new.disks.health ≡ Health.Broken) }
     ensures opened { result ≡ Move.Broken → MayHaveOpened store.old.book store.new.book }
-    ensures ready { result ≡ Move.Broken → store.old.disks.health ≢ Health.Broken → LeavesReady store.old.book store.new.book }
+    ensures ready { result ≡ Move.Broken → store.old.disks.health ≢ Health.Broken
+        → LeavesReady store.old.book store.new.book }
     ensures zeros { IfMoved result (λ key to. HasNoHole store.old.book Parity → HoldsZerosBeside store.new to) }
     ensures beside { IfMoved result (λ key to. BesideHold store.old store.new to) }
     ensures plan { CarriesOutDemotion store.old store.new }
@@ -79,7 +81,8 @@ fn demote_to_new<D: Disk>(store: &mut Store<D>, key: Key) -> Move
     ensures broken { (result ≡ Move.Broken) ↔ (store.new.disks.health ≡ Health.Broken) }
 
     ensures opened { result ≡ Move.Broken → MayHaveOpened store.old.book store.new.book }
-    ensures ready { result ≡ Move.Broken → store.old.disks.health ≢ Health.Broken → LeavesReady store.old.book store.new.book }
+    ensures ready { result ≡ Move.Broken → store.old.disks.health ≢ Health.Broken
+        → LeavesReady store.old.book store.new.book }
     ensures zeros { IfMoved result (λ key to. HoldsZerosBeside store.new to) }
     ensures beside { IfMoved result (λ key to. BesideHold store.old store.new to) }
     ensures plan { CarriesOutDemotion store.old store.new }

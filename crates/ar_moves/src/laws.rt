@@ -14,7 +14,8 @@ ghost use Rattle.ar_store.specs.Store.{StoreState};
 ghost use Rattle.ar_store.specs.Placing.{IsLowestHole, HasNoHole};
 ghost use Rattle.ar_store.specs.Plans.{MakesAccesses, ReadsUsableOf, WritesUsableAs, fill_kinds};
 ghost use Rattle.ar_moves.specs.Demotion.{IsOldestMirrored, NamesDemotion, CarriesOutDemotion};
-ghost use Rattle.ar_moves.specs.Cleaning.{NamesCleaning, NamesCleaningOf, NamesParityCleaning, CarriesOutCleaning, Cleans, cleaning_left};
+ghost use Rattle.ar_moves.specs.Cleaning.{NamesCleaning, NamesCleaningOf, NamesParityCleaning, CarriesOutCleaning};
+ghost use Rattle.ar_moves.specs.Cleaning.{Cleans, cleaning_left};
 
 /// Cleaning ends: each block that it moves lowers `cleaning_left`, a natural number. A call does nothing.
 pub fn cleaning_ends()
@@ -25,7 +26,8 @@ pub fn cleaning_ends()
 /// Each rule chooses at most one block and one slot, and demotion one state of the tables in which the slot is ready.
 /// So a move that is returned is the one that the rule chooses. A call does nothing.
 pub fn rules_name_one_move()
-    ensures demotion { (t ready tables : Tables) (key other : Key) (to at : Slot) → TablesAgree t → NamesDemotion t key to ready
+    ensures demotion { (t ready tables : Tables) (key other : Key) (to at : Slot) → TablesAgree t
+        → NamesDemotion t key to ready
         → NamesDemotion t other at tables → (key ≡ other) × (to ≡ at) × (ready ≡ tables) }
     ensures cleaning { (t : Tables) (key other : Key) (to at : Slot) → NamesCleaning t key to → NamesCleaning t other at
         → (key ≡ other) × (to ≡ at) }

@@ -1,5 +1,7 @@
 -- No order has more than two arguments, so that those behind the seventh count for nothing.
-use Rattle.std.proofs.Common.{◌≡◌, ◌∙◌, ◌<◌, ◌≤◌, ◌==◌, ℕ, Bool, true, false, List, [], ◌∷◌, length, take, codes, bytes_eq, Option, Some, None, Result, Ok, Err, MatchBool, refl, sym, ap, subst, arith, ltb, map}
+use Rattle.std.proofs.Common.{◌≡◌, ◌∙◌, ◌<◌, ◌≤◌, ◌==◌, ℕ, Bool, true, false, List, [], ◌∷◌, length, take, codes}
+use Rattle.std.proofs.Common.{bytes_eq, Option, Some, None, Result, Ok, Err, MatchBool, refl, sym, ap, subst, arith}
+use Rattle.std.proofs.Common.{ltb, map}
 use Rattle.std.proofs.lemmas.List.{take_all, length-take}
 use Rattle.std.proofs.lemmas.Bool.{ltb-true, ltb-false}
 use Rattle.std.specs.List.{list_any, slice_split}
@@ -7,7 +9,8 @@ use Rattle.ar_language.specs.Forms.{Words, is_silent, value}
 use Rattle.ar_operator.specs.declared.order.LineFault.{LineFault}
 use Rattle.ar_operator.specs.declared.order.OperatorOrder.{OperatorOrder}
 use Rattle.ar_operator.specs.declared.order.OperatorOrder.TheVariants.{Fail}
-use Rattle.ar_operator.specs.Orders.{HasFuse, IsFuse, AsksFuse, argument, ReadsArguments, ReadsAlone, ReadsOperatorWord, ReadsOperatorWords, ReadsOperatorLine, ReadsFirstWord, text_of}
+use Rattle.ar_operator.specs.Orders.{HasFuse, IsFuse, AsksFuse, argument, ReadsArguments, ReadsAlone, ReadsOperatorWord}
+use Rattle.ar_operator.specs.Orders.{ReadsOperatorWords, ReadsOperatorLine, ReadsFirstWord, text_of}
 
 -- a name that is this text is read as it
 pub named : (line name text : List ℕ) (arguments : List (List ℕ)) (r : Result (Option OperatorOrder) LineFault)
@@ -15,9 +18,11 @@ pub named : (line name text : List ℕ) (arguments : List (List ℕ)) (r : Resul
 named line name text arguments r same reads = subst (λ n. ReadsOperatorWord line n arguments r) (sym same) reads
 
 -- the words of a fuse, where it is given or not
-pub fused : (arguments : List (List ℕ)) (disk : ℕ) (accesses : Option ℕ) → HasFuse arguments → IsFuse arguments (disk, accesses)
+pub fused : (arguments : List (List ℕ)) (disk : ℕ) (accesses : Option ℕ) → HasFuse arguments
+    → IsFuse arguments (disk, accesses)
     → ReadsArguments (HasFuse arguments) (AsksFuse arguments) (Ok (Some (Fail disk accesses)))
-fused arguments disk accesses has is = (has, ap (λ d. Fail d accesses) is.0 ∙ ap (λ a. Fail (value (argument arguments 0)) a) is.1)
+fused arguments disk accesses has is =
+    (has, ap (λ d. Fail d accesses) is.0 ∙ ap (λ a. Fail (value (argument arguments 0)) a) is.1)
 
 unless : (b : Bool) (P Q : Type 0) → b ≡ false → Q → MatchBool b P Q
 unless true P Q is q = absurd (cc)
@@ -34,7 +39,8 @@ alike F G A B (Ok None) not_f not_g h = absurd h
 alike F G A B (Ok (Some order)) not_f not_g h = absurd (not_f h.0)
 alike F G A B (Err fault) not_f not_g h = (h.0, not_g)
 
-module _ (line name : List ℕ) (xs ys : List (List ℕ)) (r : Result (Option OperatorOrder) LineFault) (some : 3 ≤ length xs) (more : 3 ≤ length ys) where
+module _ (line name : List ℕ) (xs ys : List (List ℕ)) (r : Result (Option OperatorOrder) LineFault)
+    (some : 3 ≤ length xs) (more : 3 ≤ length ys) where
   no_fuse : (l : List (List ℕ)) → 3 ≤ length l → ¬ HasFuse l
   no_fuse l many = λ has. let count = has.count in absurd (omega arith)
 
@@ -42,7 +48,9 @@ module _ (line name : List ℕ) (xs ys : List (List ℕ)) (r : Result (Option Op
   no_alone l many = λ none. absurd (omega arith)
 
   alone : (order : OperatorOrder) → ReadsAlone xs order r → ReadsAlone ys order r
-  alone order = alike (length xs ≡ 0) (length ys ≡ 0) (λ given. given ≡ order) (λ given. given ≡ order) r (no_alone xs some) (no_alone ys more)
+  alone order =
+      alike (length xs ≡ 0) (length ys ≡ 0) (λ given. given ≡ order) (λ given. given ≡ order) r (no_alone xs some)
+      (no_alone ys more)
 
   fuse : ReadsArguments (HasFuse xs) (AsksFuse xs) r → ReadsArguments (HasFuse ys) (AsksFuse ys) r
   fuse = alike (HasFuse xs) (HasFuse ys) (AsksFuse xs) (AsksFuse ys) r (no_fuse xs some) (no_fuse ys more)
@@ -59,7 +67,8 @@ by_first : (line name : List ℕ) (arguments : List (List ℕ)) (r : Result (Opt
 by_first line name arguments r reads = at (ltb 7 (length arguments)) refl
   where
     at : (many : Bool) → ltb 7 (length arguments) ≡ many → ReadsOperatorWord line name arguments r
-    at false is = subst (λ l. ReadsOperatorWord line name l r) (take_all 7 arguments (ltb-false 7 (length arguments) is)) reads
+    at false is =
+        subst (λ l. ReadsOperatorWord line name l r) (take_all 7 arguments (ltb-false 7 (length arguments) is)) reads
     at true is =
         let many : 7 < length arguments = ltb-true 7 (length arguments) is in
         any_word line name (take 7 arguments) arguments r (omega (arith, length-take 7 arguments)) (omega arith) reads
@@ -77,7 +86,8 @@ words_cut line name arguments (piece ∷ pieces) r none same reads =
     unless _ _ _ none (by_first line piece pieces r cut)
 
 -- a line without a word
-words_none : (line : List ℕ) (pieces : List (List ℕ)) (r : Result (Option OperatorOrder) LineFault) → [] ≡ take 8 pieces → r ≡ Ok None
+words_none : (line : List ℕ) (pieces : List (List ℕ)) (r : Result (Option OperatorOrder) LineFault) → [] ≡ take 8 pieces
+    → r ≡ Ok None
     → ReadsOperatorWords line pieces r
 words_none line [] r same is = is
 words_none line (piece ∷ pieces) r same is = absurd (cc)
@@ -85,7 +95,10 @@ words_none line (piece ∷ pieces) r same is = absurd (cc)
 -- a line that asks for something is read by its first words
 pub line_read : (line : List ℕ) (words : Words) (r : Result (Option OperatorOrder) LineFault) → is_silent line ≡ false
     → list_any (λ word. length word == 0) (slice_split (λ byte. byte == 32) line) ≡ false
-    → map text_of words ≡ take 8 (slice_split (λ byte. byte == 32) line) → ReadsFirstWord line words r → ReadsOperatorLine line r
-line_read line [] r loud none same reads = unless _ _ _ loud (words_none line (slice_split (λ byte. byte == 32) line) r same reads)
+    → map text_of words ≡ take 8 (slice_split (λ byte. byte == 32) line) → ReadsFirstWord line words r
+    → ReadsOperatorLine line r
+line_read line [] r loud none same reads =
+    unless _ _ _ loud (words_none line (slice_split (λ byte. byte == 32) line) r same reads)
 line_read line (name ∷ words) r loud none same reads =
-    unless _ _ _ loud (words_cut line name.now (map text_of words) (slice_split (λ byte. byte == 32) line) r none same reads)
+    unless _ _ _ loud
+    (words_cut line name.now (map text_of words) (slice_split (λ byte. byte == 32) line) r none same reads)

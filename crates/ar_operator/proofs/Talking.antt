@@ -1,5 +1,6 @@
 -- A conversation, as its lines come.
-use Rattle.std.proofs.Common.{◌≡◌, ◌∙◌, ◌+◌, ◌≤◌, ℕ, Bool, true, false, List, [], ◌∷◌, ◌++◌, Option, Some, None, Result, refl, sym, ap, subst, length-append, arith}
+use Rattle.std.proofs.Common.{◌≡◌, ◌∙◌, ◌+◌, ◌≤◌, ℕ, Bool, true, false, List, [], ◌∷◌, ◌++◌, Option, Some, None, Result}
+use Rattle.std.proofs.Common.{refl, sym, ap, subst, length-append, arith}
 use Rattle.ar_frames.specs.Stream.{SourceState, SinkState}
 use Rattle.ar_frames.proofs.Streams.{Reading-none}
 use Rattle.ar_frames.specs.declared.fill.Sent.{Sent}
@@ -15,18 +16,24 @@ use Rattle.ar_operator.specs.declared.conversation.LineResult.TheVariants.{Answe
 use Rattle.ar_operator.specs.Controller.{OperatorAnswers}
 use Rattle.ar_operator.specs.Lines.{KeepsLine, LineIsRead, seen_behind}
 use Rattle.ar_operator.proofs.Coming.{piece_empty}
-use Rattle.ar_operator.specs.Talk.{ClosesTalk, OperatorTalk, Converses, HasTalked, ReadsBytes, Replies, LineIsAnswered, line_result_by, ConversationState, LeavesOpen, RespondsToLine, Talks, NextIsAnswered, is_unreadable, line_result_behind}
+use Rattle.ar_operator.specs.Talk.{ClosesTalk, OperatorTalk, Converses, HasTalked, ReadsBytes, Replies, LineIsAnswered}
+use Rattle.ar_operator.specs.Talk.{line_result_by, ConversationState, LeavesOpen, RespondsToLine, Talks, NextIsAnswered}
+use Rattle.ar_operator.specs.Talk.{is_unreadable, line_result_behind}
 
 -- what is kept of a line's bytes says what they are read as
-kept : (line text : List ℕ) (fault : Option FaultKind) (read : Result (Option OperatorOrder) LineFault) → KeepsLine line text fault
+kept : (line text : List ℕ) (fault : Option FaultKind) (read : Result (Option OperatorOrder) LineFault)
+    → KeepsLine line text fault
     → ReadsBytes fault text read → ReadsBytes (line_fault line) line read
 kept line text (Some kind) read tells reads = subst (λ f. ReadsBytes f line read) (sym tells.fault_is) reads
 kept line text None read tells reads =
-    subst (λ f. ReadsBytes f line read) (sym tells.fault_is) (subst (λ t. ReadsBytes None t read) (tells.text_is refl) reads)
+    subst (λ f. ReadsBytes f line read) (sym tells.fault_is)
+    (subst (λ t. ReadsBytes None t read) (tells.text_is refl) reads)
 
 module _ {C : Type 0} (answers : OperatorAnswers C) where
-  replies_kept : (line text : List ℕ) (fault : Option FaultKind) (old new : C) (sink sink' : SinkState) (stop : Bool) (sent : Sent)
-      → KeepsLine line text fault → Replies answers fault text old sink stop sent new sink' → Replies answers (line_fault line) line old sink stop sent new sink'
+  replies_kept : (line text : List ℕ) (fault : Option FaultKind) (old new : C) (sink sink' : SinkState) (stop : Bool)
+      (sent : Sent)
+      → KeepsLine line text fault → Replies answers fault text old sink stop sent new sink'
+      → Replies answers (line_fault line) line old sink stop sent new sink'
   replies_kept line text fault old new sink sink' stop sent tells replies = record {
     answer = replies.answer;
     responds = record {
@@ -38,13 +45,17 @@ module _ {C : Type 0} (answers : OperatorAnswers C) where
   }
 
   -- a line that was read and answered, and whether the conversation goes on
-  next_is_answered : (source source' : SourceState) (sink sink' : SinkState) (old new : C) (text : List ℕ) (fault : Option FaultKind) (result : LineResult)
+  next_is_answered : (source source' : SourceState) (sink sink' : SinkState) (old new : C) (text : List ℕ)
+      (fault : Option FaultKind) (result : LineResult)
       → LineIsRead source text fault source' → LineIsAnswered answers fault text old sink result new sink'
-      → NextIsAnswered answers (record { source = source; sink = sink; controller = old }) (line_result_behind (is_unreadable fault) result)
+      → NextIsAnswered answers (record { source = source; sink = sink; controller = old })
+      (line_result_behind (is_unreadable fault) result)
       (record { source = source'; sink = sink'; controller = new })
   next_is_answered source source' sink sink' old new text fault result comes answered =
-      subst (λ t. NextIsAnswered answers before (line_result_behind (is_unreadable fault) t) after) (sym answered.result_is)
-      (at (is_unreadable fault) (ap is_unreadable comes.tells.fault_is) answered.stop answered.sent (line_is answered.stop answered.sent answered.replies))
+      subst (λ t. NextIsAnswered answers before (line_result_behind (is_unreadable fault) t) after)
+      (sym answered.result_is)
+      (at (is_unreadable fault) (ap is_unreadable comes.tells.fault_is) answered.stop answered.sent
+      (line_is answered.stop answered.sent answered.replies))
     where
       before : ConversationState C
       before = record { source = source; sink = sink; controller = old }
@@ -52,7 +63,8 @@ module _ {C : Type 0} (answers : OperatorAnswers C) where
       after : ConversationState C
       after = record { source = source'; sink = sink'; controller = new }
 
-      line_is : (stop : Bool) (sent : Sent) → Replies answers fault text old sink stop sent new sink' → RespondsToLine answers before comes.line stop sent after
+      line_is : (stop : Bool) (sent : Sent) → Replies answers fault text old sink stop sent new sink'
+          → RespondsToLine answers before comes.line stop sent after
       line_is stop sent replies = record {
         takes = comes.takes;
         replies = replies_kept comes.line text fault old new sink sink' stop sent comes.tells replies;
@@ -71,7 +83,8 @@ module _ {C : Type 0} (answers : OperatorAnswers C) where
       at false is false (Part n) responds = record { line = comes.line; stop = false; count = n; responds = responds }
 
   -- the same, with the result by its equation
-  pub next_behind : (source source' : SourceState) (sink sink' : SinkState) (old new : C) (text : List ℕ) (fault : Option FaultKind) (result ended : LineResult)
+  pub next_behind : (source source' : SourceState) (sink sink' : SinkState) (old new : C) (text : List ℕ)
+      (fault : Option FaultKind) (result ended : LineResult)
       → LineIsRead source text fault source' → LineIsAnswered answers fault text old sink result new sink'
       → ended ≡ line_result_behind (is_unreadable fault) result
       → NextIsAnswered answers (record { source = source; sink = sink; controller = old }) ended
@@ -83,15 +96,19 @@ module _ {C : Type 0} (answers : OperatorAnswers C) where
       (next_is_answered source source' sink sink' old new text fault result comes answered)
 
   -- one more line
-  talks_more : (lines : List (List ℕ)) (line : List ℕ) (old middle new : ConversationState C) → Talks answers old lines middle
+  talks_more : (lines : List (List ℕ)) (line : List ℕ) (old middle new : ConversationState C)
+      → Talks answers old lines middle
       → LeavesOpen answers middle line new → Talks answers old (lines ++ line ∷ []) new
-  talks_more [] line old middle new talks responds = (new, subst (λ p. LeavesOpen answers p line new) talks responds, refl)
-  talks_more (first ∷ lines) line old middle new talks responds = (talks.0, talks.1, talks_more lines line talks.0 middle new talks.2 responds)
+  talks_more [] line old middle new talks responds =
+      (new, subst (λ p. LeavesOpen answers p line new) talks responds, refl)
+  talks_more (first ∷ lines) line old middle new talks responds =
+      (talks.0, talks.1, talks_more lines line talks.0 middle new talks.2 responds)
 
   pub talked_none : (place : ConversationState C) → HasTalked answers place 0 place
   talked_none place = record { lines = []; count_is = refl; talks = refl }
 
-  pub talked_more : (old middle new : ConversationState C) (count : ℕ) → HasTalked answers old count middle → NextIsAnswered answers middle Answered new
+  pub talked_more : (old middle new : ConversationState C) (count : ℕ) → HasTalked answers old count middle
+      → NextIsAnswered answers middle Answered new
       → HasTalked answers old (count + 1) new
   talked_more old middle new count talked responds = record {
     lines = talked.lines ++ responds.0 ∷ [];
@@ -99,7 +116,8 @@ module _ {C : Type 0} (answers : OperatorAnswers C) where
     talks = talks_more talked.lines responds.0 old middle new talked.talks responds.1;
   }
 
-  pub talked_end : (old middle new : ConversationState C) (count : ℕ) (end : OperatorEnd) → HasTalked answers old count middle → count ≤ 1000000
+  pub talked_end : (old middle new : ConversationState C) (count : ℕ) (end : OperatorEnd)
+      → HasTalked answers old count middle → count ≤ 1000000
       → ClosesTalk answers middle end new → Converses answers old end new
   talked_end old middle new count end talked few closes = record {
     lines = talked.lines;
@@ -109,30 +127,43 @@ module _ {C : Type 0} (answers : OperatorAnswers C) where
     closes = closes;
   }
 
-  pub talked_full : (old new : ConversationState C) (count : ℕ) → HasTalked answers old count new → count ≤ 1000000 → Converses answers old ends.Bound new
+  pub talked_full : (old new : ConversationState C) (count : ℕ) → HasTalked answers old count new → count ≤ 1000000
+      → Converses answers old ends.Bound new
   talked_full old new count talked few =
-      talked_end old new new count ends.Bound talked few
-      (record { part = []; one = λ k d within. absurd (omega arith); read = Reading-none new.source }, record { sink = refl; controller = refl })
+      talked_end old new new count ends.Bound talked few (
+        record { part = []; one = λ k d within. absurd (omega arith); read = Reading-none new.source },
+        record { sink = refl; controller = refl },
+      )
 
   -- what was read is dropped
-  pub heard : (piece dropped : List ℕ) (source source' : SourceState) (sink sink' : SinkState) (old new : C) (end : OperatorEnd) → piece ≡ []
+  pub heard : (piece dropped : List ℕ) (source source' : SourceState) (sink sink' : SinkState) (old new : C)
+      (end : OperatorEnd) → piece ≡ []
       → Converses answers (record { source = seen_behind piece source; sink = sink; controller = old }) end
       (record { source = seen_behind dropped source'; sink = sink'; controller = new })
       → OperatorTalk answers source source' sink sink' old new end
   heard piece dropped source source' sink sink' old new end none converses =
       let f : SourceState → ConversationState C = λ s. record { source = s; sink = sink; controller = old } in
-      let after : ConversationState C = record { source = seen_behind dropped source'; sink = sink'; controller = new } in
+      let after : ConversationState C =
+      record { source = seen_behind dropped source'; sink = sink'; controller = new } in
       record {
         dropped = dropped;
-        converses = subst (λ p. Converses answers p end after) (ap (λ l. f (seen_behind l source)) none ∙ ap f (piece_empty source)) converses;
+        converses = subst (λ p. Converses answers p end after) (ap (λ l. f (seen_behind l source)) none
+            ∙ ap f (piece_empty source)) converses;
       }
 
   -- nothing was read
-  pub unheard : (source : SourceState) (sink : SinkState) (old : C) → OperatorTalk answers source source sink sink old old ends.NoMemory
+  pub unheard : (source : SourceState) (sink : SinkState) (old : C)
+      → OperatorTalk answers source source sink sink old old ends.NoMemory
   unheard source sink old =
       let f : SourceState → ConversationState C = λ s. record { source = s; sink = sink; controller = old } in
       let place : ConversationState C = f source in
       record {
         dropped = [];
-        converses = record { lines = []; few = omega arith; middle = place; talks = refl; closes = ap f (piece_empty source) };
+        converses = record {
+          lines = [];
+          few = omega arith;
+          middle = place;
+          talks = refl;
+          closes = ap f (piece_empty source);
+        };
       }

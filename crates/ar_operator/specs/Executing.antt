@@ -18,8 +18,8 @@ abbrev pub IsArrayOrder : Order → Type 0
 IsArrayOrder (Act action) = IsOperatorAction action
 IsArrayOrder (Ask question) = IsView question
 
--- The action was one event of the array, the one that a script has for it, or was not begun. The history has grown by what
--- was done, and the array was kept before and after.
+-- The action was one event of the array, the one that a script has for it, or was not begun. The history has grown by
+-- what was done, and the array was kept before and after.
 pub record Operated (action : Action) (outcome : Outcome) (old new : KeptState) : Type 0 where
   pub does : Does old.array (event_in old.array action) outcome new.array
   pub kept : StaysKept old new
@@ -31,7 +31,8 @@ pub record IsOperated (action : Action) (old new : KeptState) : Type 0 where
   pub operated : Operated action outcome old new
 
 -- the same, and the outcome's text was appended
-pub record OperatesAndAnswers (action : Action) (old : KeptState) (before after : List ℕ) (new : KeptState) : Type 0 where
+pub record OperatesAndAnswers (action : Action) (old : KeptState) (before after : List ℕ) (new : KeptState)
+    : Type 0 where
   pub outcome : Outcome
   pub operated : Operated action outcome old new
   pub answered : after ≡ before ++ outcome_text outcome (notation_in action)
@@ -40,7 +41,8 @@ pub record OperatesAndAnswers (action : Action) (old : KeptState) (before after 
 -- query's that of the array, which it doesn't change. Out of memory, an action isn't done; or it is, and its answer is
 -- lost.
 abbrev pub Executes : Order → KeptState → List ℕ → Result (Unit {0}) AllocError → List ℕ → KeptState → Type 0
-Executes (Ask question) old before (Ok done) after new = (new ≡ old) × AppendsAnswer (Ask question) old.array old.array (Some before) (Some after)
+Executes (Ask question) old before (Ok done) after new =
+    (new ≡ old) × AppendsAnswer (Ask question) old.array old.array (Some before) (Some after)
 Executes (Ask question) old before (Err fault) after new = new ≡ old
 Executes (Act action) old before (Ok done) after new = OperatesAndAnswers action old before after new
 Executes (Act action) old before (Err fault) after new = (new ≡ old) ⊎ IsOperated action old new

@@ -59,7 +59,8 @@ LineReadIs old line_read.Fault text fault new = TakesPart old new true
 LineReadIs old line_read.Endless text fault new = TakesPart old new false
 
 -- the bytes of a line so far
-pub record LineSoFar (old : SourceState) (text : List ℕ) (fault : Option FaultKind) (count : ℕ) (new : SourceState) : Type 0 where
+pub record LineSoFar (old : SourceState) (text : List ℕ) (fault : Option FaultKind) (count : ℕ) (new : SourceState)
+    : Type 0 where
   pub line : List ℕ
   pub one : HasNoEnd line
   pub count_is : length line ≡ count

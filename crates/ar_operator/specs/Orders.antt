@@ -1,5 +1,6 @@
 -- What an operator's line asks for, by its first word.
-use Rattle.std.specs.Prelude.{◌≡◌, ◌⊎◌, ◌==◌, ℕ, Bool, if◌then◌else◌, List, [], ◌∷◌, length, map, slice_index_or, codes, bytes_eq, Option, Some, None, Result, Ok, Err, MatchBool}
+use Rattle.std.specs.Prelude.{◌≡◌, ◌⊎◌, ◌==◌, ℕ, Bool, if◌then◌else◌, List, [], ◌∷◌, length, map, slice_index_or, codes}
+use Rattle.std.specs.Prelude.{bytes_eq, Option, Some, None, Result, Ok, Err, MatchBool}
 use Rattle.std.specs.List.{list_any, slice_split}
 use Rattle.std.specs.Borrow.{Bor}
 use Rattle.ar_language.specs.declared.fault.FaultKind.{FaultKind}
@@ -36,7 +37,8 @@ text_of text = text.now
 abbrev pub is_host_word : List ℕ → Bool
 is_host_word name =
     list_any (bytes_eq name)
-    (codes "tur" ∷ codes "inquiry" ∷ codes "capacity" ∷ codes "read" ∷ codes "write" ∷ codes "read16" ∷ codes "write16" ∷ codes "cdb"
+    (codes "tur" ∷ codes "inquiry" ∷ codes "capacity" ∷ codes "read" ∷ codes "write" ∷ codes "read16" ∷ codes "write16"
+    ∷ codes "cdb"
     ∷ codes "block" ∷ [])
 
 -- a script's order as an operator's
@@ -115,4 +117,5 @@ ReadsOperatorWords line (name ∷ arguments) result =
 -- What an operator's line asks for: nothing, or what its words do, which are split at each space.
 abbrev pub ReadsOperatorLine : List ℕ → Result (Option OperatorOrder) LineFault → Type 0
 ReadsOperatorLine line result =
-    MatchBool (is_silent line) (result ≡ Ok None) (ReadsOperatorWords line (slice_split (λ byte. byte == 32) line) result)
+    MatchBool (is_silent line) (result ≡ Ok None)
+    (ReadsOperatorWords line (slice_split (λ byte. byte == 32) line) result)

@@ -1,5 +1,6 @@
 -- A conversation, line by line.
-use Rattle.std.specs.Prelude.{◌≡◌, ◌⊎◌, ◌≤◌, ℕ, Bool, true, false, List, [], ◌∷◌, ◌++◌, length, codes, Option, Some, None, Result, Ok, Err, alloc_error}
+use Rattle.std.specs.Prelude.{◌≡◌, ◌⊎◌, ◌≤◌, ℕ, Bool, true, false, List, [], ◌∷◌, ◌++◌, length, codes, Option, Some}
+use Rattle.std.specs.Prelude.{None, Result, Ok, Err, alloc_error}
 use Rattle.std.specs.Io.KnownBytes.{IsAtEnd}
 use Rattle.ar_frames.specs.Stream.{SourceState, SinkState, Reading, Sending}
 use Rattle.ar_frames.specs.declared.fill.Sent.{Sent}
@@ -41,7 +42,8 @@ ReadsBytes (Some kind) text read = read ≡ Err (Line kind)
 ReadsBytes None text read = ReadsOperatorLine text read
 
 -- the controller executed the order, and there is no memory for its answer
-pub record IsForgotten {C : Type 0} (answers : OperatorAnswers C) (old : C) (order : OperatorOrder) (new : C) : Type 0 where
+pub record IsForgotten {C : Type 0} (answers : OperatorAnswers C) (old : C) (order : OperatorOrder) (new : C)
+    : Type 0 where
   pub lost : List ℕ
   pub answered : answers old order (Err alloc_error) lost new
 
@@ -53,20 +55,24 @@ ExecutesOrder answers old order answer stop new =
 
 -- The answer to what a line is read as, and whether the service ends with it. A line without an order leaves the
 -- controller as it was.
-abbrev pub RespondsToRead : {C : Type 0} → OperatorAnswers C → C → Result (Option OperatorOrder) LineFault → List ℕ → Bool → C → Type 0
+abbrev pub RespondsToRead : {C : Type 0} → OperatorAnswers C → C → Result (Option OperatorOrder) LineFault → List ℕ
+    → Bool → C → Type 0
 RespondsToRead answers old (Ok None) answer stop new = (answer ≡ []) × (stop ≡ false) × (new ≡ old)
 RespondsToRead answers old (Ok (Some order)) answer stop new = ExecutesOrder answers old order answer stop new
-RespondsToRead answers old (Err fault) answer stop new = ((answer ≡ fault_answer fault) ⊎ (answer ≡ no_memory)) × (stop ≡ false) × (new ≡ old)
+RespondsToRead answers old (Err fault) answer stop new =
+    ((answer ≡ fault_answer fault) ⊎ (answer ≡ no_memory)) × (stop ≡ false) × (new ≡ old)
 
 -- the answer to a line, by the fault of its bytes or by its text
-pub record RespondsToBytes {C : Type 0} (answers : OperatorAnswers C) (fault : Option FaultKind) (text : List ℕ) (old : C) (answer : List ℕ)
+pub record RespondsToBytes {C : Type 0} (answers : OperatorAnswers C) (fault : Option FaultKind) (text : List ℕ)
+    (old : C) (answer : List ℕ)
     (stop : Bool) (new : C) : Type 0 where
   pub read : Result (Option OperatorOrder) LineFault
   pub reads : ReadsBytes fault text read
   pub responds : RespondsToRead answers old read answer stop new
 
 -- a line was answered, and its answer was written, whole or up to a fault
-pub record Replies {C : Type 0} (answers : OperatorAnswers C) (fault : Option FaultKind) (text : List ℕ) (old : C) (sink : SinkState)
+pub record Replies {C : Type 0} (answers : OperatorAnswers C) (fault : Option FaultKind) (text : List ℕ) (old : C)
+    (sink : SinkState)
     (stop : Bool) (sent : Sent) (new : C) (sink' : SinkState) : Type 0 where
   pub answer : List ℕ
   pub responds : RespondsToBytes answers fault text old answer stop new
@@ -89,7 +95,8 @@ line_result_by true Whole = Ended ends.Stop
 line_result_by false Whole = Answered
 
 -- the same, by the result
-pub record LineIsAnswered {C : Type 0} (answers : OperatorAnswers C) (fault : Option FaultKind) (text : List ℕ) (old : C) (sink : SinkState)
+pub record LineIsAnswered {C : Type 0} (answers : OperatorAnswers C) (fault : Option FaultKind) (text : List ℕ)
+    (old : C) (sink : SinkState)
     (result : LineResult) (new : C) (sink' : SinkState) : Type 0 where
   pub stop : Bool
   pub sent : Sent
@@ -115,23 +122,27 @@ pub record ConversationState (C : Type 0) : Type 0 where
   pub controller : C
 
 -- a line was read, and answered as its bytes say
-pub record RespondsToLine {C : Type 0} (answers : OperatorAnswers C) (old : ConversationState C) (line : List ℕ) (stop : Bool) (sent : Sent) (new : ConversationState C)
+pub record RespondsToLine {C : Type 0} (answers : OperatorAnswers C) (old : ConversationState C) (line : List ℕ)
+    (stop : Bool) (sent : Sent) (new : ConversationState C)
     : Type 0 where
   pub takes : TakesLine old.source new.source line
   pub replies : Replies answers (line_fault line) line old.controller old.sink stop sent new.controller new.sink
 
 -- a line of text was read and answered whole, and it wasn't `stop`
-pub record LeavesOpen {C : Type 0} (answers : OperatorAnswers C) (old : ConversationState C) (line : List ℕ) (new : ConversationState C) : Type 0 where
+pub record LeavesOpen {C : Type 0} (answers : OperatorAnswers C) (old : ConversationState C) (line : List ℕ)
+    (new : ConversationState C) : Type 0 where
   pub responds : RespondsToLine answers old line false Whole new
   pub is_text : is_unreadable (line_fault line) ≡ false
 
 -- These lines of text were read and answered whole, one after another, none of them with `stop`.
 abbrev pub Talks : {C : Type 0} → OperatorAnswers C → ConversationState C → List (List ℕ) → ConversationState C → Type 0
 Talks answers old [] new = new ≡ old
-Talks {C = C} answers old (line ∷ lines) new = (middle : ConversationState C) × LeavesOpen answers old line middle × Talks answers middle lines new
+Talks {C = C} answers old (line ∷ lines) new =
+    (middle : ConversationState C) × LeavesOpen answers old line middle × Talks answers middle lines new
 
 -- this many lines were
-pub record HasTalked {C : Type 0} (answers : OperatorAnswers C) (old : ConversationState C) (count : ℕ) (new : ConversationState C) : Type 0 where
+pub record HasTalked {C : Type 0} (answers : OperatorAnswers C) (old : ConversationState C) (count : ℕ)
+    (new : ConversationState C) : Type 0 where
   pub lines : List (List ℕ)
   pub count_is : length lines ≡ count
   pub talks : Talks answers old lines new
@@ -160,8 +171,10 @@ pub record IsEndedByLine {C : Type 0} (answers : OperatorAnswers C) (old new : C
   pub responds : RespondsToLine answers old line false Whole new
 
 -- how a conversation ends
-abbrev pub ClosesTalk : {C : Type 0} → OperatorAnswers C → ConversationState C → OperatorEnd → ConversationState C → Type 0
-ClosesTalk answers old ends.End new = Reading old.source new.source [] false × IsAtEnd new.source.left × IsSilent old new
+abbrev pub ClosesTalk : {C : Type 0} → OperatorAnswers C → ConversationState C → OperatorEnd → ConversationState C
+    → Type 0
+ClosesTalk answers old ends.End new =
+    Reading old.source new.source [] false × IsAtEnd new.source.left × IsSilent old new
 ClosesTalk answers old ends.Stop new = IsStoppedByOrder answers old new
 ClosesTalk answers old ends.BadLine new = IsEndedByLine answers old new
 ClosesTalk answers old ends.Read new = TakesPart old.source new.source true × IsSilent old new
@@ -170,13 +183,15 @@ ClosesTalk answers old ends.Bound new = TakesPart old.source new.source false ×
 ClosesTalk answers old ends.NoMemory new = new ≡ old
 
 -- one more line was answered, or the conversation ended
-abbrev pub NextIsAnswered : {C : Type 0} → OperatorAnswers C → ConversationState C → LineResult → ConversationState C → Type 0
+abbrev pub NextIsAnswered : {C : Type 0} → OperatorAnswers C → ConversationState C → LineResult → ConversationState C
+    → Type 0
 NextIsAnswered answers old Answered new = (line : List ℕ) × LeavesOpen answers old line new
 NextIsAnswered answers old (Ended end) new = ClosesTalk answers old end new
 
 -- A conversation: lines of the input were given to the controller, each once and in order, and their answers written,
 -- in order; and then it ended so.
-pub record Converses {C : Type 0} (answers : OperatorAnswers C) (old : ConversationState C) (end : OperatorEnd) (new : ConversationState C) : Type 0 where
+pub record Converses {C : Type 0} (answers : OperatorAnswers C) (old : ConversationState C) (end : OperatorEnd)
+    (new : ConversationState C) : Type 0 where
   pub lines : List (List ℕ)
   pub few : length lines ≤ 1000000
   pub middle : ConversationState C
@@ -184,7 +199,8 @@ pub record Converses {C : Type 0} (answers : OperatorAnswers C) (old : Conversat
   pub closes : ClosesTalk answers middle end new
 
 -- The same over streams. Bytes that were read behind the last line are dropped.
-pub record OperatorTalk {C : Type 0} (answers : OperatorAnswers C) (source source' : SourceState) (sink sink' : SinkState) (old new : C)
+pub record OperatorTalk {C : Type 0} (answers : OperatorAnswers C) (source source' : SourceState)
+    (sink sink' : SinkState) (old new : C)
     (end : OperatorEnd) : Type 0 where
   pub dropped : List ℕ
   pub converses :

@@ -2,7 +2,10 @@
 ghost use Rattle.std.specs.Prelude.{◌≡◌, ◌⊎◌, [], false, Ok, IfOk, IfSome};
 ghost use Rattle.ar_operator.specs.Lines.{seen_behind};
 ghost use Rattle.ar_operator.specs.Orders.{IsOperatorOrder};
-ghost use Rattle.ar_operator.specs.Talk.{OperatorTalk, Converses, ExecutesOrder, ReadsBytes, RespondsToBytes, RespondsToRead, LineIsAnswered, NextIsAnswered, fault_answer, is_stop, is_unreadable, ends_service, line_result_behind, response_bytes, line_result_by, no_memory};
+ghost use Rattle.ar_operator.specs.Talk.{OperatorTalk, Converses, ExecutesOrder, ReadsBytes, RespondsToBytes};
+ghost use Rattle.ar_operator.specs.Talk.{RespondsToRead, LineIsAnswered, NextIsAnswered, fault_answer, is_stop};
+ghost use Rattle.ar_operator.specs.Talk.{is_unreadable, ends_service, line_result_behind, response_bytes};
+ghost use Rattle.ar_operator.specs.Talk.{line_result_by, no_memory};
 
 use crate::input::{Line, LineRead, Piece, read_line};
 use crate::{Controller, LineFault, OperatorOrder, operator_order_in};
@@ -40,8 +43,8 @@ pub enum OperatorEnd {
 /// text, as `fault: unknown word`; an empty line and one that begins with `#` have no answer. A line has at most 4,096
 /// bytes without its LF, all of them printable ASCII; the last one may lack its LF. It allocates a buffer for the line
 /// at the start, and one for answers; if an answer can't be allocated, `fault: no memory` is written in its place. A
-/// line that is too long or has another byte ends the conversation. Each line of HTTP's ends with CR, so that no web page
-/// can have a browser send orders.
+/// line that is too long or has another byte ends the conversation. Each line of HTTP's ends with CR, so that no web
+/// page can have a browser send orders.
 pub fn converse<R: Source, W: Sink, C: Controller>(
     alloc: Global,
     reader: &mut R,
@@ -82,9 +85,17 @@ fn answer_lines<R: Source, W: Sink, C: Controller>(
     answer: &mut Vec<u8>,
 ) -> OperatorEnd
     ensures { Converses C.answers
-        (record { source = seen_behind piece.old (R.state reader.old); sink = W.state writer.old; controller = controller.old })
+        (record {
+          source = seen_behind piece.old (R.state reader.old);
+          sink = W.state writer.old;
+          controller = controller.old;
+        })
         result
-        (record { source = seen_behind piece.new (R.state reader.new); sink = W.state writer.new; controller = controller.new }) }
+        (record {
+          source = seen_behind piece.new (R.state reader.new);
+          sink = W.state writer.new;
+          controller = controller.new;
+        }) }
 {
     for _ in 0..MOST_LINES {
         match answer_next(reader, writer, controller, piece, line, answer) {
@@ -105,9 +116,17 @@ fn answer_next<R: Source, W: Sink, C: Controller>(
     answer: &mut Vec<u8>,
 ) -> LineResult
     ensures { NextIsAnswered C.answers
-        (record { source = seen_behind piece.old (R.state reader.old); sink = W.state writer.old; controller = controller.old })
+        (record {
+          source = seen_behind piece.old (R.state reader.old);
+          sink = W.state writer.old;
+          controller = controller.old;
+        })
         result
-        (record { source = seen_behind piece.new (R.state reader.new); sink = W.state writer.new; controller = controller.new }) }
+        (record {
+          source = seen_behind piece.new (R.state reader.new);
+          sink = W.state writer.new;
+          controller = controller.new;
+        }) }
 {
     match read_line(reader, piece, line) {
         LineRead::Line => {
@@ -178,7 +197,8 @@ enum Response {
 
 // Has a line answered, into an emptied buffer.
 fn respond<C: Controller>(controller: &mut C, line: &Line, answer: &mut Vec<u8>) -> Response
-    ensures { RespondsToBytes C.answers line.now.fault line.now.text.items controller.old (response_bytes result answer.new.items)
+    ensures { RespondsToBytes C.answers line.now.fault line.now.text.items controller.old
+        (response_bytes result answer.new.items)
         (ends_service result) controller.new }
 {
     answer.clear();
@@ -193,7 +213,8 @@ fn respond_to<C: Controller>(
 ) -> Response
     requires allowed { IfOk read (λ asked. IfSome asked IsOperatorOrder) }
     requires empty { answer.old.items ≡ [] }
-    ensures { RespondsToRead C.answers controller.old read (response_bytes result answer.new.items) (ends_service result) controller.new }
+    ensures { RespondsToRead C.answers controller.old read (response_bytes result answer.new.items)
+        (ends_service result) controller.new }
 {
     match read {
         Ok(asked) => respond_to_order(controller, asked, answer),
@@ -209,7 +230,8 @@ fn respond_to_order<C: Controller>(
 ) -> Response
     requires allowed { IfSome asked IsOperatorOrder }
     requires empty { answer.old.items ≡ [] }
-    ensures { RespondsToRead C.answers controller.old (Ok asked) (response_bytes result answer.new.items) (ends_service result) controller.new }
+    ensures { RespondsToRead C.answers controller.old (Ok asked) (response_bytes result answer.new.items)
+        (ends_service result) controller.new }
 {
     match asked {
         Some(order) => execute_order(controller, order, answer),
@@ -236,7 +258,8 @@ fn execute_order<C: Controller>(
 ) -> Response
     requires allowed { IsOperatorOrder order }
     requires empty { answer.old.items ≡ [] }
-    ensures { ExecutesOrder C.answers controller.old order (response_bytes result answer.new.items) (ends_service result) controller.new }
+    ensures { ExecutesOrder C.answers controller.old order (response_bytes result answer.new.items)
+        (ends_service result) controller.new }
 {
     match controller.answer(order, answer) {
         Ok(()) if is_stop(order) => Response::Stop,
@@ -254,7 +277,8 @@ fn is_stop(order: OperatorOrder) -> bool
 // Writes a fault's text.
 fn write_fault(fault: LineFault, answer: &mut Vec<u8>) -> Response
     requires empty { answer.old.items ≡ [] }
-    ensures response { (response_bytes result answer.new.items ≡ fault_answer fault) ⊎ (response_bytes result answer.new.items ≡ no_memory) }
+    ensures response { (response_bytes result answer.new.items ≡ fault_answer fault)
+        ⊎ (response_bytes result answer.new.items ≡ no_memory) }
     ensures goes_on { ends_service result ≡ false }
 {
     match writeln!(answer, "fault: {fault}") {

@@ -32,8 +32,8 @@ pub trait DiskMaker<D: Disk> {
     fn placed(&mut self, number: u8);
 }
 
-/// Executes an order on the array and appends its answer to `out`, as a script has it. If it fails, nothing is done, and
-/// the bytes appended are unspecified.
+/// Executes an order on the array and appends its answer to `out`, as a script has it. If it fails, nothing is done,
+/// and the bytes appended are unspecified.
 pub fn execute<D: Disk + Drop, A: RecordedArray<D>, M: DiskMaker<D>>(
     alloc: Global,
     array: &mut A,
@@ -117,7 +117,8 @@ fn replace<D: Disk + Drop, A: RecordedArray<D>, M: DiskMaker<D>>(
     disks: &mut M,
     number: u8,
 ) -> Result<Outcome<D>, AllocError>
-    ensures done { IfOk result (λ outcome. Operated (Action.Replace number) outcome (A.state array.old) (A.state array.new)) }
+    ensures done { IfOk result
+        (λ outcome. Operated (Action.Replace number) outcome (A.state array.old) (A.state array.new)) }
     ensures refused { OnErr result (A.state array.new ≡ A.state array.old) }
 {
     let disk = new_disk(alloc, array.array(), disks, number)?;

@@ -1,5 +1,5 @@
-// `fail`: sets the fuse of a disk. It is done under the array's lock, as every access is, so that a fuse isn't set in the
-// middle of an event.
+// `fail`: sets the fuse of a disk. It is done under the array's lock, as every access is, so that a fuse isn't set in
+// the middle of an event.
 ghost use Rattle.std.specs.Prelude.{◌≡◌, OnOk, Some};
 ghost use Rattle.ar_picture.specs.Writing.{AddsSome};
 

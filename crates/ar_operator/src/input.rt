@@ -1,6 +1,7 @@
 // Reads lines from a stream, byte by byte out of a piece of it. Of a line that has a fault nothing is kept, so that the
 // longest line takes no more memory than 4,096 bytes.
-ghost use Rattle.std.specs.Prelude.{◌≡◌, ◌≢◌, ◌≤◌, ◌++◌, ◌∷◌, [], ℕ, List, Some, None, MatchResult, length, vec_capacity};
+ghost use Rattle.std.specs.Prelude.{◌≡◌, ◌≢◌, ◌≤◌, ◌++◌, ◌∷◌, [], ℕ, List, Some, None, MatchResult, length};
+ghost use Rattle.std.specs.Prelude.{vec_capacity};
 ghost use Rattle.ar_language.specs.Lines.{IsLine, is_printable};
 ghost use Rattle.ar_operator.specs.Talk.{is_unreadable};
 ghost use Rattle.ar_operator.specs.Lines.{LineReadIs, ByteIsRead, HasNextByte, KeepsLine, seen_behind};
@@ -72,7 +73,8 @@ impl Piece {
 
     // Takes the next byte. The stream is read only if the piece is empty.
     pub fn next<R: Source>(&mut self, reader: &mut R) -> Next
-        ensures { ByteIsRead (seen_behind self.old (R.state reader.old)) result (seen_behind self.new (R.state reader.new)) }
+        ensures { ByteIsRead (seen_behind self.old (R.state reader.old)) result
+            (seen_behind self.new (R.state reader.new)) }
     {
         match self.ready(reader) {
             Ready::Some => Next::Byte(self.take()),
@@ -83,7 +85,8 @@ impl Piece {
 
     // Reads into the piece if it is empty.
     fn ready<R: Source>(&mut self, reader: &mut R) -> Ready
-        ensures { HasNextByte (seen_behind self.old (R.state reader.old)) result self.new (seen_behind self.new (R.state reader.new)) }
+        ensures { HasNextByte (seen_behind self.old (R.state reader.old)) result self.new
+            (seen_behind self.new (R.state reader.new)) }
     {
         if self.at < self.end {
             return Ready::Some;
@@ -130,7 +133,8 @@ impl Line {
 
     // The line's text, or its fault.
     pub fn text(&self) -> Result<&str, FaultKind>
-        ensures { MatchResult result (λ text. (self.now.fault ≡ None) × (text.now ≡ self.now.text.items)) (λ kind. self.now.fault ≡ Some kind) }
+        ensures { MatchResult result (λ text. (self.now.fault ≡ None)
+            × (text.now ≡ self.now.text.items)) (λ kind. self.now.fault ≡ Some kind) }
     {
         if let Some(fault) = self.fault {
             return Err(fault);
@@ -159,7 +163,8 @@ impl Line {
 
     // Appends a byte other than LF.
     fn take(&mut self, byte: u8)
-        ensures { (line : List ℕ) → KeepsLine line self.old.text.items self.old.fault → KeepsLine (line ++ byte ∷ []) self.new.text.items self.new.fault }
+        ensures { (line : List ℕ) → KeepsLine line self.old.text.items self.old.fault
+            → KeepsLine (line ++ byte ∷ []) self.new.text.items self.new.fault }
     {
         if self.fault.is_some() {
             return;

@@ -2,7 +2,9 @@
 ghost use Rattle.std.specs.Prelude.{◌≡◌, map, IfOk, IfSome};
 ghost use Rattle.std.specs.Option.{SomeIff};
 ghost use Rattle.ar_language.specs.Forms.{Gives, IsNumberOf, value};
-ghost use Rattle.ar_operator.specs.Orders.{AreAccesses, AsksFuse, HasFuse, IsFuse, IsOperatorOrder, ReadsAlone, ReadsArguments, ReadsFirstWord, ReadsOperatorLine, ReadsOperatorWord, ReadsSharedWord, accesses_in, as_operator, is_host_word, text_of};
+ghost use Rattle.ar_operator.specs.Orders.{AreAccesses, AsksFuse, HasFuse, IsFuse, IsOperatorOrder, ReadsAlone};
+ghost use Rattle.ar_operator.specs.Orders.{ReadsArguments, ReadsFirstWord, ReadsOperatorLine, ReadsOperatorWord};
+ghost use Rattle.ar_operator.specs.Orders.{ReadsSharedWord, accesses_in, as_operator, is_host_word, text_of};
 
 use ar_language::{Action, FaultKind, MOST_WORDS, Order, Question, first_words, number, order_in};
 use std::fmt;

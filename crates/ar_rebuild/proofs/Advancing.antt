@@ -1,5 +1,6 @@
 -- How a step of a rebuild moves health, and what can be used after it.
-use Rattle.std.proofs.Common.{◌≡◌, ◌≢◌, inl, inr, ℕ, ◌+◌, ◌-◌, ◌<◌, Bool, true, false, if◌then◌else◌, refl, sym, ap, subst, ◌∙◌, true≢false, arith}
+use Rattle.std.proofs.Common.{◌≡◌, ◌≢◌, inl, inr, ℕ, ◌+◌, ◌-◌, ◌<◌, Bool, true, false, if◌then◌else◌, refl, sym, ap}
+use Rattle.std.proofs.Common.{subst, ◌∙◌, true≢false, arith}
 use Rattle.std.proofs.lemmas.Bool.Decides.{eqb_tells}
 use Rattle.ar_disks.specs.declared.address.Place.{Place}
 use Rattle.ar_extents.specs.declared.health.Health.{Health}
@@ -77,7 +78,8 @@ pub advances_broken : (s : SetState) → s.health ≡ Broken → Advances s s
 advances_broken s broken = advances_idle s (λ x n is. rebuilding_not_broken x n (sym is ∙ broken))
 
 -- reads and writes after which the disk isn't being rebuilt any more
-stopped : (a b : SetState) (place : Place) → a.health ≡ Rebuilding place.disk place.extent → WritesNext a b → ((x n : ℕ) → b.health ≢ Rebuilding x n) → b.health ≢ Whole
+stopped : (a b : SetState) (place : Place) → a.health ≡ Rebuilding place.disk place.extent → WritesNext a b
+    → ((x n : ℕ) → b.health ≢ Rebuilding x n) → b.health ≢ Whole
     → ((d : ℕ) → b.health ≡ Out d → IsLostAgain a b d) → Advances a b
 stopped a b place is writes none lost out = record {
   geometry = writes.follows.geometry;
@@ -95,10 +97,12 @@ stopped a b place is writes none lost out = record {
 }
 
 -- the replaced disk was lost
-pub advances_given_up : (a b : SetState) (place : Place) → a.health ≡ Rebuilding place.disk place.extent → IsRebuilding a.health → WritesNext a b → IsGivenUp a b → Advances a b
+pub advances_given_up : (a b : SetState) (place : Place) → a.health ≡ Rebuilding place.disk place.extent
+    → IsRebuilding a.health → WritesNext a b → IsGivenUp a b → Advances a b
 unfolding is_rebuilding is_whole disk_of
 advances_given_up a b place is rebuilding writes given_up =
-    stopped a b place is writes (λ x n again. true≢false (ap is_rebuilding (sym again ∙ given_up.out))) (λ whole. true≢false (ap is_whole (sym whole ∙ given_up.out)))
+    stopped a b place is writes (λ x n again. true≢false (ap is_rebuilding (sym again ∙ given_up.out)))
+    (λ whole. true≢false (ap is_whole (sym whole ∙ given_up.out)))
     (λ d out.
     (let same : rebuilt_disk a.health ≡ d = ap disk_of (sym given_up.out ∙ out) in
     let mine : rebuilt_disk a.health ≡ place.disk = ap rebuilt_disk is in
@@ -109,9 +113,11 @@ advances_given_up a b place is rebuilding writes given_up =
     }))
 
 -- two were
-pub advances_lost : (a b : SetState) (place : Place) → a.health ≡ Rebuilding place.disk place.extent → WritesNext a b → b.health ≡ Broken → Advances a b
+pub advances_lost : (a b : SetState) (place : Place) → a.health ≡ Rebuilding place.disk place.extent → WritesNext a b
+    → b.health ≡ Broken → Advances a b
 advances_lost a b place is writes broken =
-    stopped a b place is writes (λ x n again. rebuilding_not_broken x n (sym again ∙ broken)) (λ whole. whole_not_broken (sym whole ∙ broken))
+    stopped a b place is writes (λ x n again. rebuilding_not_broken x n (sym again ∙ broken))
+    (λ whole. whole_not_broken (sym whole ∙ broken))
     (λ d out. absurd (out_not_broken d (sym out ∙ broken)))
 
 -- health once the extent counts as done
@@ -121,7 +127,8 @@ record Marks (old new : Health) (place : Place) (extents : ℕ) : Type 0 where
   rebuilding : (d done : ℕ) → new ≡ Rebuilding d done → (0 < done) × (old ≡ Rebuilding d (done - 1))
   sound : new ≢ Broken
 
-marks : (old : Health) (place : Place) (extents : ℕ) → old ≡ Rebuilding place.disk place.extent → Marks old (after_done old extents) place extents
+marks : (old : Health) (place : Place) (extents : ℕ) → old ≡ Rebuilding place.disk place.extent
+    → Marks old (after_done old extents) place extents
 unfolding is_rebuilding is_whole disk_of mark_of
 marks old place extents is =
     let P : Health → Type 0 = λ h. Marks old h place extents in
@@ -148,7 +155,8 @@ marks old place extents is =
     ])
 
 -- the extent was written, and counts as done
-pub advances_done : (a b : SetState) (place : Place) → a.health ≡ Rebuilding place.disk place.extent → IsRebuilding a.health → WritesNext a b → b.health ≡ a.health
+pub advances_done : (a b : SetState) (place : Place) → a.health ≡ Rebuilding place.disk place.extent
+    → IsRebuilding a.health → WritesNext a b → b.health ≡ a.health
     → Advances a (with_done b)
 advances_done a b place is rebuilding writes health =
     let marked = marks b.health place b.extents (health ∙ is) in
@@ -158,14 +166,22 @@ advances_done a b place is rebuilding writes health =
       count = writes.follows.count;
       loose = writes.loose;
       faults = writes.follows.faults;
-      noticed = λ d more. absurd (let same = calm a b writes.follows (subst (λ (h : Health). IsRebuilding h) (sym health) rebuilding) d in omega arith);
+      noticed = λ d more. absurd
+          (let same = calm a b writes.follows (subst (λ (h : Health). IsRebuilding h) (sym health) rebuilding) d in
+          omega arith);
       usable = λ p lt used.
           elim (same_place p (next_place b)) [
             | inl same ↦ inr (record { rebuilding = rebuilding; is = same ∙ next_same a b health })
-            | inr ne ↦ inl (writes.follows.usable p (sound_with_done b p (let same = writes.follows.extents in omega arith) ne used))
+            | inr ne ↦ inl
+                (writes.follows.usable p
+                (sound_with_done b p (let same = writes.follows.extents in omega arith) ne used))
           ];
       whole = λ whole.
-          inr (record { rebuilding = rebuilding; last = ap (λ h. next_extent h + 1) is ∙ marked.whole whole ∙ writes.follows.extents });
+          inr (record {
+            rebuilding = rebuilding;
+            last = ap (λ h. next_extent h + 1) is ∙ marked.whole whole
+                ∙ writes.follows.extents;
+          });
       out = λ d gone. absurd (marked.out d gone);
       rebuilding = λ d done again.
           (let before = marked.rebuilding d done again in (before.0, sym health ∙ before.1));

@@ -1,5 +1,6 @@
 -- Attempts in turn: whether all of them succeeded, and where they stopped.
-use Rattle.std.proofs.Common.{◌≡◌, ◌⊎◌, inl, inr, ℕ, zero, suc, ◌+◌, ◌<◌, Bool, true, false, List, [], ◌∷◌, ◌++◌, if◌then◌else◌, refl, sym, ◌∙◌, subst, arith}
+use Rattle.std.proofs.Common.{◌≡◌, ◌⊎◌, inl, inr, ℕ, zero, suc, ◌+◌, ◌<◌, Bool, true, false, List, [], ◌∷◌, ◌++◌}
+use Rattle.std.proofs.Common.{if◌then◌else◌, refl, sym, ◌∙◌, subst, arith}
 use Rattle.std.proofs.Math.Numerals.{suc-eq-add-one}
 use Rattle.std.proofs.lemmas.Bool.Decides.{eqb_tells}
 use Rattle.ar_disks.specs.declared.address.Members.{Members}
@@ -24,7 +25,8 @@ turned [] a _ (stops _) = record { done = true; made = all_done a }
 turned (t ∷ ts) a b (goes_on _ _ _ _ m _ tried rest) =
     let more = turned ts m b rest in record { done = more.done; made = one_done t ts more.done a m b tried more.made }
 turned (t ∷ ts) a b (falls_back _ _ _ _ m _ tried rest) =
-    subst (λ (s : SetState). Turned (t ∷ ts) a s) (nothing_done m b rest) (record { done = false; made = one_failed t ts a m tried })
+    subst (λ (s : SetState). Turned (t ∷ ts) a s) (nothing_done m b rest)
+    (record { done = false; made = one_failed t ts a m tried })
 
 -- nothing was tried
 pub none_tried : (a b : SetState) → AttemptsAll [] true a b → a ≡ b
@@ -47,12 +49,18 @@ all_split (t ∷ ts) us a c (one_done _ _ _ _ m _ tried rest) =
     let more = all_split ts us m c rest in
     record { between = more.between; first = one_done t ts true a m more.between tried more.first; last = more.last }
 
-failed_split : (ts us : List Attempt) (a c : SetState) → AttemptsAll (ts ++ us) false a c → AttemptsAll ts false a c ⊎ Split ts us false a c
+failed_split : (ts us : List Attempt) (a c : SetState) → AttemptsAll (ts ++ us) false a c
+    → AttemptsAll ts false a c ⊎ Split ts us false a c
 failed_split [] us a c made = inr (record { between = a; first = all_done a; last = made })
 failed_split (t ∷ ts) us a c (one_done _ _ _ _ m _ tried rest) =
     elim (failed_split ts us m c rest) [
       | inl failed ↦ inl (one_done t ts false a m c tried failed)
-      | inr more ↦ inr (record { between = more.between; first = one_done t ts true a m more.between tried more.first; last = more.last })
+      | inr more ↦
+          inr (record {
+            between = more.between;
+            first = one_done t ts true a m more.between tried more.first;
+            last = more.last;
+          })
     ]
 failed_split (t ∷ ts) us a c (one_failed _ _ _ _ tried) = inl (one_failed t ts a c tried)
 
@@ -76,32 +84,39 @@ fault_ends (Rebuilding x done) d is still =
     ]
 fault_ends Broken d is still = is
 
-failed_ends : (ts : List Attempt) (a b : SetState) → AllUsed a.health ts → IsRebuilding a.health → AttemptsAll ts false a b → IsRebuilding b.health → ⊥
+failed_ends : (ts : List Attempt) (a b : SetState) → AllUsed a.health ts → IsRebuilding a.health
+    → AttemptsAll ts false a b → IsRebuilding b.health → ⊥
 failed_ends [] a b used is made still = elim made [ ]
 failed_ends (t ∷ ts) a b used is (one_done _ _ _ _ m _ tried rest) still =
     let same = sym (answered_health t a m tried) in
-    failed_ends ts m b (subst (λ (h : Health). AllUsed h ts) same used.1) (subst (λ (h : Health). IsRebuilding h) same is) rest still
+    failed_ends ts m b (subst (λ (h : Health). AllUsed h ts) same used.1)
+    (subst (λ (h : Health). IsRebuilding h) same is) rest still
 failed_ends (t ∷ ts) a b used is (one_failed _ _ _ _ tried) still =
-    fault_ends a.health t.place.disk is (subst (λ (h : Health). IsRebuilding h) (one_made t false a b used.0 tried).health still)
+    fault_ends a.health t.place.disk is
+    (subst (λ (h : Health). IsRebuilding h) (one_made t false a b used.0 tried).health still)
 
 -- where the rebuild goes on, all attempts succeeded,
-succeeded : (ts : List Attempt) (done : Bool) (a b : SetState) → AllUsed a.health ts → IsRebuilding a.health → IsRebuilding b.health → AttemptsAll ts done a b
+succeeded : (ts : List Attempt) (done : Bool) (a b : SetState) → AllUsed a.health ts → IsRebuilding a.health
+    → IsRebuilding b.health → AttemptsAll ts done a b
     → AttemptsAll ts true a b
 succeeded ts true a b used is still made = made
 succeeded ts false a b used is still made = absurd (failed_ends ts a b used is made still)
 
-pub all_succeeded : (ts : List Attempt) (a b : SetState) → AllUsed a.health ts → IsRebuilding a.health → b.health ≡ a.health → CarriesOut (all_of ts Stop) a b
+pub all_succeeded : (ts : List Attempt) (a b : SetState) → AllUsed a.health ts → IsRebuilding a.health
+    → b.health ≡ a.health → CarriesOut (all_of ts Stop) a b
     → AttemptsAll ts true a b
 all_succeeded ts a b used is same carried =
     let told = turned ts a b carried in
     succeeded ts told.done a b used is (subst (λ (h : Health). IsRebuilding h) (sym same) is) told.made
 
 -- and where health has changed, one didn't
-failed_by : (ts : List Attempt) (done : Bool) (a b : SetState) → (b.health ≡ a.health → ⊥) → AttemptsAll ts done a b → AttemptsAll ts false a b
+failed_by : (ts : List Attempt) (done : Bool) (a b : SetState) → (b.health ≡ a.health → ⊥) → AttemptsAll ts done a b
+    → AttemptsAll ts false a b
 failed_by ts true a b changed made = absurd (changed (all_health ts a b made))
 failed_by ts false a b changed made = made
 
-pub one_stopped : (ts : List Attempt) (a b : SetState) → (b.health ≡ a.health → ⊥) → CarriesOut (all_of ts Stop) a b → AttemptsAll ts false a b
+pub one_stopped : (ts : List Attempt) (a b : SetState) → (b.health ≡ a.health → ⊥) → CarriesOut (all_of ts Stop) a b
+    → AttemptsAll ts false a b
 one_stopped ts a b changed carried = let told = turned ts a b carried in failed_by ts told.done a b changed told.made
 
 -- the attempts for some rows stopped at one of them
@@ -114,26 +129,31 @@ pub record StopsAt (class : Class) (m : Members) (i n : ℕ) (a c : SetState) : 
 
 module _ (class : Class) (m : Members) (i : ℕ) where
   -- one more row
-  pub row_more : (n : ℕ) (a b c : SetState) → AttemptsAll (rows_attempts class m i n) true a b → AttemptsAll (row_attempts class m i n) true b c
+  pub row_more : (n : ℕ) (a b c : SetState) → AttemptsAll (rows_attempts class m i n) true a b
+      → AttemptsAll (row_attempts class m i n) true b c
       → AttemptsAll (rows_attempts class m i (n + 1)) true a c
   row_more n a b c before row =
       subst (λ k. AttemptsAll (rows_attempts class m i k) true a c) (suc-eq-add-one n)
       (all_more (rows_attempts class m i n) (row_attempts class m i n) true a b c before row)
 
   -- where one row's attempts stopped, all did
-  rows_stopped : (row n : ℕ) (a c : SetState) → row < n → AttemptsAll (rows_attempts class m i row ++ row_attempts class m i row) false a c
+  rows_stopped : (row n : ℕ) (a c : SetState) → row < n
+      → AttemptsAll (rows_attempts class m i row ++ row_attempts class m i row) false a c
       → AttemptsAll (rows_attempts class m i n) false a c
   rows_stopped row zero a c lt made = absurd (omega arith)
   rows_stopped row (suc n) a c lt made =
       elim (eqb_tells row n) [
         | inl same ↦
-            (let P : ℕ → Type 0 = λ k. AttemptsAll (rows_attempts class m i k ++ row_attempts class m i k) false a c in subst P same.1 made)
+            (let P : ℕ → Type 0 = λ k. AttemptsAll (rows_attempts class m i k ++ row_attempts class m i k) false a c in
+            subst P same.1 made)
         | inr apart ↦
-            all_fewer (rows_attempts class m i n) (row_attempts class m i n) a c (rows_stopped row n a c (let ne = apart.1 in omega arith) made)
+            all_fewer (rows_attempts class m i n) (row_attempts class m i n) a c
+            (rows_stopped row n a c (let ne = apart.1 in omega arith) made)
       ]
 
   -- the plan of all rows, complete,
-  pub rows_carried : (n : ℕ) (a b : SetState) → AttemptsAll (rows_attempts class m i n) true a b → CarriesOut (member_plan class m i n) a b
+  pub rows_carried : (n : ℕ) (a b : SetState) → AttemptsAll (rows_attempts class m i n) true a b
+      → CarriesOut (member_plan class m i n) a b
   rows_carried n a b made = all_then (rows_attempts class m i n) Stop a b b made (stops b)
 
   -- or stopped at one
@@ -141,7 +161,8 @@ module _ (class : Class) (m : Members) (i : ℕ) where
       → AttemptsAll (row_attempts class m i row) false b c → CarriesOut (member_plan class m i n) a c
   stop_carried row n a b c lt before here =
       all_stopped (rows_attempts class m i n) Stop a c
-      (rows_stopped row n a c lt (all_more (rows_attempts class m i row) (row_attempts class m i row) false a b c before here))
+      (rows_stopped row n a c lt
+      (all_more (rows_attempts class m i row) (row_attempts class m i row) false a b c before here))
 
   -- so they do wherever they stop
   pub stops_at : (n : ℕ) (a c : SetState) → AttemptsAll (rows_attempts class m i n) false a c → StopsAt class m i n a c
@@ -150,6 +171,13 @@ module _ (class : Class) (m : Members) (i : ℕ) where
       elim (failed_split (rows_attempts class m i n) (row_attempts class m i n) a c made) [
         | inl before ↦
             (let stop = stops_at n a c before in
-            record { row = stop.row; there = (let lt = stop.there in omega arith); begun = stop.begun; made = stop.made; failed = stop.failed })
-        | inr here ↦ record { row = n; there = omega arith; begun = here.between; made = here.first; failed = here.last }
+            record {
+              row = stop.row;
+              there = (let lt = stop.there in omega arith);
+              begun = stop.begun;
+              made = stop.made;
+              failed = stop.failed;
+            })
+        | inr here ↦
+            record { row = n; there = omega arith; begun = here.between; made = here.first; failed = here.last }
       ]

@@ -36,8 +36,10 @@ pub record AreCopied (a b : SetState) (m : Members) (position rows : ℕ) : Type
 pub none_copied : (s : SetState) (m : Members) (position : ℕ) → AreCopied s s m position 0
 none_copied s m position = record { copied = λ r lt. absurd (omega arith) }
 
-pub copied_then : (a b c : SetState) (m : Members) (position row : ℕ) → IsRebuilding a.health → RowsEffect Mirrored m position row a b
-    → AreCopied a b m position row → IsCopied b c (member m (partner_of position)) row → RowEffect Mirrored m position row b c
+pub copied_then : (a b c : SetState) (m : Members) (position row : ℕ) → IsRebuilding a.health
+    → RowsEffect Mirrored m position row a b
+    → AreCopied a b m position row → IsCopied b c (member m (partner_of position)) row
+    → RowEffect Mirrored m position row b c
     → AreCopied a c m position (row + 1)
 copied_then a b c m position row is effect before copied here =
     let from : Place = member m (partner_of position) in
@@ -66,7 +68,8 @@ copied_then a b c m position row is effect before copied here =
     }
 
 -- Once all are, each slot of the group goes on holding its block when the extent counts as done.
-pub copied_whole : (a b : SetState) (m : Members) (position : ℕ) → IsGroup a m → position < 4 → IsRebuilding a.health → member m position ≡ next_place a
+pub copied_whole : (a b : SetState) (m : Members) (position : ℕ) → IsGroup a m → position < 4 → IsRebuilding a.health
+    → member m position ≡ next_place a
     → RowsEffect Mirrored m position (rows_of a.geometry) a b
     → AreCopied a b m position (rows_of a.geometry) → GroupIsWhole Mirrored a b m
 copied_whole a b m position group below is next effect all = record {
@@ -89,14 +92,17 @@ copied_whole a b m position group below is next effect all = record {
         inl (members_differ m position (2 * (i / rows_of a.geometry)) group.apart below (omega arith) (next ∙ one))
     at i inside (inr other) =
         let fits = pair_fits a.geometry i inside in
-        inr (members_differ m position (2 * (i / rows_of a.geometry) + 1) group.apart below (omega arith) (next ∙ other))
+        inr (members_differ m position (2 * (i / rows_of a.geometry) + 1) group.apart below (omega arith) (next
+        ∙ other))
 
-    rebuilt : (i : ℕ) (bytes : List ℕ) → i < mirror_slots_of a.geometry → MirrorHolds a m i bytes → IsInPair a.geometry m i (next_place a)
+    rebuilt : (i : ℕ) (bytes : List ℕ) → i < mirror_slots_of a.geometry → MirrorHolds a m i bytes
+        → IsInPair a.geometry m i (next_place a)
         → content b (next_place b) (row_of b.geometry i) ≡ bytes
     rebuilt i bytes inside has pair =
         ap (λ (p : Place). content b p (row_of b.geometry i)) (next_same a b effect.health)
         ∙ ap (λ (g : Geometry). content b (next_place a) (row_of g i)) effect.writes.follows.geometry
-        ∙ rebuilt_has a b m i position bytes inside (at i inside pair) (all.copied (row_of a.geometry i) (row_fits a.geometry i)) has
+        ∙ rebuilt_has a b m i position bytes inside (at i inside pair)
+        (all.copied (row_of a.geometry i) (row_fits a.geometry i)) has
 
 -- The first `rows` rows of a member of a parity group are the sums of the three others'.
 pub record AreSummed (a b : SetState) (m : Members) (position rows : ℕ) : Type 0 where
@@ -106,9 +112,11 @@ pub record AreSummed (a b : SetState) (m : Members) (position rows : ℕ) : Type
 pub none_summed : (s : SetState) (m : Members) (position : ℕ) → AreSummed s s m position 0
 none_summed s m position = record { agrees = λ r blocks has. has; summed = λ r lt. absurd (omega arith) }
 
-pub summed_then : (a b c : SetState) (m : Members) (position row : ℕ) → member m position ≡ next_place a → RowsEffect Parity m position row a b
+pub summed_then : (a b c : SetState) (m : Members) (position row : ℕ) → member m position ≡ next_place a
+    → RowsEffect Parity m position row a b
     → AreSummed a b m position row → IsRebuilt b c m position row
-    → ((r : ℕ) (blocks : Blocks) → RowAgrees b m r blocks → RowAgrees c m r blocks) → RowEffect Parity m position row b c
+    → ((r : ℕ) (blocks : Blocks) → RowAgrees b m r blocks → RowAgrees c m r blocks)
+    → RowEffect Parity m position row b c
     → AreSummed a c m position (row + 1)
 summed_then a b c m position row next effect before rebuilt agrees here =
     let health = rebuilt.health ∙ effect.health in
@@ -118,7 +126,11 @@ summed_then a b c m position row next effect before rebuilt agrees here =
           elim (eqb_tells r row) [
             | inl same ↦
                 (let Q : ℕ → Type 0 = λ n. IsRebuilt a c m position n in
-                subst Q (sym same.1) (record { agrees = λ blocks has. rebuilt.agrees blocks (before.agrees row blocks has); health = health }))
+                subst Q (sym same.1)
+                (record {
+                  agrees = λ blocks has. rebuilt.agrees blocks (before.agrees row blocks has);
+                  health = health;
+                }))
             | inr apart ↦
                 (let earlier = before.summed r (let ne = apart.1 in omega arith) in
                 record {
@@ -130,7 +142,8 @@ summed_then a b c m position row next effect before rebuilt agrees here =
           ];
     }
 
-pub summed_whole : (a b : SetState) (m : Members) (position : ℕ) → IsGroup a m → position < 4 → IsRebuilding a.health → member m position ≡ next_place a
+pub summed_whole : (a b : SetState) (m : Members) (position : ℕ) → IsGroup a m → position < 4 → IsRebuilding a.health
+    → member m position ≡ next_place a
     → RowsEffect Parity m position (rows_of a.geometry) a b
     → AreSummed a b m position (rows_of a.geometry) → GroupIsWhole Parity a b m
 summed_whole a b m position group below is next effect all = record {
@@ -141,7 +154,8 @@ summed_whole a b m position group below is next effect all = record {
   health = effect.health;
 }
   where
-    rebuilt : (i : ℕ) (bytes : List ℕ) → i < 3 * rows_of a.geometry → (has : ParityHolds a m i bytes) → (j : ℕ) → j < 4 → member m j ≡ next_place a
+    rebuilt : (i : ℕ) (bytes : List ℕ) → i < 3 * rows_of a.geometry → (has : ParityHolds a m i bytes) → (j : ℕ) → j < 4
+        → member m j ≡ next_place a
         → content b (next_place b) (parity_row_of i) ≡ block has.blocks j
     rebuilt i bytes inside has j lt same =
         let position_is = members_differ m position j group.apart below lt (next ∙ sym same) in
@@ -150,28 +164,34 @@ summed_whole a b m position group below is next effect all = record {
         ∙ ap (λ n. block has.blocks n) position_is
 
 -- the writing of a mirrored member's rows stopped at this one
-pub copied_stops : (a b c : SetState) (m : Members) (position row : ℕ) → row < rows_of a.geometry → RowsEffect Mirrored m position row a b
-    → AreCopied a b m position row → RowEffect Mirrored m position row b c → AttemptsAll (rows_attempts Mirrored m position row) true a b
+pub copied_stops : (a b c : SetState) (m : Members) (position row : ℕ) → row < rows_of a.geometry
+    → RowsEffect Mirrored m position row a b
+    → AreCopied a b m position row → RowEffect Mirrored m position row b c
+    → AttemptsAll (rows_attempts Mirrored m position row) true a b
     → AttemptsAll (row_attempts Mirrored m position row) false b c → StopsAtRow Mirrored a c m position
 copied_stops a b c m position row there effect before here made failed = record {
   row = row;
   there = there;
-  below = λ r lt. row_kept a b c row r effect.health here.keeps (λ same. absurd (omega arith)) ∙ (before.copied r lt).same;
+  below = λ r lt. row_kept a b c row r effect.health here.keeps (λ same. absurd (omega arith))
+      ∙ (before.copied r lt).same;
   begun = b;
   made = made;
   failed = failed;
 }
 
 -- the same of a member of a group with parity
-pub summed_stops : (a b c : SetState) (m : Members) (position row : ℕ) → row < rows_of a.geometry → member m position ≡ next_place a
+pub summed_stops : (a b c : SetState) (m : Members) (position row : ℕ) → row < rows_of a.geometry
+    → member m position ≡ next_place a
     → RowsEffect Parity m position row a b → AreSummed a b m position row → RowEffect Parity m position row b c
-    → AttemptsAll (rows_attempts Parity m position row) true a b → AttemptsAll (row_attempts Parity m position row) false b c
+    → AttemptsAll (rows_attempts Parity m position row) true a b
+    → AttemptsAll (row_attempts Parity m position row) false b c
     → StopsAtRow Parity a c m position
 summed_stops a b c m position row there next effect before here made failed = record {
   row = row;
   there = there;
   below = λ r lt blocks has.
-      row_kept a b c row r effect.health here.keeps (λ same. absurd (omega arith)) ∙ ap (λ (p : Place). content b p r) (sym next)
+      row_kept a b c row r effect.health here.keeps (λ same. absurd (omega arith))
+      ∙ ap (λ (p : Place). content b p r) (sym next)
       ∙ (before.summed r lt).agrees blocks has;
   begun = b;
   made = made;

@@ -4,7 +4,8 @@ use Rattle.ar_disks.specs.declared.address.Place.{Place}
 use Rattle.ar_disks.specs.Geometry.{block_len_of}
 use Rattle.ar_extents.specs.declared.health.Health.{Health}
 use Rattle.ar_extents.specs.declared.health.Health.TheVariants.{Whole, Out, Rebuilding, Broken}
-use Rattle.ar_extents.specs.declared.outcome.RowOutcome.TheVariants.{Done as RowDone, GivenUp as RowGivenUp, Broken as RowBroken}
+use Rattle.ar_extents.specs.declared.outcome.RowOutcome.TheVariants.{Done as RowDone, GivenUp as RowGivenUp}
+use Rattle.ar_extents.specs.declared.outcome.RowOutcome.TheVariants.{Broken as RowBroken}
 use Rattle.ar_extents.specs.Health.{IsRebuilding, rebuilt_disk, next_extent}
 use Rattle.ar_extents.specs.Set.{SetState, faults_of}
 use Rattle.ar_extents.specs.Changes.{with_done}
@@ -20,7 +21,8 @@ use Rattle.ar_rebuild.specs.Plans.{after_answer, CarriesOutRebuild}
 use Rattle.ar_rebuild.specs.Rows.{WritesNext, CanBeDone, StopsWriting}
 use Rattle.ar_rebuild.specs.declared.step.Rebuild.{Rebuild}
 use Rattle.ar_rebuild.specs.declared.step.Rebuild.TheVariants.{Rebuilt, Finished, Idle, GivenUp, Broken as Lost}
-use Rattle.ar_rebuild.specs.Rebuild.{NothingToRebuild, IsRebuildFailed, RebuildsExtent, StopsRebuild, MarksDone, Advances}
+use Rattle.ar_rebuild.specs.Rebuild.{NothingToRebuild, IsRebuildFailed, RebuildsExtent, StopsRebuild, MarksDone}
+use Rattle.ar_rebuild.specs.Rebuild.{Advances}
 use Rattle.ar_rebuild.proofs.Writing.{writes_alike}
 use Rattle.ar_rebuild.proofs.ExtentLemmas.{rebuilding_is}
 use Rattle.ar_rebuild.proofs.Advancing.{rebuilding_not_broken}
@@ -31,27 +33,37 @@ pub record IsUnharmed (a b : SetState) (t u : Tables) : Type 0 where
   pub slots : SlotsHold (store_of a t) (store_of b u)
   pub stand : AllStand (store_of a t) (store_of b u)
 
-unharmed : (a b : SetState) (t u : Tables) (place : Place) → u ≡ t → IsSpace (store_of a t) → a.health ≡ Rebuilding place.disk place.extent → HaveShape a b
+unharmed : (a b : SetState) (t u : Tables) (place : Place) → u ≡ t → IsSpace (store_of a t)
+    → a.health ≡ Rebuilding place.disk place.extent → HaveShape a b
     → SlotsHold (store_of a t) (store_of b t) → IsUnharmed a b t u
 unharmed a b t u place same space is shape slots =
     subst (λ (x : Tables). IsUnharmed a b t x) (sym same) (record {
       space = space_alike a b t space shape slots;
       slots = slots;
-      stand = all_alike a b t space shape slots (λ sound broken. rebuilding_not_broken place.disk place.extent (sym is ∙ broken));
+      stand = all_alike a b t space shape slots
+          (λ sound broken. rebuilding_not_broken place.disk place.extent (sym is ∙ broken));
     })
 
 writes_shape : (a b : SetState) → WritesNext a b → HaveShape a b
 writes_shape a b writes =
-    record { geometry = writes.follows.geometry; extents = writes.follows.extents; count = writes.follows.count; loose = writes.loose }
+    record {
+      geometry = writes.follows.geometry;
+      extents = writes.follows.extents;
+      count = writes.follows.count;
+      loose = writes.loose;
+    }
 
 -- rows were written, and no extent counts as done
-pub unharmed_stopped : (a b : SetState) (t u : Tables) (place : Place) → u ≡ t → IsSpace (store_of a t) → a.health ≡ Rebuilding place.disk place.extent → WritesNext a b
+pub unharmed_stopped : (a b : SetState) (t u : Tables) (place : Place) → u ≡ t → IsSpace (store_of a t)
+    → a.health ≡ Rebuilding place.disk place.extent → WritesNext a b
     → IsUnharmed a b t u
 unharmed_stopped a b t u place same space is writes =
-    unharmed a b t u place same space is (writes_shape a b writes) (slots_alike a b t (writes_alike a b (rebuilding_is a place is) writes))
+    unharmed a b t u place same space is (writes_shape a b writes)
+    (slots_alike a b t (writes_alike a b (rebuilding_is a place is) writes))
 
 -- all were, and it does
-pub unharmed_done : (a b d : SetState) (t u : Tables) (place : Place) → u ≡ t → IsSpace (store_of a t) → a.health ≡ Rebuilding place.disk place.extent → WritesNext a b
+pub unharmed_done : (a b d : SetState) (t u : Tables) (place : Place) → u ≡ t → IsSpace (store_of a t)
+    → a.health ≡ Rebuilding place.disk place.extent → WritesNext a b
     → CanBeDone (store_of a t) (store_of b u) → d ≡ with_done b → IsUnharmed a d t u
 unharmed_done a b d t u place same space is writes done counted =
     subst (λ (x : SetState). IsUnharmed a x t u) (sym counted)
@@ -61,7 +73,8 @@ unharmed_done a b d t u place same space is writes done counted =
     (subst (λ (x : Tables). SlotsHold (store_of a t) (store_of (with_done b) x)) same done.slots))
 
 -- what is returned of an extent that counts as done
-pub counted : (r : Rebuild) (a b d : SetState) → b.health ≡ a.health → b.extents ≡ a.extents → ((x : ℕ) → faults_of b x ≡ faults_of a x)
+pub counted : (r : Rebuild) (a b d : SetState) → b.health ≡ a.health → b.extents ≡ a.extents
+    → ((x : ℕ) → faults_of b x ≡ faults_of a x)
     → MarksDone b d r → RebuildsExtent a d r
 counted (Rebuilt extent left) a b d health extents calm counts = record {
   was = sym health ∙ counts.was ∙ ap (λ h. Rebuilding (rebuilt_disk h) extent) health;
@@ -104,7 +117,8 @@ was_rebuilding (Rebuilding x done) is quiet = quiet
 was_rebuilding Broken is quiet = is
 
 -- no disk is being rebuilt, and nothing is accessed
-unasked : (s : StoreState) (r : Rebuild) → (IsRebuilding s.disks.health → ⊥) → after_answer r s.disks ≡ s.disks → CarriesOutRebuild s r s.disks
+unasked : (s : StoreState) (r : Rebuild) → (IsRebuilding s.disks.health → ⊥) → after_answer r s.disks ≡ s.disks
+    → CarriesOutRebuild s r s.disks
 unasked s r none same = record {
   written = s.disks;
   accesses = record { plan = λ g i next. absurd (none next.rebuilding); nothing = λ _. refl; idle = λ _. refl };
@@ -125,7 +139,8 @@ failed_before s broken = record {
 }
 
 pub failed_stops : (s : StoreState) → s.disks.health ≡ Broken → StopsWriting s s.disks
-failed_stops s broken = record { stops = λ g i next. absurd (subst (λ (h : Health). IsRebuilding h) broken next.rebuilding) }
+failed_stops s broken =
+    record { stops = λ g i next. absurd (subst (λ (h : Health). IsRebuilding h) broken next.rebuilding) }
 
 -- a row that wasn't written isn't done
 pub given_up_not_done : RowGivenUp ≢ RowDone
@@ -135,10 +150,12 @@ pub broken_not_done : RowBroken ≢ RowDone
 broken_not_done e = cc
 
 -- a store whose disk is rebuilt keeps what it kept
-pub fields_advanced : {X : Type 0} (a b : Space X) (block : List ℕ) → a.disks.health ≢ Broken → FieldsAgree (store_in a) block a.scratch.geometry → IsReady b
+pub fields_advanced : {X : Type 0} (a b : Space X) (block : List ℕ) → a.disks.health ≢ Broken
+    → FieldsAgree (store_in a) block a.scratch.geometry → IsReady b
     → b.book ≡ a.book → Advances a.disks b.disks → FieldsAgree (store_in b) block b.scratch.geometry
 fields_advanced a b block sound old ready book advances = record {
-  kept = record { space = ready.space; free = λ _. subst (λ (t : Tables). 0 < free_groups t) (sym book) (old.kept.free sound) };
+  kept = record
+      { space = ready.space; free = λ _. subst (λ (t : Tables). 0 < free_groups t) (sym book) (old.kept.free sound) };
   block_len = old.block_len ∙ ap block_len_of (sym advances.geometry);
   scratch_same = ready.scratch;
 }

@@ -1,5 +1,6 @@
 -- What the plan of a rebuild implies: which rows are written, and which disks are accessed.
-use Rattle.std.proofs.Common.{◌≡◌, ◌≢◌, inl, inr, ℕ, zero, suc, ◌<◌, ◌≤◌, ◌+◌, Bool, true, false, refl, sym, ◌∙◌, ap, subst, arith}
+use Rattle.std.proofs.Common.{◌≡◌, ◌≢◌, inl, inr, ℕ, zero, suc, ◌<◌, ◌≤◌, ◌+◌, Bool, true, false, refl, sym, ◌∙◌, ap}
+use Rattle.std.proofs.Common.{subst, arith}
 use Rattle.std.proofs.lemmas.Bool.Decides.{eqb_tells}
 use Rattle.ar_disks.specs.declared.address.Place.{Place}
 use Rattle.ar_disks.specs.declared.address.Members.{Members}
@@ -29,7 +30,8 @@ use Rattle.ar_book.specs.declared.class.Class.TheVariants.{Free, Mirrored, Parit
 use Rattle.ar_rebuild.specs.Plans.{row_attempts, rows_attempts, member_plan}
 use Rattle.ar_rebuild.specs.Rows.{WritesNext, FailsByOthers, StopsAtRow}
 use Rattle.ar_rebuild.proofs.Writing.{spared_then, next_same, row_kept, spares_then, writes_refl, writes_then}
-use Rattle.ar_rebuild.proofs.Attempts.{turned, none_tried, all_health, all_split, AllUsed, both_used, all_succeeded, one_stopped, row_more, stop_carried, stops_at}
+use Rattle.ar_rebuild.proofs.Attempts.{turned, none_tried, all_health, all_split, AllUsed, both_used, all_succeeded}
+use Rattle.ar_rebuild.proofs.Attempts.{one_stopped, row_more, stop_carried, stops_at}
 
 -- the extents that the rebuild of a group's member accesses: its mirrored pair, or with parity the whole group
 abbrev pub NeedsNext : Class → Members → ℕ → Place → Type 0
@@ -52,7 +54,8 @@ next_used (Rebuilding x done) is = refl
 next_used AllBroken is = absurd is
 
 module _ (m : Members) (h : Health) (apart : AreApart m) (is : IsRebuilding h) where
-  other_used : (i j : ℕ) → i < 4 → j < 4 → i ≢ j → (member m i).disk ≡ rebuilt_disk h → is_lost h (member m j).disk (member m j).extent ≡ false
+  other_used : (i j : ℕ) → i < 4 → j < 4 → i ≢ j → (member m i).disk ≡ rebuilt_disk h
+      → is_lost h (member m j).disk (member m j).extent ≡ false
   other_used i j below lt ne next = source_used h (member m j) is (λ same. apart i j below lt ne (next ∙ sym same))
 
   sum_used : (i row : ℕ) → i < 4 → (member m i).disk ≡ rebuilt_disk h → AllUsed h (row_attempts Parity m i row)
@@ -87,17 +90,22 @@ module _ (m : Members) (h : Health) (apart : AreApart m) (is : IsRebuilding h) w
   sum_used (suc (suc (suc (suc n)))) row below next = absurd (omega arith)
 
   -- no attempt of a row is skipped,
-  pub row_used : (class : Class) (i row : ℕ) → i < 4 → (member m i).disk ≡ rebuilt_disk h → AllUsed h (row_attempts class m i row)
+  pub row_used : (class : Class) (i row : ℕ) → i < 4 → (member m i).disk ≡ rebuilt_disk h
+      → AllUsed h (row_attempts class m i row)
   row_used Free i row below next = tt
-  row_used Mirrored i row below next =
-      (source_used h (member m (partner_of i)) is (λ same. partner_apart m i apart below (next ∙ sym same)), (next_used h is, tt))
+  row_used Mirrored i row below next = (
+    source_used h (member m (partner_of i)) is (λ same. partner_apart m i apart below (next ∙ sym same)),
+    (next_used h is, tt),
+  )
   row_used Parity i row below next = sum_used i row below next
 
   -- nor of the rows below a number
-  pub rows_used : (class : Class) (i n : ℕ) → i < 4 → (member m i).disk ≡ rebuilt_disk h → AllUsed h (rows_attempts class m i n)
+  pub rows_used : (class : Class) (i n : ℕ) → i < 4 → (member m i).disk ≡ rebuilt_disk h
+      → AllUsed h (rows_attempts class m i n)
   rows_used class i zero below next = tt
   rows_used class i (suc n) below next =
-      both_used h (rows_attempts class m i n) (row_attempts class m i n) (rows_used class i n below next) (row_used class i n below next)
+      both_used h (rows_attempts class m i n) (row_attempts class m i n) (rows_used class i n below next)
+      (row_used class i n below next)
 
 -- what the attempts for a row leave: at most the row itself is written, and nothing if another disk failed the set
 pub record RowEffect (class : Class) (m : Members) (i row : ℕ) (a b : SetState) : Type 0 where
@@ -108,7 +116,8 @@ pub record RowEffect (class : Class) (m : Members) (i row : ℕ) (a b : SetState
   pub unwritten : b.health ≡ AllBroken → Keeps Anywhere a b
   pub unasked : b.health ≡ AllBroken → LeavesDisks (λ d. d ≡ rebuilt_disk a.health) a b
 
-pub row_effect : (class : Class) (m : Members) (i row : ℕ) (a b : SetState) → IsGroup a m → i < 4 → IsRebuilding a.health → member m i ≡ next_place a
+pub row_effect : (class : Class) (m : Members) (i row : ℕ) (a b : SetState) → IsGroup a m → i < 4
+    → IsRebuilding a.health → member m i ≡ next_place a
     → CarriesOut (all_of (row_attempts class m i row) Stop) a b → RowEffect class m i row a b
 row_effect Free m i row a b group below is next carried =
     subst (λ (s : SetState). RowEffect Free m i row a s) (nothing_done a b carried) (record {
@@ -151,19 +160,28 @@ pub record RowsEffect (class : Class) (m : Members) (i n : ℕ) (a b : SetState)
   pub touches : LeavesDisks (HasNoneOf (NeedsNext class m i)) a b
   pub rest : (r : ℕ) → n ≤ r → content b (next_place a) r ≡ content a (next_place a) r
 
-module _ (class : Class) (m : Members) (i : ℕ) (a : SetState) (group : IsGroup a m) (below : i < 4) (is : IsRebuilding a.health)
+module _ (class : Class) (m : Members) (i : ℕ) (a : SetState) (group : IsGroup a m) (below : i < 4)
+    (is : IsRebuilding a.health)
     (next : member m i ≡ next_place a) where
   -- a row's, after others
-  pub after_rows : (n row : ℕ) (b c : SetState) → RowsEffect class m i n a b → CarriesOut (all_of (row_attempts class m i row) Stop) b c
+  pub after_rows : (n row : ℕ) (b c : SetState) → RowsEffect class m i n a b
+      → CarriesOut (all_of (row_attempts class m i row) Stop) b c
       → RowEffect class m i row b c
   after_rows n row b c before carried =
-      row_effect class m i row b c (group_then a b m before.writes.follows group) below (subst (λ (h : Health). IsRebuilding h) (sym before.health) is)
+      row_effect class m i row b c (group_then a b m before.writes.follows group) below
+      (subst (λ (h : Health). IsRebuilding h) (sym before.health) is)
       (next ∙ sym (next_same a b before.health)) carried
 
-  pub rows_effect : (n : ℕ) (b : SetState) → AttemptsAll (rows_attempts class m i n) true a b → RowsEffect class m i n a b
+  pub rows_effect : (n : ℕ) (b : SetState) → AttemptsAll (rows_attempts class m i n) true a b
+      → RowsEffect class m i n a b
   rows_effect zero b made =
       subst (λ (s : SetState). RowsEffect class m i 0 a s) (none_tried a b made)
-      (record { writes = writes_refl a; health = refl; touches = record { disks = λ d none. refl }; rest = λ r le. refl })
+      (record {
+        writes = writes_refl a;
+        health = refl;
+        touches = record { disks = λ d none. refl };
+        rest = λ r le. refl;
+      })
   rows_effect (suc n) c made =
       let split = all_split (rows_attempts class m i n) (row_attempts class m i n) a c made in
       let b = split.between in
@@ -181,9 +199,11 @@ module _ (class : Class) (m : Members) (i : ℕ) (a : SetState) (group : IsGroup
 
 -- the copy of a row is the attempts for it
 pub copied_carried : (m : Members) (i row : ℕ) (b c : SetState) → member m i ≡ next_place b
-    → CarriesOut (copy_row (member m (partner_of i)) (next_place b) row) b c → CarriesOut (all_of (row_attempts Mirrored m i row) Stop) b c
+    → CarriesOut (copy_row (member m (partner_of i)) (next_place b) row) b c
+    → CarriesOut (all_of (row_attempts Mirrored m i row) Stop) b c
 copied_carried m i row b c next carried =
-    let P : Place → Type 0 = λ p. CarriesOut (copy_row (member m (partner_of i)) p row) b c in subst P (sym next) carried
+    let P : Place → Type 0 =
+    λ p. CarriesOut (copy_row (member m (partner_of i)) p row) b c in subst P (sym next) carried
 
 -- health has changed where the replaced disk was given up, or the set failed
 pub given_up_changes : (b c : SetState) → IsRebuilding b.health → IsGivenUp b c → c.health ≡ b.health → ⊥
@@ -199,11 +219,14 @@ pub record OneMore (class : Class) (m : Members) (i row : ℕ) (a b c : SetState
   pub writes : WritesNext a c
   pub all : c.health ≡ b.health → AttemptsAll (rows_attempts class m i (row + 1)) true a c
   pub failed : (c.health ≡ b.health → ⊥) → AttemptsAll (row_attempts class m i row) false b c
-  pub plan : (c.health ≡ b.health → ⊥) → row < rows_of a.geometry → CarriesOut (member_plan class m i (rows_of a.geometry)) a c
+  pub plan : (c.health ≡ b.health → ⊥) → row < rows_of a.geometry
+      → CarriesOut (member_plan class m i (rows_of a.geometry)) a c
   pub spared : c.health ≡ AllBroken → FailsByOthers a c
 
-pub one_more : (class : Class) (m : Members) (i row : ℕ) (a b c : SetState) → IsGroup a m → i < 4 → IsRebuilding a.health → member m i ≡ next_place a
-    → AttemptsAll (rows_attempts class m i row) true a b → CarriesOut (all_of (row_attempts class m i row) Stop) b c → OneMore class m i row a b c
+pub one_more : (class : Class) (m : Members) (i row : ℕ) (a b c : SetState) → IsGroup a m → i < 4
+    → IsRebuilding a.health → member m i ≡ next_place a
+    → AttemptsAll (rows_attempts class m i row) true a b → CarriesOut (all_of (row_attempts class m i row) Stop) b c
+    → OneMore class m i row a b c
 one_more class m i row a b c group below is next made carried =
     let before = rows_effect class m i a group below is next row b made in
     let here = after_rows class m i a group below is next row row b c before carried in
@@ -214,10 +237,12 @@ one_more class m i row a b c group below is next made carried =
       before = before;
       here = here;
       writes = writes_then a b c row before.writes before.health here.follows here.keeps here.loose;
-      all = λ same. row_more class m i row a b c made (all_succeeded (row_attempts class m i row) b c used still same carried);
+      all = λ same. row_more class m i row a b c made
+          (all_succeeded (row_attempts class m i row) b c used still same carried);
       failed = λ changed. one_stopped (row_attempts class m i row) b c changed carried;
       plan = λ changed lt.
-          stop_carried class m i row (rows_of a.geometry) a b c lt made (one_stopped (row_attempts class m i row) b c changed carried);
+          stop_carried class m i row (rows_of a.geometry) a b c lt made
+          (one_stopped (row_attempts class m i row) b c changed carried);
       spared = λ broken. record {
         broken = broken;
         spared = spared_then a b c before.writes.follows before.health is
@@ -230,10 +255,12 @@ pub record PlanEffect (class : Class) (m : Members) (i : ℕ) (a b : SetState) :
   pub writes : WritesNext a b
   pub touches : LeavesDisks (HasNoneOf (NeedsNext class m i)) a b
 
-plan_by : (class : Class) (m : Members) (i n : ℕ) (done : Bool) (a b : SetState) → IsGroup a m → i < 4 → IsRebuilding a.health → member m i ≡ next_place a
+plan_by : (class : Class) (m : Members) (i n : ℕ) (done : Bool) (a b : SetState) → IsGroup a m → i < 4
+    → IsRebuilding a.health → member m i ≡ next_place a
     → AttemptsAll (rows_attempts class m i n) done a b → PlanEffect class m i a b
 plan_by class m i n true a b group below is next made =
-    let all = rows_effect class m i a group below is next n b made in record { writes = all.writes; touches = all.touches }
+    let all = rows_effect class m i a group below is next n b made in
+    record { writes = all.writes; touches = all.touches }
 plan_by class m i n false a c group below is next made =
     let stop = stops_at class m i n a c made in
     let b = stop.begun in
@@ -245,10 +272,12 @@ plan_by class m i n false a c group below is next made =
       touches = spares_then (HasNoneOf (NeedsNext class m i)) a b c before.touches here.touches;
     }
 
-pub plan_effect : (class : Class) (m : Members) (i n : ℕ) (a b : SetState) → IsGroup a m → i < 4 → IsRebuilding a.health → member m i ≡ next_place a
+pub plan_effect : (class : Class) (m : Members) (i n : ℕ) (a b : SetState) → IsGroup a m → i < 4 → IsRebuilding a.health
+    → member m i ≡ next_place a
     → CarriesOut (member_plan class m i n) a b → PlanEffect class m i a b
 plan_effect class m i n a b group below is next carried =
-    let told = turned (rows_attempts class m i n) a b carried in plan_by class m i n told.done a b group below is next told.made
+    let told = turned (rows_attempts class m i n) a b carried in
+    plan_by class m i n told.done a b group below is next told.made
 
 -- The rows past the one at which the writing stopped are unchanged, and so is the row itself if another disk failed the
 -- set; if that is the first row, the new disk wasn't accessed then.
@@ -257,19 +286,23 @@ pub record StopTold (a c : SetState) (row : ℕ) : Type 0 where
   pub unread : c.health ≡ AllBroken → content c (next_place a) row ≡ content a (next_place a) row
   pub unasked : row ≡ 0 → c.health ≡ AllBroken → LeavesDisks (λ d. d ≡ rebuilt_disk a.health) a c
 
-first_untried : (class : Class) (m : Members) (i row : ℕ) (a b : SetState) → row ≡ 0 → AttemptsAll (rows_attempts class m i row) true a b → a ≡ b
+first_untried : (class : Class) (m : Members) (i row : ℕ) (a b : SetState) → row ≡ 0
+    → AttemptsAll (rows_attempts class m i row) true a b → a ≡ b
 first_untried class m i row a b none made =
     none_tried a b (let P : ℕ → Type 0 = λ n. AttemptsAll (rows_attempts class m i n) true a b in subst P none made)
 
-pub stop_told : (class : Class) (m : Members) (i : ℕ) (a c : SetState) → IsGroup a m → i < 4 → IsRebuilding a.health → member m i ≡ next_place a
+pub stop_told : (class : Class) (m : Members) (i : ℕ) (a c : SetState) → IsGroup a m → i < 4 → IsRebuilding a.health
+    → member m i ≡ next_place a
     → (stop : StopsAtRow class a c m i) → StopTold a c stop.row
 stop_told class m i a c group below is next stop =
     let b = stop.begun in
     let row = stop.row in
     let before = rows_effect class m i a group below is next row b stop.made in
-    let here = after_rows class m i a group below is next row row b c before (all_stopped (row_attempts class m i row) Stop b c stop.failed) in
+    let here = after_rows class m i a group below is next row row b c before
+    (all_stopped (row_attempts class m i row) Stop b c stop.failed) in
     record {
-      past = λ r lt. row_kept a b c row r before.health here.keeps (λ same. absurd (omega arith)) ∙ before.rest r (omega arith);
+      past = λ r lt. row_kept a b c row r before.health here.keeps (λ same. absurd (omega arith))
+          ∙ before.rest r (omega arith);
       unread = λ broken. (here.unwritten broken).rows (next_place a) tt row ∙ before.rest row (omega arith);
       unasked = λ none broken.
           let P : SetState → Type 0 = λ s. LeavesDisks (λ d. d ≡ rebuilt_disk s.health) s c in

@@ -15,10 +15,12 @@ use Rattle.ar_rebuild.specs.Rows.{IsBesideNext, HasNotFaulted, WritesNext}
 
 -- the same extent is next where health is the same
 pub next_same : (a b : SetState) → b.health ≡ a.health → next_place b ≡ next_place a
-next_same a b same = ap (λ (h : Health). let there : Place = record { disk = rebuilt_disk h; extent = next_extent h } in there) same
+next_same a b same =
+    ap (λ (h : Health). let there : Place = record { disk = rebuilt_disk h; extent = next_extent h } in there) same
 
 -- disks that none of two runs accesses are as they were after both
-pub spares_then : (these : ℕ → Type 0) (a b c : SetState) → LeavesDisks these a b → LeavesDisks these b c → LeavesDisks these a c
+pub spares_then : (these : ℕ → Type 0) (a b c : SetState) → LeavesDisks these a b → LeavesDisks these b c
+    → LeavesDisks these a c
 spares_then these a b c ab bc = record { disks = λ d is. bc.disks d is ∙ ab.disks d is }
 
 -- no row yet
@@ -26,7 +28,8 @@ pub writes_refl : (s : SetState) → WritesNext s s
 writes_refl s = record { follows = follows_refl s; keeps = keeps_refl (IsBesideNext s) s; loose = refl }
 
 -- one row more
-pub writes_then : (a b c : SetState) (row : ℕ) → WritesNext a b → b.health ≡ a.health → Follows b c → KeepsBut (next_place b) row b c → c.loose ≡ b.loose → WritesNext a c
+pub writes_then : (a b c : SetState) (row : ℕ) → WritesNext a b → b.health ≡ a.health → Follows b c
+    → KeepsBut (next_place b) row b c → c.loose ≡ b.loose → WritesNext a c
 writes_then a b c row ab health follows keeps loose = record {
   follows = follows_then a b c ab.follows follows;
   keeps = record {
@@ -45,7 +48,8 @@ writes_alike a b is writes = record {
       writes.keeps.rows p
       (λ same.
       (let P : Place → Type 0 = λ x. IsSound a x in
-      lost_not_sound a (next_place a) (missing_lost a (next_place a) (next_missing a is)) (subst P same (writes.follows.usable p used))))
+      lost_not_sound a (next_place a) (missing_lost a (next_place a) (next_missing a is))
+      (subst P same (writes.follows.usable p used))))
       row;
 }
 
@@ -79,7 +83,8 @@ calm a b ab is d =
     ]
 
 -- the disk that is rebuilt has not faulted in what was done before
-pub spared_then : (a b c : SetState) → Follows a b → b.health ≡ a.health → IsRebuilding a.health → HasNotFaulted b c → HasNotFaulted a c
+pub spared_then : (a b c : SetState) → Follows a b → b.health ≡ a.health → IsRebuilding a.health → HasNotFaulted b c
+    → HasNotFaulted a c
 spared_then a b c ab same rebuilding spared =
     subst (λ (h : Health). faults_of c (rebuilt_disk h) ≡ faults_of b (rebuilt_disk h)) same spared
     ∙ calm a b ab (subst (λ (h : Health). IsRebuilding h) (sym same) rebuilding) (rebuilt_disk a.health)

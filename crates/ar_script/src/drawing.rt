@@ -35,7 +35,8 @@ pub fn write_picture<W: Write, D: Disk>(
     ensures memory { result ≡ Err FaultKind.NoMemory → out.new ≡ out.old }
     ensures grows { result ≢ Err FaultKind.WriteFault → AddsBytes (W.contents out.old) (W.contents out.new) }
     ensures adds { OnOk result (AddsSome (W.contents out.old) (W.contents out.new)) }
-    ensures answers { OnOk result (AppendsAnswer (Ask PictureAsked) array.now array.now (W.contents out.old) (W.contents out.new)) }
+    ensures answers { OnOk result
+        (AppendsAnswer (Ask PictureAsked) array.now array.now (W.contents out.old) (W.contents out.new)) }
 {
     let picture = picture_of(alloc, array).map_err(|_| FaultKind::NoMemory)?;
     let folds = picture.folds(alloc).map_err(|_| FaultKind::NoMemory)?;
@@ -144,7 +145,8 @@ fn unit_at<D: Disk>(array: &Array<D>, place: usize, held: &mut Vec<Held>) -> Opt
     requires tables { TablesAgree array.now.store.book }
     requires fresh { (group : ℕ) → held_at held.old.items group place ≡ 0 }
     ensures unit { result ≡ unit_at array.now.store.book (addr_at place) }
-    ensures held { AddsHomes (unit_in array.now.store.book.units (addr_at place)).homes place held.old.items held.new.items }
+    ensures held { AddsHomes
+        (unit_in array.now.store.book.units (addr_at place)).homes place held.old.items held.new.items }
 {
     let addr = addr_at(place);
     let mut placed = 0;

@@ -26,7 +26,8 @@ pub fn write_answer<W: Write, D: Disk>(
     ensures memory { result ≡ Err FaultKind.NoMemory → out.new ≡ out.old }
     ensures grows { result ≢ Err FaultKind.WriteFault → AddsBytes (W.contents out.old) (W.contents out.new) }
     ensures adds { OnOk result (HasAnswer (Ask question) → AddsSome (W.contents out.old) (W.contents out.new)) }
-    ensures answers { OnOk result (AppendsAnswer (Ask question) array.now array.now (W.contents out.old) (W.contents out.new)) }
+    ensures answers { OnOk result
+        (AppendsAnswer (Ask question) array.now array.now (W.contents out.old) (W.contents out.new)) }
 {
     let written = match question {
         Question::Levels(addr) => write_levels(out, array, addr),

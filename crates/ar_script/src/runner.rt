@@ -74,7 +74,8 @@ impl Runner {
         ensures memory { result ≡ Err FaultKind.NoMemory → out.new ≡ out.old }
         ensures grows { result ≢ Err FaultKind.WriteFault → AddsBytes (W.contents out.old) (W.contents out.new) }
         ensures adds { OnOk result (HasAnswer order → AddsSome (W.contents out.old) (W.contents out.new)) }
-        ensures answers { OnOk result (AppendsAnswer order self.old self.new (W.contents out.old) (W.contents out.new)) }
+        ensures answers { OnOk result
+            (AppendsAnswer order self.old self.new (W.contents out.old) (W.contents out.new)) }
         ensures leaves { Leaves order self.old result self.new }
     {
         match order {

@@ -120,7 +120,8 @@ fn write_good<W: Write>(out: &mut W, bytes: &[u8], notation: Notation) -> io::Re
 
 // Writes a reply's bytes, in the notation of its command.
 fn write_data<W: Write>(out: &mut W, bytes: &[u8], notation: Notation) -> io::Result<()>
-    ensures text { OnOk result (Appends (W.contents out.old) (W.contents out.new) (words (data_words notation bytes.now))) }
+    ensures text { OnOk result
+        (Appends (W.contents out.old) (W.contents out.new) (words (data_words notation bytes.now))) }
 {
     match notation {
         Notation::Bytes => write_bytes(out, bytes),
@@ -197,7 +198,8 @@ fn write_rebuild<W: Write>(out: &mut W, answer: Rebuild) -> io::Result<()>
 /// Writes the level of each block of a unit, as a line with a character for each: `M` mirrored, `P` parity, `-` without
 /// a home.
 pub fn write_levels<W: Write, D: Disk>(out: &mut W, array: &Array<D>, addr: Addr) -> io::Result<()>
-    ensures text { OnOk result (Appends (W.contents out.old) (W.contents out.new) (levels_text array.now.store.book addr)) }
+    ensures text { OnOk result
+        (Appends (W.contents out.old) (W.contents out.new) (levels_text array.now.store.book addr)) }
 {
     if let LevelOf::Absent = array.level(addr, 0) {
         return write_done(out, Err(NO_UNIT));
@@ -209,7 +211,8 @@ pub fn write_levels<W: Write, D: Disk>(out: &mut W, array: &Array<D>, addr: Addr
 // Writes a character for the level of each block of an existing unit.
 fn write_marks<W: Write, D: Disk>(out: &mut W, array: &Array<D>, addr: Addr) -> io::Result<()>
     requires unit { has_unit array.now.store.book addr ≡ true }
-    ensures text { OnOk result (Appends (W.contents out.old) (W.contents out.new) (marks_text array.now.store.book addr)) }
+    ensures text { OnOk result
+        (Appends (W.contents out.old) (W.contents out.new) (marks_text array.now.store.book addr)) }
 {
     // It does nothing, but says that the tables are consistent, so that no unit has more blocks than are counted.
     let _health = array.health();
@@ -319,7 +322,8 @@ fn write_bytes<W: Write>(out: &mut W, bytes: &[u8]) -> io::Result<()>
 
 // Writes the longest runs of equal bytes, separated by spaces.
 fn write_runs<W: Write>(out: &mut W, bytes: &[u8]) -> io::Result<()>
-    ensures text { OnOk result (Appends (W.contents out.old) (W.contents out.new) (words (map run_text (runs_of bytes.now)))) }
+    ensures text { OnOk result
+        (Appends (W.contents out.old) (W.contents out.new) (words (map run_text (runs_of bytes.now)))) }
 {
     let mut rest = bytes;
     for place in 0..bytes.len() {

@@ -1,5 +1,6 @@
 -- A whole service: the units at its start, and the audit at its end.
-use Rattle.std.specs.Prelude.{◌≡◌, ℕ, false, List, [], ◌∷◌, Option, Some, None, is_some, Result, Ok, Err, All, length, map, sum, count_by, slice_get, take}
+use Rattle.std.specs.Prelude.{◌≡◌, ℕ, false, List, [], ◌∷◌, Option, Some, None, is_some, Result, Ok, Err, All, length}
+use Rattle.std.specs.Prelude.{map, sum, count_by, slice_get, take}
 use Rattle.std.specs.List.{list_all}
 use Rattle.ar_core.specs.Events.{Outcome}
 use Rattle.ar_core.specs.declared.event.OutcomeOf.{OutcomeOf}

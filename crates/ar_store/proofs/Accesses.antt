@@ -27,7 +27,11 @@ use Rattle.ar_store.specs.Plans.{slot_read, slot_write, home_read, get_plan, wri
 
 pub plan_accessed : (plan : AccessPlan) (a b : SetState) → RebuildsNothing plan → CarriesOut plan a b → IsAccessed a b
 plan_accessed plan a b none carried =
-    record { follows = plan_follows plan a b carried; loose = plan_loose plan a b carried; lost = plan_lost plan a b none carried }
+    record {
+      follows = plan_follows plan a b carried;
+      loose = plan_loose plan a b carried;
+      lost = plan_lost plan a b none carried;
+    }
 
 read_rebuilds : (c : Class) (g : Geometry) (m : Members) (i : ℕ) → RebuildsNothing (slot_read c g m i)
 read_rebuilds Free g m i = tt
@@ -60,16 +64,19 @@ home_rebuilds s None = tt
 home_rebuilds s (Some slot) = read_rebuilds (class_in s slot.group) s.disks.geometry (members_of s slot.group) slot.slot
 
 -- a get, a move and an opening
-pub get_accessed : (s : StoreState) (k : Key) (b : SetState) → CarriesOut (get_plan s k) s.disks b → IsAccessed s.disks b
+pub get_accessed : (s : StoreState) (k : Key) (b : SetState) → CarriesOut (get_plan s k) s.disks b
+    → IsAccessed s.disks b
 get_accessed s k b carried = plan_accessed (get_plan s k) s.disks b (home_rebuilds s (home s.book k)) carried
 
-pub move_accessed : (s : StoreState) (k : Key) (to : Slot) (b : SetState) → CarriesOut (move_plan s k to) s.disks b → IsAccessed s.disks b
+pub move_accessed : (s : StoreState) (k : Key) (to : Slot) (b : SetState) → CarriesOut (move_plan s k to) s.disks b
+    → IsAccessed s.disks b
 move_accessed s k to b carried =
     plan_accessed (move_plan s k to) s.disks b
     (rebuilds_neither (get_plan s k) (write_of s to) (home_rebuilds s (home s.book k))
     (write_rebuilds (class_in s to.group) s.disks.geometry (members_of s to.group) to.slot)) carried
 
-pub open_accessed : (c : Class) (g : Geometry) (m : Members) (a b : SetState) → CarriesOut (open_plan c g m) a b → IsAccessed a b
+pub open_accessed : (c : Class) (g : Geometry) (m : Members) (a b : SetState) → CarriesOut (open_plan c g m) a b
+    → IsAccessed a b
 open_accessed c g m a b carried = plan_accessed (open_plan c g m) a b (open_rebuilds c g m) carried
 
 -- what was opened, if anything
@@ -89,15 +96,21 @@ opens_accessed a b c NotOpened cut plan =
           (plan opening.0 opening.1.many opening.1.lowest)
     ]
 
-slot_keeps : (c : Class) (m : Members) (i : ℕ) (a b : SetState) → CarriesOut (slot_read c a.geometry m i) a b → Keeps Anywhere a b
-slot_keeps Free m i a b carried = subst (λ (s : SetState). Keeps Anywhere a s) (nothing_done a b carried) (keeps_refl Anywhere a)
+slot_keeps : (c : Class) (m : Members) (i : ℕ) (a b : SetState) → CarriesOut (slot_read c a.geometry m i) a b
+    → Keeps Anywhere a b
+slot_keeps Free m i a b carried =
+    subst (λ (s : SetState). Keeps Anywhere a s) (nothing_done a b carried) (keeps_refl Anywhere a)
 slot_keeps Mirrored m i a b carried = (read_told m i a b carried).keeps
 slot_keeps Parity m i a b carried = (parity_told m i a b carried).keeps
 
-home_keeps : (s : StoreState) (h : Option Slot) (b : SetState) → CarriesOut (home_read s h) s.disks b → Keeps Anywhere s.disks b
-home_keeps s None b carried = subst (λ (x : SetState). Keeps Anywhere s.disks x) (nothing_done s.disks b carried) (keeps_refl Anywhere s.disks)
-home_keeps s (Some slot) b carried = slot_keeps (class_in s slot.group) (members_of s slot.group) slot.slot s.disks b carried
+home_keeps : (s : StoreState) (h : Option Slot) (b : SetState) → CarriesOut (home_read s h) s.disks b
+    → Keeps Anywhere s.disks b
+home_keeps s None b carried =
+    subst (λ (x : SetState). Keeps Anywhere s.disks x) (nothing_done s.disks b carried) (keeps_refl Anywhere s.disks)
+home_keeps s (Some slot) b carried =
+    slot_keeps (class_in s slot.group) (members_of s slot.group) slot.slot s.disks b carried
 
 -- a get changes no row
-pub get_keeps : (s : StoreState) (k : Key) (b : SetState) → CarriesOut (get_plan s k) s.disks b → Keeps Anywhere s.disks b
+pub get_keeps : (s : StoreState) (k : Key) (b : SetState) → CarriesOut (get_plan s k) s.disks b
+    → Keeps Anywhere s.disks b
 get_keeps s k b carried = home_keeps s (home s.book k) b carried

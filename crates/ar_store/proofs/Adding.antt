@@ -1,5 +1,6 @@
 -- A store to which a disk is added.
-use Rattle.std.proofs.Common.{◌≡◌, ◌≢◌, ℕ, ◌*◌, ◌<◌, List, [], ◌∷◌, length, Option, None, Some, refl, sym, subst, ◌∙◌, arith, length-append}
+use Rattle.std.proofs.Common.{◌≡◌, ◌≢◌, ℕ, ◌*◌, ◌<◌, List, [], ◌∷◌, length, Option, None, Some, refl, sym, subst, ◌∙◌}
+use Rattle.std.proofs.Common.{arith, length-append}
 use Rattle.ar_disks.specs.Disk.{DiskState}
 use Rattle.ar_disks.specs.Geometry.{rows_of}
 use Rattle.ar_disks.specs.Members.{member}
@@ -28,21 +29,26 @@ added_extent s disk p there =
     let below = there.disk in
     record { disk = omega arith; extent = there.extent }
 
-module _ (s : SetState) (disk : DiskState) (t : Tables) (space : IsSpace (store_of s t)) (tables : length s.loose ≡ length s.disks) where
+module _ (s : SetState) (disk : DiskState) (t : Tables) (space : IsSpace (store_of s t)) (tables : length s.loose
+    ≡ length s.disks) where
   -- a slot holds what it held
-  added_holds : (slot : Slot) (block : List ℕ) → HasSlot t slot → SlotHolds (store_of s t) slot block → SlotHolds (store_of (added s disk) t) slot block
+  added_holds : (slot : Slot) (block : List ℕ) → HasSlot t slot → SlotHolds (store_of s t) slot block
+      → SlotHolds (store_of (added s disk) t) slot block
   added_holds slot block has holds =
       let m = (group_in t.groups slot.group).members in
       class_copied (class_of t slot.group) s (added s disk) m m slot.slot block
       (record {
         geometry = refl;
         usable = λ j lt sound. sound;
-        rows = λ j row lt fits. (keeps_added s disk).rows (member m j) (space.extents slot.group j has.0 lt).there.disk row;
+        rows = λ j row lt fits. (keeps_added s disk).rows (member m j) (space.extents slot.group j has.0 lt).there.disk
+            row;
       })
       (slot_inside (store_of s t) slot space has) holds
 
-  added_block : (slot : Slot) → HasSlot t slot → HoldsBlock (store_of s t) slot → HoldsBlock (store_of (added s disk) t) slot
-  added_block slot has held = record { block = held.block; len = held.len; holds = added_holds slot held.block has held.holds }
+  added_block : (slot : Slot) → HasSlot t slot → HoldsBlock (store_of s t) slot
+      → HoldsBlock (store_of (added s disk) t) slot
+  added_block slot has held =
+      record { block = held.block; len = held.len; holds = added_holds slot held.block has held.holds }
 
   -- the store keeps what it kept
   pub space_added : IsSpace (store_of (added s disk) t)
@@ -58,7 +64,8 @@ module _ (s : SetState) (disk : DiskState) (t : Tables) (space : IsSpace (store_
         };
     named = λ slot k names. added_block slot (key_slot t space.tables slot k names) (space.named slot k names);
     parity = λ slot inside is lt.
-        let lt_t : slot.slot < 3 * rows_of t.geometry = subst (λ g. slot.slot < 3 * rows_of g) (sym space.geometry) lt in
+        let lt_t : slot.slot < 3 * rows_of t.geometry =
+        subst (λ g. slot.slot < 3 * rows_of g) (sym space.geometry) lt in
         let has : HasSlot t slot = (inside, subst (λ c. slot.slot < slots_of t.geometry c) (sym is) lt_t) in
         added_block slot has (space.parity slot inside is lt);
   }
@@ -67,14 +74,17 @@ module _ (s : SetState) (disk : DiskState) (t : Tables) (space : IsSpace (store_
   pub all_added : AllStand (store_of s t) (store_of (added s disk) t)
   all_added = record { blocks = λ sound k. by k sound (home t k) refl }
     where
-      by : (k : Key) → s.health ≢ Broken → (o : Option Slot) → home t k ≡ o → stands (store_of (added s disk) t) k ≡ stands (store_of s t) k
+      by : (k : Key) → s.health ≢ Broken → (o : Option Slot) → home t k ≡ o
+          → stands (store_of (added s disk) t) k ≡ stands (store_of s t) k
       by k sound None is = stands_nowhere (store_of (added s disk) t) k is ∙ sym (stands_nowhere (store_of s t) k is)
       by k sound (Some slot) is =
           let held = space.named slot k (home_key t space.tables k slot is) in
-          stands_held (store_of (added s disk) t) k slot held.block space_added sound is (added_holds slot held.block (home_slot t space.tables k slot is) held.holds)
+          stands_held (store_of (added s disk) t) k slot held.block space_added sound is
+          (added_holds slot held.block (home_slot t space.tables k slot is) held.holds)
           ∙ sym (stands_held (store_of s t) k slot held.block space sound is held.holds)
 
-pub fields_added : (s : SetState) (disk : DiskState) (t : Tables) (block : List ℕ) (g : Geometry) → length s.loose ≡ length s.disks
+pub fields_added : (s : SetState) (disk : DiskState) (t : Tables) (block : List ℕ) (g : Geometry)
+    → length s.loose ≡ length s.disks
     → FieldsAgree (store_of s t) block g → FieldsAgree (store_of (added s disk) t) block g
 fields_added s disk t block g tables old = record {
   kept = record { space = space_added s disk t old.kept.space tables; free = λ sound. old.kept.free sound };

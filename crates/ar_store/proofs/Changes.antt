@@ -1,5 +1,6 @@
 -- Changes of the tables that leave a store what it is.
-use Rattle.std.proofs.Common.{◌≡◌, ◌≢◌, inl, inr, ℕ, ◌<◌, List, length, Some, refl, sym, ap, subst, ◌∙◌, true≢false, Bool, true, false}
+use Rattle.std.proofs.Common.{◌≡◌, ◌≢◌, inl, inr, ℕ, ◌<◌, List, length, Some, refl, sym, ap, subst, ◌∙◌, true≢false}
+use Rattle.std.proofs.Common.{Bool, true, false}
 use Rattle.std.proofs.lemmas.Option.{none-some}
 use Rattle.std.specs.List.{list_any}
 use Rattle.std.proofs.lemmas.Map.Made.{is_some-lookup}
@@ -20,9 +21,14 @@ use Rattle.ar_book.proofs.Keys.{slot_tells}
 use Rattle.ar_book.proofs.Homes.{home_key, free_empty}
 use Rattle.ar_book.proofs.GroupLemmas.{KeepsClass}
 use Rattle.ar_book.proofs.PlaceLemmas.{assigned_agrees}
-use Rattle.ar_book.proofs.AfterAssign.{assigned_group_count, assigned_members, assigned_class, assigned_class_named, assigned_class_here, assigned_key_other, assigned_key_left, assigned_home, assigned_home_other, assigned_order, assigned_sectors, assigned_attention, assigned_blocks, assigned_reserved}
-use Rattle.ar_book.proofs.AfterOpen.{opened_group_count, opened_members, opened_key, opened_class, opened_class_other, opened_agrees}
-use Rattle.ar_book.proofs.AfterStamp.{stamped_agrees, stamped_home, stamped_order, stamped_sectors, stamped_attention, stamped_homes, stamped_reserved}
+use Rattle.ar_book.proofs.AfterAssign.{assigned_group_count, assigned_members, assigned_class, assigned_class_named}
+use Rattle.ar_book.proofs.AfterAssign.{assigned_class_here, assigned_key_other, assigned_key_left, assigned_home}
+use Rattle.ar_book.proofs.AfterAssign.{assigned_home_other, assigned_order, assigned_sectors, assigned_attention}
+use Rattle.ar_book.proofs.AfterAssign.{assigned_blocks, assigned_reserved}
+use Rattle.ar_book.proofs.AfterOpen.{opened_group_count, opened_members, opened_key, opened_class, opened_class_other}
+use Rattle.ar_book.proofs.AfterOpen.{opened_agrees}
+use Rattle.ar_book.proofs.AfterStamp.{stamped_agrees, stamped_home, stamped_order, stamped_sectors, stamped_attention}
+use Rattle.ar_book.proofs.AfterStamp.{stamped_homes, stamped_reserved}
 use Rattle.ar_store.specs.Store.{StoreState, store_of}
 use Rattle.ar_store.specs.Slots.{SlotHolds, HoldsBlock, stands, OthersStand}
 use Rattle.ar_store.specs.Kept.{IsTaken, IsSpace}
@@ -43,13 +49,16 @@ unfolding is_mirrored
 mirrored_not_parity e = true≢false (ap is_mirrored e)
 
 -- a slot that names a block isn't in a free group
-pub named_apart : (t : Tables) (g : ℕ) (slot : Slot) (k : Key) → TablesAgree t → class_of t g ≡ Free → key_at t slot ≡ Some k → slot.group ≢ g
+pub named_apart : (t : Tables) (g : ℕ) (slot : Slot) (k : Key) → TablesAgree t → class_of t g ≡ Free
+    → key_at t slot ≡ Some k → slot.group ≢ g
 named_apart t g slot k ok free names same =
-    none-some k (sym (free_empty t ok g free slot.slot) ∙ ap (λ n. key_at t (record { group = n; slot = slot.slot })) (sym same) ∙ names)
+    none-some k (sym (free_empty t ok g free slot.slot)
+    ∙ ap (λ n. key_at t (record { group = n; slot = slot.slot })) (sym same) ∙ names)
 
 -- the extents of groups stay taken where the members stay
 pub extents_same : (a : SetState) (t u : Tables) → IsSpace (store_of a t) → length u.groups ≡ length t.groups
-    → ((g : ℕ) → (group_in u.groups g).members ≡ (group_in t.groups g).members) → (g i : ℕ) → g < length u.groups → i < 4 → IsTaken (store_of a u) g i
+    → ((g : ℕ) → (group_in u.groups g).members ≡ (group_in t.groups g).members) → (g i : ℕ) → g < length u.groups
+    → i < 4 → IsTaken (store_of a u) g i
 extents_same a t u space count members g i inside lt =
     let taken = space.extents g i (subst (λ n. g < n) count inside) lt in
     record {
@@ -58,14 +67,16 @@ extents_same a t u space count members g i inside lt =
     }
 
 -- a slot whose group may have been freed, and that is of a group with parity
-parity_before : (t u : Tables) (g : ℕ) → KeepsClass (class_of t g) (group_in u.groups g) → class_of u g ≡ Parity → class_of t g ≡ Parity
+parity_before : (t u : Tables) (g : ℕ) → KeepsClass (class_of t g) (group_in u.groups g) → class_of u g ≡ Parity
+    → class_of t g ≡ Parity
 parity_before t u g (inl same) is = sym same ∙ is
 parity_before t u g (inr free) is = absurd (free_not_parity (sym free.0 ∙ is))
   where
     free_not_parity : Free ≢ Parity
     free_not_parity e = true≢false (ap is_free e)
 
-module _ (a : SetState) (t : Tables) (k : Key) (s : Slot) (space : IsSpace (store_of a t)) (block : HasBlock t k) (vacant : IsVacant t s) where
+module _ (a : SetState) (t : Tables) (k : Key) (s : Slot) (space : IsSpace (store_of a t)) (block : HasBlock t k)
+    (vacant : IsVacant t s) where
   -- the tables agree after a move
   pub moved_agrees : TablesAgree (assigned t k s)
   moved_agrees = assigned_agrees t k s space.tables block vacant.there vacant.empty
@@ -77,7 +88,8 @@ module _ (a : SetState) (t : Tables) (k : Key) (s : Slot) (space : IsSpace (stor
     tables = moved_agrees;
     extents = extents_same a t (assigned t k s) space (assigned_group_count t k s) (assigned_members t k s);
     named = λ slot j names.
-        block_same a t (assigned t k s) slot (assigned_class_named t k s slot j names) (assigned_members t k s slot.group) (held_before slot j names);
+        block_same a t (assigned t k s) slot (assigned_class_named t k s slot j names)
+        (assigned_members t k s slot.group) (held_before slot j names);
     parity = λ slot inside is lt.
         let before = parity_before t (assigned t k s) slot.group (assigned_class t k s slot.group) is in
         block_same a t (assigned t k s) slot (is ∙ sym before) (assigned_members t k s slot.group)
@@ -91,7 +103,8 @@ module _ (a : SetState) (t : Tables) (k : Key) (s : Slot) (space : IsSpace (stor
             | inr ne ↦
                 space.named slot j
                 (sym (assigned_key_other t k s space.tables block vacant.there vacant.empty slot ne
-                (λ was. none-some j (sym (assigned_key_left t k s space.tables block vacant.there vacant.empty slot was) ∙ names)))
+                (λ was. none-some j (sym (assigned_key_left t k s space.tables block vacant.there vacant.empty slot was)
+                ∙ names)))
                 ∙ names)
           ]
 
@@ -104,11 +117,13 @@ module _ (a : SetState) (t : Tables) (k : Key) (s : Slot) (space : IsSpace (stor
       (assigned_members t k s)
 
   -- and the block that moved is the one that its new slot holds
-  pub block_moved : (bytes : List ℕ) → IsSpace (store_of a (assigned t k s)) → a.health ≢ Broken → SlotHolds (store_of a t) s bytes
+  pub block_moved : (bytes : List ℕ) → IsSpace (store_of a (assigned t k s)) → a.health ≢ Broken
+      → SlotHolds (store_of a t) s bytes
       → stands (store_of a (assigned t k s)) k ≡ bytes
   block_moved bytes after sound holds =
       stands_held (store_of a (assigned t k s)) k s bytes after sound (assigned_home t k s block)
-      (holds_same a t (assigned t k s) s bytes (assigned_class_here t k s space.tables block vacant.there vacant.empty) (assigned_members t k s s.group) holds)
+      (holds_same a t (assigned t k s) s bytes (assigned_class_here t k s space.tables block vacant.there vacant.empty)
+      (assigned_members t k s s.group) holds)
 
 module _ (a : SetState) (t : Tables) (k : Key) (space : IsSpace (store_of a t)) (block : HasBlock t k) where
   -- a stamp changes nothing but itself
@@ -136,7 +151,15 @@ module _ (a : SetState) (t : Tables) (k : Key) (space : IsSpace (store_of a t)) 
 
 -- the units stay
 pub units_refl : (t : Tables) → SameUnits t t
-units_refl t = record { order = refl; sectors = λ a. refl; attention = λ a. refl; blocks = λ a. refl; groups = refl; reserved = refl }
+units_refl t =
+    record {
+      order = refl;
+      sectors = λ a. refl;
+      attention = λ a. refl;
+      blocks = λ a. refl;
+      groups = refl;
+      reserved = refl;
+    }
 
 pub units_then : (t u v : Tables) → SameUnits t u → SameUnits u v → SameUnits t v
 units_then t u v tu uv = record {
@@ -174,18 +197,23 @@ units_assigned t k s block = record {
 }
 
 -- a group is opened for mirrored blocks: the store keeps what it kept, and every block stands as it did
-module _ (a : SetState) (t : Tables) (g : ℕ) (space : IsSpace (store_of a t)) (inside : g < length t.groups) (free : class_of t g ≡ Free) where
+module _ (a : SetState) (t : Tables) (g : ℕ) (space : IsSpace (store_of a t)) (inside : g < length t.groups)
+    (free : class_of t g ≡ Free) where
   pub space_opened : IsSpace (store_of a (opened t g Mirrored))
   space_opened = record {
     geometry = space.geometry;
     tables = opened_agrees t g Mirrored space.tables inside free;
-    extents = extents_same a t (opened t g Mirrored) space (opened_group_count t g Mirrored) (opened_members t g Mirrored);
+    extents = extents_same a t (opened t g Mirrored) space (opened_group_count t g Mirrored)
+        (opened_members t g Mirrored);
     named = λ slot j names.
         let before = sym (opened_key t g Mirrored slot) ∙ names in
-        block_same a t (opened t g Mirrored) slot (opened_class_other t g Mirrored slot.group (named_apart t g slot j space.tables free before))
+        block_same a t (opened t g Mirrored) slot
+        (opened_class_other t g Mirrored slot.group (named_apart t g slot j space.tables free before))
         (opened_members t g Mirrored slot.group) (space.named slot j before);
     parity = λ slot there is lt.
-        let ne : slot.group ≢ g = λ same. mirrored_not_parity (sym (opened_class t g Mirrored inside) ∙ ap (λ n. class_of (opened t g Mirrored) n) (sym same) ∙ is) in
+        let ne : slot.group ≢ g =
+        λ same. mirrored_not_parity (sym (opened_class t g Mirrored inside)
+        ∙ ap (λ n. class_of (opened t g Mirrored) n) (sym same) ∙ is) in
         let class = opened_class_other t g Mirrored slot.group ne in
         block_same a t (opened t g Mirrored) slot class (opened_members t g Mirrored slot.group)
         (space.parity slot (subst (λ n. slot.group < n) (opened_group_count t g Mirrored) there) (sym class ∙ is) lt);
@@ -194,7 +222,8 @@ module _ (a : SetState) (t : Tables) (g : ℕ) (space : IsSpace (store_of a t)) 
   pub all_opened : (k : Key) → stands (store_of a (opened t g Mirrored)) k ≡ stands (store_of a t) k
   all_opened k =
       stands_same a t (opened t g Mirrored) k refl
-      (λ slot is. opened_class_other t g Mirrored slot.group (named_apart t g slot k space.tables free (home_key t space.tables k slot is)))
+      (λ slot is. opened_class_other t g Mirrored slot.group
+      (named_apart t g slot k space.tables free (home_key t space.tables k slot is)))
       (opened_members t g Mirrored)
 
 -- the units stay where a group is opened
@@ -209,6 +238,8 @@ units_opened t g c = record {
 }
 
 -- what was said of the others before a stamp
-pub others_stamped : (old : StoreState) (b : SetState) (u : Tables) (k : Key) → IsSpace (store_of b u) → HasBlock u k → OthersStand old (store_of b u) k
+pub others_stamped : (old : StoreState) (b : SetState) (u : Tables) (k : Key) → IsSpace (store_of b u) → HasBlock u k
+    → OthersStand old (store_of b u) k
     → OthersStand old (store_of b (stamped u k)) k
-others_stamped old b u k space block others = record { blocks = λ sound j ne. all_stamped b u k space block j ∙ others.blocks sound j ne }
+others_stamped old b u k space block others =
+    record { blocks = λ sound j ne. all_stamped b u k space block j ∙ others.blocks sound j ne }

@@ -16,7 +16,8 @@ use Rattle.ar_book.specs.declared.class.Class.TheVariants.{Free, Mirrored, Parit
 use Rattle.ar_book.specs.Tables.{slots_of}
 use Rattle.ar_store.specs.Slots.{ClassHolds}
 
--- four extents stand for four others: what can be used of them could be used of those, and has the same content in every row
+-- four extents stand for four others: what can be used of them could be used of those, and has the same content in
+-- every row
 pub record IsCopy (a c : SetState) (m n : Members) : Type 0 where
   pub geometry : c.geometry ≡ a.geometry
   pub usable : (j : ℕ) → j < 4 → IsSound c (member n j) → IsSound a (member m j)
@@ -31,7 +32,8 @@ mirror_copied a c m n i block copy inside has =
     let fits = row_fits a.geometry i in
     mirror_holds_at c a.geometry n i block copy.geometry (record {
       one_has = λ sound. copy.rows one row (omega arith) fits ∙ has.one_has (copy.usable one (omega arith) sound);
-      other_has = λ sound. copy.rows (one + 1) row (omega arith) fits ∙ has.other_has (copy.usable (one + 1) (omega arith) sound);
+      other_has = λ sound. copy.rows (one + 1) row (omega arith) fits
+          ∙ has.other_has (copy.usable (one + 1) (omega arith) sound);
     })
 
 parity_copied : (a c : SetState) (m n : Members) (i : ℕ) (block : List ℕ) → IsCopy a c m n → i < 3 * rows_of a.geometry
@@ -44,14 +46,17 @@ parity_copied a c m n i block copy inside has =
       agrees = record {
         add_up = subst P (sym copy.geometry) has.agrees.add_up;
         stand = λ j lt. record {
-          content_is = λ sound. copy.rows j (parity_row_of i) lt fits ∙ (has.agrees.stand j lt).content_is (copy.usable j lt sound);
+          content_is =
+              λ sound. copy.rows j (parity_row_of i) lt fits
+              ∙ (has.agrees.stand j lt).content_is (copy.usable j lt sound);
         };
       };
       here = has.here;
     }
 
 -- a slot of theirs holds what the same slot of those held
-pub class_copied : (class : Class) (a c : SetState) (m n : Members) (i : ℕ) (block : List ℕ) → IsCopy a c m n → i < slots_of a.geometry class
+pub class_copied : (class : Class) (a c : SetState) (m n : Members) (i : ℕ) (block : List ℕ) → IsCopy a c m n
+    → i < slots_of a.geometry class
     → ClassHolds class a m i block → ClassHolds class c n i block
 class_copied Free a c m n i block copy inside has = has
 class_copied Mirrored a c m n i block copy inside has = mirror_copied a c m n i block copy inside has

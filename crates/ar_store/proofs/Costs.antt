@@ -1,5 +1,6 @@
 -- What the plans of calls cost where none faults, and the extents that they use are usable.
-use Rattle.std.proofs.Common.{◌≡◌, ◌≢◌, inl, inr, ◌⊎◌, ℕ, Bool, true, false, List, [], ◌∷◌, ◌++◌, map, Option, None, Some, refl, sym, ◌∙◌, ap, subst}
+use Rattle.std.proofs.Common.{◌≡◌, ◌≢◌, inl, inr, ◌⊎◌, ℕ, Bool, true, false, List, [], ◌∷◌, ◌++◌, map, Option, None}
+use Rattle.std.proofs.Common.{Some, refl, sym, ◌∙◌, ap, subst}
 use Rattle.std.proofs.lemmas.List.{map-append}
 use Rattle.ar_disks.specs.declared.address.Key.{Key}
 use Rattle.ar_disks.specs.declared.address.Members.{Members}
@@ -12,7 +13,8 @@ use Rattle.ar_extents.specs.declared.log.AccessKind.TheVariants.{Read, Write}
 use Rattle.ar_extents.specs.declared.log.RowAccess.{RowAccess}
 use Rattle.ar_extents.specs.Health.{is_lost, is_missing}
 use Rattle.ar_extents.specs.Set.{SetState, IsSound}
-use Rattle.ar_extents.specs.Plans.{AccessPlan, Stop, Try, IfMissing, both_of, all_of, read_at, write_at, CarriesOut, NoneFaults, planned}
+use Rattle.ar_extents.specs.Plans.{AccessPlan, Stop, Try, IfMissing, both_of, all_of, read_at, write_at, CarriesOut}
+use Rattle.ar_extents.specs.Plans.{NoneFaults, planned}
 use Rattle.ar_extents.proofs.Asking.{nothing_done}
 use Rattle.ar_extents.proofs.Plans.{planned_made, both_planned}
 use Rattle.ar_mirror.specs.Slots.{one_of, other_of, row_of as mirror_row}
@@ -31,12 +33,14 @@ use Rattle.ar_store.specs.Plans.{ReadsUsable, WritesUsable, ReadsUsableOf, Write
 abbrev pub kinds_at : Health → AccessPlan → List AccessKind
 kinds_at h plan = map (λ (a : RowAccess). a.kind) (planned plan h)
 
-pub makes_at : (plan : AccessPlan) (kinds : List AccessKind) (a b : SetState) → NoneFaults a b → CarriesOut plan a b → kinds_at a.health plan ≡ kinds
+pub makes_at : (plan : AccessPlan) (kinds : List AccessKind) (a b : SetState) → NoneFaults a b → CarriesOut plan a b
+    → kinds_at a.health plan ≡ kinds
     → MakesAccesses kinds a b
 makes_at plan kinds a b none carried are =
     record { made = planned plan a.health; log = planned_made plan a b carried none; kinds_are = are }
 
-pub both_kinds : (first last : AccessPlan) (h : Health) → kinds_at h (both_of first last) ≡ kinds_at h first ++ kinds_at h last
+pub both_kinds : (first last : AccessPlan) (h : Health)
+    → kinds_at h (both_of first last) ≡ kinds_at h first ++ kinds_at h last
 both_kinds first last h =
     ap (λ l. map (λ (x : RowAccess). x.kind) l) (both_planned first last h)
     ∙ map-append (λ (x : RowAccess). x.kind) _ _
@@ -73,7 +77,8 @@ Lost h p = is_lost h p.disk p.extent ≡ true
 abbrev pub Sound : Health → Place → Type 0
 Sound h p = is_lost h p.disk p.extent ≡ false
 
-pub missing_is_lost : (h : Health) (p : Place) → h ≢ AllBroken → is_missing h p.disk p.extent ≡ is_lost h p.disk p.extent
+pub missing_is_lost : (h : Health) (p : Place) → h ≢ AllBroken
+    → is_missing h p.disk p.extent ≡ is_lost h p.disk p.extent
 missing_is_lost Whole p sound = refl
 missing_is_lost (Out x) p sound = refl
 missing_is_lost (Rebuilding x done) p sound = refl
@@ -86,13 +91,15 @@ not_failed h p sound is = (
     cc)
 
 -- a read of one of two extents
-either_kinds : (h : Health) (one other : Place) (row : ℕ) (first : Bool) → is_lost h one.disk one.extent ≡ first → Sound h one ⊎ Sound h other
+either_kinds : (h : Health) (one other : Place) (row : ℕ) (first : Bool) → is_lost h one.disk one.extent ≡ first
+    → Sound h one ⊎ Sound h other
     → kinds_at h (read_either one other row) ≡ Read ∷ []
 either_kinds h one other row false sound either = rw sound refl
 either_kinds h one other row true lost (inl sound) = absurd (let clash : true ≡ false = sym lost ∙ sound in cc)
 either_kinds h one other row true lost (inr sound) = rw (lost, sound) refl
 
-own_kinds : (h : Health) (own : Place) (row : ℕ) (rest : AccessPlan) → Sound h own → kinds_at h (Try (read_at own row) Stop rest) ≡ Read ∷ []
+own_kinds : (h : Health) (own : Place) (row : ℕ) (rest : AccessPlan) → Sound h own
+    → kinds_at h (Try (read_at own row) Stop rest) ≡ Read ∷ []
 own_kinds h own row rest sound = rw sound refl
 
 pub read_kinds : (c : Class) (s : SetState) (m : Members) (i : ℕ) → c ≢ Free → ReadsUsable c s m i
@@ -100,12 +107,15 @@ pub read_kinds : (c : Class) (s : SetState) (m : Members) (i : ℕ) → c ≢ Fr
 read_kinds Free s m i used usable = absurd (used refl)
 read_kinds Mirrored s m i used usable =
     let one = one_of s.geometry m i in
-    either_kinds s.health one (other_of s.geometry m i) (mirror_row s.geometry i) (is_lost s.health one.disk one.extent) refl usable
+    either_kinds s.health one (other_of s.geometry m i) (mirror_row s.geometry i) (is_lost s.health one.disk one.extent)
+    refl usable
 read_kinds Parity s m i used usable =
-    own_kinds s.health (member m (data_position i)) (row_of i) (all_of (three_reads m (data_position i) (row_of i)) Stop) usable
+    own_kinds s.health (member m (data_position i)) (row_of i)
+    (all_of (three_reads m (data_position i) (row_of i)) Stop) usable
 
 -- a write of both
-pair_kinds : (h : Health) (one other : Place) (row : ℕ) → Sound h one → Sound h other → kinds_at h (write_pair one other row) ≡ Write ∷ Write ∷ []
+pair_kinds : (h : Health) (one other : Place) (row : ℕ) → Sound h one → Sound h other
+    → kinds_at h (write_pair one other row) ≡ Write ∷ Write ∷ []
 pair_kinds h one other row first second = rw (first, second) refl
 
 pub mirrored_kinds : (s : SetState) (m : Members) (i : ℕ) → WritesUsable Mirrored s m i
@@ -117,10 +127,12 @@ mirrored_kinds s m i usable =
 abbrev pub parity_kinds : List AccessKind
 parity_kinds = Read ∷ Read ∷ Write ∷ Write ∷ []
 
-known_kinds : (h : Health) (own parity : Place) (row : ℕ) (alone unread lost : AccessPlan) → is_missing h parity.disk parity.extent ≡ false
+known_kinds : (h : Health) (own parity : Place) (row : ℕ) (alone unread lost : AccessPlan)
+    → is_missing h parity.disk parity.extent ≡ false
     → Sound h own → Sound h parity
     → kinds_at h (IfMissing parity alone (Try (read_at own row) (Try (read_at parity row)
-    (Try (write_at own row) (Try (write_at parity row) Stop Stop) (Try (write_at parity row) Stop Stop)) unread) lost)) ≡ parity_kinds
+    (Try (write_at own row) (Try (write_at parity row) Stop Stop) (Try (write_at parity row) Stop Stop)) unread) lost))
+    ≡ parity_kinds
 known_kinds h own parity row alone unread lost there one two = rw (there, one, two) refl
 
 pub stripe_kinds : (s : SetState) (m : Members) (i : ℕ) → WritesUsable Parity s m i
@@ -133,17 +145,20 @@ stripe_kinds s m i usable =
     known_kinds s.health (member m d) parity row (write_member m d row) (write_member m d row) (write_lost m d p row)
     (missing_is_lost s.health parity (not_failed s.health parity usable.1) ∙ usable.1) usable.0 usable.1
 
-home_plan_at : (s : StoreState) (h : Option Slot) (o : Option Slot) (b : SetState) → h ≡ o → CarriesOut (home_read s h) s.disks b
+home_plan_at : (s : StoreState) (h : Option Slot) (o : Option Slot) (b : SetState) → h ≡ o
+    → CarriesOut (home_read s h) s.disks b
     → CarriesOut (home_read s o) s.disks b
 home_plan_at s h o b is carried = subst (λ (x : Option Slot). CarriesOut (home_read s x) s.disks b) is carried
 
 -- a block without a home
-pub unplaced_made : (s : StoreState) (b : SetState) (k : Key) → home s.book k ≡ None → CarriesOut (get_plan s k) s.disks b → b ≡ s.disks
+pub unplaced_made : (s : StoreState) (b : SetState) (k : Key) → home s.book k ≡ None
+    → CarriesOut (get_plan s k) s.disks b → b ≡ s.disks
 unplaced_made s b k none carried = sym (nothing_done s.disks b (home_plan_at s (home s.book k) None b none carried))
 
 -- and another one
 pub get_made : (s : StoreState) (b : SetState) (k : Key) (slot : Slot) → ReadsUsableOf s slot → NoneFaults s.disks b
-    → home s.book k ≡ Some slot → class_in s slot.group ≢ Free → CarriesOut (get_plan s k) s.disks b → MakesAccesses (Read ∷ []) s.disks b
+    → home s.book k ≡ Some slot → class_in s slot.group ≢ Free → CarriesOut (get_plan s k) s.disks b
+    → MakesAccesses (Read ∷ []) s.disks b
 get_made s b k slot usable none placed used carried =
     let c = class_in s slot.group in
     let m = members_of s slot.group in
@@ -158,12 +173,16 @@ mirrored_made a b m i usable none carried =
 
 pub parity_made : (a b : SetState) (m : Members) (i : ℕ) → WritesUsable Parity a m i → NoneFaults a b
     → CarriesOut (slot_write Parity a.geometry m i) a b → MakesAccesses (Read ∷ Read ∷ Write ∷ Write ∷ []) a b
-parity_made a b m i usable none carried = makes_at (slot_write Parity a.geometry m i) parity_kinds a b none carried (stripe_kinds a m i usable)
+parity_made a b m i usable none carried =
+    makes_at (slot_write Parity a.geometry m i) parity_kinds a b none carried (stripe_kinds a m i usable)
 
 -- a move, to a slot of this class
-move_made : (s : StoreState) (b : SetState) (k : Key) (from to : Slot) (c : Class) (kinds : List AccessKind) → ReadsUsableOf s from
-    → kinds_at s.disks.health (slot_write c s.disks.geometry (members_of s to.group) to.slot) ≡ kinds → NoneFaults s.disks b
-    → home s.book k ≡ Some from → class_in s from.group ≢ Free → class_in s to.group ≡ c → CarriesOut (move_plan s k to) s.disks b
+move_made : (s : StoreState) (b : SetState) (k : Key) (from to : Slot) (c : Class) (kinds : List AccessKind)
+    → ReadsUsableOf s from
+    → kinds_at s.disks.health (slot_write c s.disks.geometry (members_of s to.group) to.slot) ≡ kinds
+    → NoneFaults s.disks b
+    → home s.book k ≡ Some from → class_in s from.group ≢ Free → class_in s to.group ≡ c
+    → CarriesOut (move_plan s k to) s.disks b
     → MakesAccesses (Read ∷ kinds) s.disks b
 move_made s b k from to c kinds usable are none placed used is carried =
     let d = class_in s from.group in
@@ -176,16 +195,21 @@ move_made s b k from to c kinds usable are none placed used is carried =
     let Q : Class → Type 0 = λ x. CarriesOut (both_of read (slot_write x g n to.slot)) s.disks b in
     makes_at (both_of read write) (Read ∷ kinds) s.disks b none (subst Q is (subst P placed carried))
     (both_kinds read write s.disks.health
-    ∙ ap (λ l. l ++ kinds_at s.disks.health write) (read_kinds d s.disks m from.slot used usable) ∙ ap (λ l. Read ∷ l) are)
+    ∙ ap (λ l. l ++ kinds_at s.disks.health write) (read_kinds d s.disks m from.slot used usable)
+    ∙ ap (λ l. Read ∷ l) are)
 
-pub moved_to_mirrored : (s : StoreState) (b : SetState) (k : Key) (from to : Slot) → ReadsUsableOf s from → WritesUsableAs Mirrored s to
+pub moved_to_mirrored : (s : StoreState) (b : SetState) (k : Key) (from to : Slot) → ReadsUsableOf s from
+    → WritesUsableAs Mirrored s to
     → NoneFaults s.disks b → home s.book k ≡ Some from → class_in s from.group ≢ Free → class_in s to.group ≡ Mirrored
     → CarriesOut (move_plan s k to) s.disks b → MakesAccesses (Read ∷ Write ∷ Write ∷ []) s.disks b
 moved_to_mirrored s b k from to reads writes none placed used is carried =
-    move_made s b k from to Mirrored (Write ∷ Write ∷ []) reads (mirrored_kinds s.disks (members_of s to.group) to.slot writes) none placed used is carried
+    move_made s b k from to Mirrored (Write ∷ Write ∷ []) reads
+    (mirrored_kinds s.disks (members_of s to.group) to.slot writes) none placed used is carried
 
-pub moved_to_parity : (s : StoreState) (b : SetState) (k : Key) (from to : Slot) → ReadsUsableOf s from → WritesUsableAs Parity s to
+pub moved_to_parity : (s : StoreState) (b : SetState) (k : Key) (from to : Slot) → ReadsUsableOf s from
+    → WritesUsableAs Parity s to
     → NoneFaults s.disks b → home s.book k ≡ Some from → class_in s from.group ≢ Free → class_in s to.group ≡ Parity
     → CarriesOut (move_plan s k to) s.disks b → MakesAccesses (Read ∷ Read ∷ Read ∷ Write ∷ Write ∷ []) s.disks b
 moved_to_parity s b k from to reads writes none placed used is carried =
-    move_made s b k from to Parity parity_kinds reads (stripe_kinds s.disks (members_of s to.group) to.slot writes) none placed used is carried
+    move_made s b k from to Parity parity_kinds reads (stripe_kinds s.disks (members_of s to.group) to.slot writes) none
+    placed used is carried

@@ -1,5 +1,6 @@
 -- Which case of a put applies is decided by searches of the tables: one always does.
-use Rattle.std.proofs.Common.{◌≡◌, ◌⊎◌, inl, inr, ℕ, zero, suc, ◌+◌, ◌<◌, cond, List, [], ◌∷◌, length, count_by, Option, None, Some, refl, sym, subst, arith}
+use Rattle.std.proofs.Common.{◌≡◌, ◌⊎◌, inl, inr, ℕ, zero, suc, ◌+◌, ◌<◌, cond, List, [], ◌∷◌, length, count_by, Option}
+use Rattle.std.proofs.Common.{None, Some, refl, sym, subst, arith}
 use Rattle.std.proofs.lemmas.Bool.{cases_lt}
 use Rattle.std.proofs.lemmas.Option.{none-some}
 use Rattle.std.proofs.lemmas.List.Sums.{sum_by-cons}
@@ -66,7 +67,8 @@ search_slots t c g = search_below (IsEmptySlot t g) (λ i. is_none (key_at t (sl
 has_hole : (t : Tables) (c : Class) (g : ℕ) → HasHoleIn t c g ⊎ (HasHoleIn t c g → ⊥)
 has_hole t c g = by (same_class (class_of t g) c) (search_slots t c g)
   where
-    by : (class_of t g ≡ c) ⊎ (class_of t g ≡ c → ⊥) → Search (IsEmptySlot t g) (slots_of t.geometry c) → HasHoleIn t c g ⊎ (HasHoleIn t c g → ⊥)
+    by : (class_of t g ≡ c) ⊎ (class_of t g ≡ c → ⊥) → Search (IsEmptySlot t g) (slots_of t.geometry c)
+        → HasHoleIn t c g ⊎ (HasHoleIn t c g → ⊥)
     by (inr not) slots = inr (λ has. not has.0)
     by (inl is) (inl found) = inl (is, (found.0, found.1.below, found.1.here))
     by (inl is) (inr none) = inr (λ has. none has.1.0 has.1.1 has.1.2)
@@ -89,7 +91,8 @@ lowest_hole t c = by (search_below (HasHoleIn t c) (has_hole t c) (length t.grou
             | inr ge ↦
                 let same : r.group ≡ g = omega arith in
                 elim (cases_lt r.slot found.0) [
-                  | inl before ↦ absurd (found.1.least r.slot before (subst (λ n. IsEmptySlot t n r.slot) same hole.empty))
+                  | inl before ↦
+                      absurd (found.1.least r.slot before (subst (λ n. IsEmptySlot t n r.slot) same hole.empty))
                   | inr after ↦ inr (sym same, after)
                 ]
           ]
@@ -99,13 +102,15 @@ lowest_hole t c = by (search_below (HasHoleIn t c) (has_hole t c) (length t.grou
 
     by : Search (HasHoleIn t c) (length t.groups) → ((s : Slot) × IsLowestHole t c s) ⊎ HasNoHole t c
     by (inl found) = at found.0 found.1 (search_slots t c found.0)
-    by (inr none) = inr (record { none = λ s hole. none s.group hole.group (hole.class, (s.slot, hole.slot, hole.empty)) })
+    by (inr none) =
+        inr (record { none = λ s hole. none s.group hole.group (hole.class, (s.slot, hole.slot, hole.empty)) })
 
 none_free : (gs : List GroupState) → ((g : ℕ) → g < length gs → (group_in gs g).class ≡ Free → ⊥)
     → count_by (λ (x : GroupState). is_free x.class) gs ≡ 0
 none_free [] none = refl
 none_free (x ∷ gs) none =
-    let head : count_by (λ (y : GroupState). is_free y.class) (x ∷ gs) ≡ cond {A = ℕ} (is_free x.class) 1 0 + count_by (λ (y : GroupState). is_free y.class) gs =
+    let head : count_by (λ (y : GroupState). is_free y.class) (x ∷ gs)
+    ≡ cond {A = ℕ} (is_free x.class) 1 0 + count_by (λ (y : GroupState). is_free y.class) gs =
     sum_by-cons (λ (y : GroupState). cond {A = ℕ} (is_free y.class) 1 0) x gs in
     let rest = none_free gs (λ g lt is. none (suc g) (omega arith) is) in
     let first = not_free x.class (λ is. none 0 (omega arith) is) in
@@ -118,14 +123,16 @@ none_free (x ∷ gs) none =
 
 -- the lowest free group, where one is free
 pub lowest_free : (t : Tables) → 0 < free_groups t → (g : ℕ) × IsLowestFree t g
-lowest_free t some = by (search_below (λ g. class_of t g ≡ Free) (λ g. same_class (class_of t g) Free) (length t.groups))
+lowest_free t some =
+    by (search_below (λ g. class_of t g ≡ Free) (λ g. same_class (class_of t g) Free) (length t.groups))
   where
     by : Search (λ g. class_of t g ≡ Free) (length t.groups) → (g : ℕ) × IsLowestFree t g
     by (inl found) = (found.0, record { there = found.1.below; free = found.1.here; least = found.1.least })
     by (inr none) = absurd (let zero_free = none_free t.groups none in omega arith)
 
 -- the lowest mirrored group, which is full, where a put needs a squeeze
-pub full_mirrored : (t : Tables) → TablesAgree t → HasUnplacedBlock t → HasNoHole t Mirrored → HasNoHole t Parity → free_groups t ≡ 1
+pub full_mirrored : (t : Tables) → TablesAgree t → HasUnplacedBlock t → HasNoHole t Mirrored → HasNoHole t Parity
+    → free_groups t ≡ 1
     → (g : ℕ) × IsFullMirrored t g
 full_mirrored t ok waiting mirrored parity one =
     by (search_below (λ g. class_of t g ≡ Mirrored) (λ g. same_class (class_of t g) Mirrored) (length t.groups))

@@ -23,7 +23,8 @@ use Rattle.ar_store.specs.Calls.{IsAccessed}
 use Rattle.ar_store.specs.Placing.{IsVacant, SameUnits}
 use Rattle.ar_store.proofs.Standing.{holds_same, hole_stand, others_stand, home_apart, stands_held, was_sound}
 use Rattle.ar_store.proofs.Spaces.{slots_read}
-use Rattle.ar_store.proofs.Changes.{space_moved, others_moved, block_moved, units_assigned, space_stamped, all_stamped, others_stamped, units_stamped, units_then, block_then}
+use Rattle.ar_store.proofs.Changes.{space_moved, others_moved, block_moved, units_assigned, space_stamped, all_stamped}
+use Rattle.ar_store.proofs.Changes.{others_stamped, units_stamped, units_then, block_then}
 
 -- no access
 pub accessed_refl : (s : SetState) → IsAccessed s s
@@ -42,12 +43,14 @@ pub accessed_work : (these : Place → Type 0) (a b : SetState) → WorksOn thes
 accessed_work these a b works = record { follows = works.follows; loose = works.loose; lost = works.lost }
 
 -- the read of one
-pub accessed_read : (place : Place) (row : ℕ) (answered : Bool) (a b : SetState) → Attempts (read_at place row) answered a b → IsAccessed a b
+pub accessed_read : (place : Place) (row : ℕ) (answered : Bool) (a b : SetState)
+    → Attempts (read_at place row) answered a b → IsAccessed a b
 accessed_read place row answered a b made = accessed_work (IsPlace place) a b (read_works place row answered a b made)
 
 -- what stands, over two calls
 pub stand_then : (a b c : StoreState) → Follows b.disks c.disks → AllStand a b → AllStand b c → AllStand a c
-stand_then a b c bc first second = record { blocks = λ sound k. second.blocks sound k ∙ first.blocks (was_sound b.disks c.disks bc sound) k }
+stand_then a b c bc first second =
+    record { blocks = λ sound k. second.blocks sound k ∙ first.blocks (was_sound b.disks c.disks bc sound) k }
 
 -- A block was written to a hole, which is its home from then on.
 pub record IsFilled (a b : SetState) (t u : Tables) (k : Key) (block : List ℕ) : Type 0 where
@@ -57,11 +60,14 @@ pub record IsFilled (a b : SetState) (t u : Tables) (k : Key) (block : List ℕ)
   pub here : b.health ≢ Broken → stands (store_of b u) k ≡ block
   pub others : OthersStand (store_of a t) (store_of b u) k
 
-pub filled : (a b : SetState) (t u : Tables) (k : Key) (s : Slot) (block : List ℕ) → IsSpace (store_of a t) → IsSpace (store_of b t) → HasBlock t k → IsVacant t s
-    → length block ≡ block_len_of a.geometry → IsAccessed a b → OtherSlotsHold (store_of a t) (store_of b t) s → SlotHolds (store_of b t) s block
+pub filled : (a b : SetState) (t u : Tables) (k : Key) (s : Slot) (block : List ℕ) → IsSpace (store_of a t)
+    → IsSpace (store_of b t) → HasBlock t k → IsVacant t s
+    → length block ≡ block_len_of a.geometry → IsAccessed a b → OtherSlotsHold (store_of a t) (store_of b t) s
+    → SlotHolds (store_of b t) s block
     → u ≡ assigned t k s → IsFilled a b t u k block
 filled a b t u k s block space_a space_b has vacant len access slots here is =
-    let held : HoldsBlock (store_of b t) s = record { block = block; len = len ∙ ap block_len_of (sym access.follows.geometry); holds = here } in
+    let held : HoldsBlock (store_of b t) s =
+    record { block = block; len = len ∙ ap block_len_of (sym access.follows.geometry); holds = here } in
     let after = space_moved b t k s space_b has vacant held in
     subst (λ (x : Tables). IsFilled a b t x k block) (sym is) (record {
       space = after;
@@ -76,7 +82,8 @@ filled a b t u k s block space_a space_b has vacant len access slots here is =
     })
 
 -- and the other slots of the hole's group hold what they held
-pub beside_filled : (a b : SetState) (t u : Tables) (k : Key) (s : Slot) → IsSpace (store_of a t) → HasBlock t k → IsVacant t s
+pub beside_filled : (a b : SetState) (t u : Tables) (k : Key) (s : Slot) → IsSpace (store_of a t) → HasBlock t k
+    → IsVacant t s
     → OtherSlotsHold (store_of a t) (store_of b t) s → u ≡ assigned t k s → BesideHold (store_of a t) (store_of b u) s
 beside_filled a b t u k s space has vacant slots is =
     subst (λ (x : Tables). BesideHold (store_of a t) (store_of b x) s) (sym is) (record {
@@ -91,18 +98,22 @@ pub beside_same : (a b : StoreState) (s : Slot) → OtherSlotsHold a b s → Bes
 beside_same a b s slots = record { slots = λ slot block there same ne holds. slots.slots slot block there ne holds }
 
 -- So it is after a read before the write,
-pub beside_then : (a b : SetState) (t u : Tables) (c : StoreState) (s : Slot) → u ≡ t → Follows a b → Keeps Anywhere a b → BesideHold (store_of b u) c s → BesideHold (store_of a t) c s
+pub beside_then : (a b : SetState) (t u : Tables) (c : StoreState) (s : Slot) → u ≡ t → Follows a b → Keeps Anywhere a b
+    → BesideHold (store_of b u) c s → BesideHold (store_of a t) c s
 beside_then a b t u c s is ab keeps beside = record {
   slots = λ slot block there same ne holds.
       beside.slots slot block (subst (λ (x : Tables). HasSlot x slot) (sym is) there) same ne
-      (subst (λ (x : Tables). SlotHolds (store_of b x) slot block) (sym is) ((slots_read a b t ab keeps).slots slot block there holds));
+      (subst (λ (x : Tables). SlotHolds (store_of b x) slot block) (sym is)
+      ((slots_read a b t ab keeps).slots slot block there holds));
 }
 
 -- and after a read alone.
-pub beside_read : (a b : SetState) (t u : Tables) (s : Slot) → u ≡ t → Follows a b → Keeps Anywhere a b → BesideHold (store_of a t) (store_of b u) s
+pub beside_read : (a b : SetState) (t u : Tables) (s : Slot) → u ≡ t → Follows a b → Keeps Anywhere a b
+    → BesideHold (store_of a t) (store_of b u) s
 beside_read a b t u s is ab keeps = record {
   slots = λ slot block there same ne holds.
-      subst (λ (x : Tables). SlotHolds (store_of b x) slot block) (sym is) ((slots_read a b t ab keeps).slots slot block there holds);
+      subst (λ (x : Tables). SlotHolds (store_of b x) slot block) (sym is)
+      ((slots_read a b t ab keeps).slots slot block there holds);
 }
 
 -- A block was written to its home.
@@ -110,8 +121,10 @@ pub record IsRewritten (a b : SetState) (t : Tables) (k : Key) (block : List ℕ
   pub here : b.health ≢ Broken → stands (store_of b t) k ≡ block
   pub others : OthersStand (store_of a t) (store_of b t) k
 
-pub rewritten : (a b : SetState) (t : Tables) (k : Key) (s : Slot) (block : List ℕ) → IsSpace (store_of a t) → IsSpace (store_of b t) → home t k ≡ Some s
-    → Follows a b → OtherSlotsHold (store_of a t) (store_of b t) s → SlotHolds (store_of b t) s block → IsRewritten a b t k block
+pub rewritten : (a b : SetState) (t : Tables) (k : Key) (s : Slot) (block : List ℕ) → IsSpace (store_of a t)
+    → IsSpace (store_of b t) → home t k ≡ Some s
+    → Follows a b → OtherSlotsHold (store_of a t) (store_of b t) s → SlotHolds (store_of b t) s block
+    → IsRewritten a b t k block
 rewritten a b t k s block space_a space_b is ab slots here = record {
   here = λ sound. stands_held (store_of b t) k s block space_b sound is here;
   others = others_stand a b t k s space_a space_b ab slots (home_apart t a k s space_a is);
@@ -124,7 +137,8 @@ pub record IsStamped (a : StoreState) (b : SetState) (t u v : Tables) (k : Key) 
   pub here : stands (store_of b v) k ≡ block
   pub others : OthersStand a (store_of b v) k
 
-pub stamped_then : (a : StoreState) (b : SetState) (t u v : Tables) (k : Key) (block : List ℕ) → IsSpace (store_of b u) → HasBlock t k → SameUnits t u
+pub stamped_then : (a : StoreState) (b : SetState) (t u v : Tables) (k : Key) (block : List ℕ) → IsSpace (store_of b u)
+    → HasBlock t k → SameUnits t u
     → stands (store_of b u) k ≡ block → OthersStand a (store_of b u) k → v ≡ stamped u k → IsStamped a b t u v k block
 stamped_then a b t u v k block space has units here others is =
     let has_u = block_then t u k units has in
@@ -141,7 +155,8 @@ none_stands a b k broken = record { blocks = λ sound. absurd (sound broken) }
 
 -- The block that was read from a block's home was written to the hole: every block stands as it did.
 pub moved_stand : (a b c : StoreState) (k : Key) (from : Slot) (bytes : List ℕ) → IsSpace a → home a.book k ≡ Some from
-    → Follows a.disks b.disks → Follows b.disks c.disks → AllStand a b → ((block : List ℕ) → SlotHolds a from block → bytes ≡ block)
+    → Follows a.disks b.disks → Follows b.disks c.disks → AllStand a b
+    → ((block : List ℕ) → SlotHolds a from block → bytes ≡ block)
     → (c.disks.health ≢ Broken → stands c k ≡ bytes) → OthersStand b c k → AllStand a c
 moved_stand a b c k from bytes space is ab bc first read here others = record {
   blocks = λ sound j.
@@ -150,7 +165,8 @@ moved_stand a b c k from bytes space is ab bc first read here others = record {
             (let P : Key → Type 0 = λ x. stands c x ≡ stands a x in
             let held = space.named from k (home_key a.book space.tables k from is) in
             let sound_a = was_sound a.disks b.disks ab (was_sound b.disks c.disks bc sound) in
-            subst P (sym same) (here sound ∙ read held.block held.holds ∙ sym (stands_held a k from held.block space sound_a is held.holds)))
+            subst P (sym same) (here sound ∙ read held.block held.holds
+            ∙ sym (stands_held a k from held.block space sound_a is held.holds)))
         | inr ne ↦ others.blocks sound j ne ∙ first.blocks (was_sound b.disks c.disks bc sound) j
       ];
 }

@@ -1,5 +1,7 @@
 -- Disks of which the last extents are the loose ones, and how many each has.
-use Rattle.std.proofs.Common.{◌≡◌, ◌≢◌, ◌⊎◌, inl, inr, ℕ, zero, suc, ◌+◌, ◌-◌, ◌<◌, ◌≤◌, Bool, true, false, List, [], ◌∷◌, length, get_or, set, replicate, Some, position, count_by, cond, refl, sym, ap, subst, ◌∙◌, arith}
+use Rattle.std.proofs.Common.{◌≡◌, ◌≢◌, ◌⊎◌, inl, inr, ℕ, zero, suc, ◌+◌, ◌-◌, ◌<◌, ◌≤◌, Bool, true, false, List, []}
+use Rattle.std.proofs.Common.{◌∷◌, length, get_or, set, replicate, Some, position, count_by, cond, refl, sym, ap, subst}
+use Rattle.std.proofs.Common.{◌∙◌, arith}
 use Rattle.std.specs.Prelude.{slice_index}
 use Rattle.std.specs.List.{position_or_len}
 use Rattle.std.proofs.lemmas.Bool.{cases_lt}
@@ -77,13 +79,15 @@ few_start n e d = elim (cases_lt d n) [
 pub lined_start : (g : Geometry) (n e : ℕ) (s : SetState) → IsAllLoose g n e s → IsLined s (replicate n e) e
 lined_start g n e s all = record {
   disks = length-replicate n e ∙ sym all.disks;
-  tables = length-replicate n e ∙ sym (length-replicate n (replicate e true)) ∙ sym (ap (λ (t : List (List Bool)). length t) all.loose);
+  tables = length-replicate n e ∙ sym (length-replicate n (replicate e true))
+      ∙ sym (ap (λ (t : List (List Bool)). length t) all.loose);
   few = few_start n e;
   marks = λ d lt.
       let inside : d < n = omega (arith, length-replicate n e) in
       let count : get_or (replicate n e) d 0 ≡ e = get_or-replicate n d e 0 inside in
       let taken : e - get_or (replicate n e) d 0 ≡ 0 = omega arith in
-      ap (λ (t : List (List Bool)). get_or t d []) all.loose ∙ get_or-replicate n d (replicate e true) [] inside ∙ sym (line_loose e)
+      ap (λ (t : List (List Bool)). get_or t d []) all.loose ∙ get_or-replicate n d (replicate e true) [] inside
+      ∙ sym (line_loose e)
       ∙ sym (ap (λ k. line k (get_or (replicate n e) d 0)) taken ∙ ap (λ c. line 0 c) count);
 }
 
@@ -119,14 +123,16 @@ lined_taken s counts extents d e lined inside some is =
       tables = size ∙ lined.tables ∙ sym (length-set s.loose d (set (marks_of s d) e false));
       few = λ x. let le = one_le counts d x in let few = lined.few x in omega arith;
       marks = λ x lt. elim (eqb_tells x d) [
-        | inl q ↦ subst (λ y. marks_of (taken s d (Some e)) y ≡ line (extents - get_or (one_fewer counts d) y 0) (get_or (one_fewer counts d) y 0)) (sym q.1) here
+        | inl q ↦ subst (λ y. marks_of (taken s d (Some e)) y
+            ≡ line (extents - get_or (one_fewer counts d) y 0) (get_or (one_fewer counts d) y 0)) (sym q.1) here
         | inr q ↦
             get_or-set_other s.loose d x (set (marks_of s d) e false) [] q.1 ∙ lined.marks x (omega arith)
             ∙ sym (ap (λ c. line (extents - c) c) (one_other counts d x q.1))
       ];
     }
   where
-    here : marks_of (taken s d (Some e)) d ≡ line (extents - get_or (one_fewer counts d) d 0) (get_or (one_fewer counts d) d 0)
+    here : marks_of (taken s d (Some e)) d
+        ≡ line (extents - get_or (one_fewer counts d) d 0) (get_or (one_fewer counts d) d 0)
     here =
         let c = get_or counts d 0 in
         let few = lined.few d in
@@ -143,14 +149,16 @@ lined_taken s counts extents d e lined inside some is =
 pub lined_count : (s : SetState) (counts : List ℕ) (extents d : ℕ) → IsLined s counts extents → d < length counts
     → loose_count s d ≡ get_or counts d 0
 lined_count s counts extents d lined inside =
-    ap (λ (row : List Bool). count_by (λ mark. mark) row) (lined.marks d inside) ∙ line_count (extents - get_or counts d 0) (get_or counts d 0)
+    ap (λ (row : List Bool). count_by (λ mark. mark) row) (lined.marks d inside)
+    ∙ line_count (extents - get_or counts d 0) (get_or counts d 0)
 
 -- the lowest loose one is the first of so many at the disk's end
 pub lined_lowest : (s : SetState) (counts : List ℕ) (extents d : ℕ) → IsLined s counts extents → d < length counts
     → 0 < get_or counts d 0
     → lowest_loose s d ≡ Some (extents - get_or counts d 0)
 lined_lowest s counts extents d lined inside some =
-    ap (λ (row : List Bool). position (λ mark. mark) row) (lined.marks d inside) ∙ line_lowest (extents - get_or counts d 0) (get_or counts d 0) some
+    ap (λ (row : List Bool). position (λ mark. mark) row) (lined.marks d inside)
+    ∙ line_lowest (extents - get_or counts d 0) (get_or counts d 0) some
 
 -- what holds of each of the four member positions
 pub four_cases : (P : ℕ → Type 0) → P 0 → P 1 → P 2 → P 3 → (i : ℕ) → i < 4 → P i
@@ -176,8 +184,10 @@ fullest_lined s counts extents f lined four =
           (lined_lowest s counts extents f.fourth lined picked.there.3 picked.some.3);
       fullest = λ x i lt range other.
           let inside : x < length counts = (let same = lined.disks in omega arith) in
-          let all = picked.first x inside (other 0 (omega arith)) (other 1 (omega arith)) (other 2 (omega arith)) (other 3 (omega arith)) in
-          four_cases (λ j. (loose_count s x < loose_count s (member m j).disk) ⊎ ((loose_count s x ≡ loose_count s (member m j).disk) × ((member m j).disk < x)))
+          let all = picked.first x inside (other 0 (omega arith)) (other 1 (omega arith)) (other 2 (omega arith))
+          (other 3 (omega arith)) in
+          four_cases (λ j. (loose_count s x < loose_count s (member m j).disk)
+          ⊎ ((loose_count s x ≡ loose_count s (member m j).disk) × ((member m j).disk < x)))
           (before x f.first inside picked.there.0 all.0)
           (before x f.second inside picked.there.1 all.1)
           (before x f.third inside picked.there.2 all.2)
@@ -188,7 +198,8 @@ fullest_lined s counts extents f lined four =
     m : Members
     m = next_members counts extents f
 
-    before : (x d : ℕ) → x < length counts → d < length counts → (get_or counts x 0 < get_or counts d 0) ⊎ ((get_or counts x 0 ≡ get_or counts d 0) × (d < x))
+    before : (x d : ℕ) → x < length counts → d < length counts
+        → (get_or counts x 0 < get_or counts d 0) ⊎ ((get_or counts x 0 ≡ get_or counts d 0) × (d < x))
         → (loose_count s x < loose_count s d) ⊎ ((loose_count s x ≡ loose_count s d) × (d < x))
     before x d there_x there_d h =
         let of_x = lined_count s counts extents x lined there_x in
@@ -196,7 +207,8 @@ fullest_lined s counts extents f lined four =
         elim h [ inl lt ↦ inl (omega arith) | inr same ↦ inr (of_x ∙ same.0 ∙ sym of_d, same.1) ]
 
 -- and few disks have loose extents where the counts say so
-pub few_lined : (s : SetState) (counts : List ℕ) (extents : ℕ) → IsLined s counts extents → HasFewCounts counts → HasFewLoose s
+pub few_lined : (s : SetState) (counts : List ℕ) (extents : ℕ) → IsLined s counts extents → HasFewCounts counts
+    → HasFewLoose s
 few_lined s counts extents lined few = record {
   few = λ a b c d ab bc cd there sa sb sc sd.
       let same = lined.disks in
@@ -232,7 +244,8 @@ lined_without s counts extents f lined four =
     let c : get_or two f.third 0 ≡ get_or counts f.third 0 =
     one_other one f.second f.third (omega arith) ∙ one_other counts f.first f.third (omega arith) in
     let d : get_or three f.fourth 0 ≡ get_or counts f.fourth 0 =
-    one_other two f.third f.fourth (omega arith) ∙ one_other one f.second f.fourth (omega arith) ∙ one_other counts f.first f.fourth (omega arith) in
+    one_other two f.third f.fourth (omega arith) ∙ one_other one f.second f.fourth (omega arith)
+    ∙ one_other counts f.first f.fourth (omega arith) in
     let first = lined_taken s counts extents f.first (extents - get_or counts f.first 0) lined there.0 some.0 refl in
     let s1 = taken s f.first (Some (extents - get_or counts f.first 0)) in
     let s2 = taken s1 f.second (Some (extents - get_or counts f.second 0)) in
@@ -243,6 +256,10 @@ lined_without s counts extents f lined four =
     let some_1 : 0 < get_or one f.second 0 = (let h = some.1 in omega arith) in
     let some_2 : 0 < get_or two f.third 0 = (let h = some.2 in omega arith) in
     let some_3 : 0 < get_or three f.fourth 0 = (let h = some.3 in omega arith) in
-    let second = lined_taken s1 one extents f.second (extents - get_or counts f.second 0) first in_1 some_1 (ap (λ n. extents - n) (sym b)) in
-    let third = lined_taken s2 two extents f.third (extents - get_or counts f.third 0) second in_2 some_2 (ap (λ n. extents - n) (sym c)) in
-    lined_taken s3 three extents f.fourth (extents - get_or counts f.fourth 0) third in_3 some_3 (ap (λ n. extents - n) (sym d))
+    let second =
+    lined_taken s1 one extents f.second (extents - get_or counts f.second 0) first in_1 some_1
+    (ap (λ n. extents - n) (sym b)) in
+    let third = lined_taken s2 two extents f.third (extents - get_or counts f.third 0) second in_2 some_2
+    (ap (λ n. extents - n) (sym c)) in
+    lined_taken s3 three extents f.fourth (extents - get_or counts f.fourth 0) third in_3 some_3
+    (ap (λ n. extents - n) (sym d))

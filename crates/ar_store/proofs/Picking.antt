@@ -1,5 +1,6 @@
 -- How the disks with most loose extents are found.
-use Rattle.std.proofs.Common.{◌≡◌, ◌≢◌, ◌⊎◌, inl, inr, ℕ, ◌+◌, ◌<◌, ◌≤◌, Bool, true, false, eqb, cond, List, [], ◌∷◌, length, Option, None, Some, refl, sym, ap, subst, ◌∙◌, true≢false, ◌||◌, eq-eqb, arith}
+use Rattle.std.proofs.Common.{◌≡◌, ◌≢◌, ◌⊎◌, inl, inr, ℕ, ◌+◌, ◌<◌, ◌≤◌, Bool, true, false, eqb, cond, List, [], ◌∷◌}
+use Rattle.std.proofs.Common.{length, Option, None, Some, refl, sym, ap, subst, ◌∙◌, true≢false, ◌||◌, eq-eqb, arith}
 use Rattle.std.specs.Prelude.{slice_index, slice_index_or, sum_by}
 use Rattle.std.specs.List.Sorted.{IsPermutation}
 use Rattle.std.specs.List.{list_any}
@@ -33,7 +34,8 @@ fullest_same counts but n (Some d) old zero = record {
   most = λ x lt other ne. elim (below_or_at x n lt) [
     | inl h ↦ old.most x h other ne
     | inr e ↦
-        let none : slice_index counts x ≡ 0 = ap (λ y. slice_index counts y) e ∙ zero (subst (λ y. IsOther but y) e other) in
+        let none : slice_index counts x ≡ 0 =
+        ap (λ y. slice_index counts y) e ∙ zero (subst (λ y. IsOther but y) e other) in
         let some = old.some in
         inl (omega arith)
   ];
@@ -41,7 +43,8 @@ fullest_same counts but n (Some d) old zero = record {
 }
 
 -- the first disk with a loose extent
-pub fullest_first : (counts but : List ℕ) (n : ℕ) → IsFullest counts but n None → IsOther but n → 0 < slice_index counts n
+pub fullest_first : (counts but : List ℕ) (n : ℕ) → IsFullest counts but n None → IsOther but n
+    → 0 < slice_index counts n
     → IsFullest counts but (n + 1) (Some n)
 fullest_first counts but n old other some = record {
   below = omega arith;
@@ -63,7 +66,8 @@ fullest_next counts but n d old other more = record {
   other = other;
   most = λ x lt is ne. elim (below_or_at x n lt) [
     | inl h ↦ elim (eqb_tells x d) [
-      | inl e ↦ (let same : slice_index counts x ≡ slice_index counts d = ap (λ y. slice_index counts y) e.1 in inl (omega arith))
+      | inl e ↦ (let same : slice_index counts x ≡ slice_index counts d = ap (λ y. slice_index counts y) e.1 in
+          inl (omega arith))
       | inr q ↦ elim (old.most x h is q.1) [
         | inl less ↦ inl (omega arith)
         | inr same ↦ (let eq = same.0 in inl (omega arith))
@@ -114,7 +118,8 @@ other_more a but x ne is = elim (eqb_tells a x) [
 -- four disks that were found one after another
 pub four_picked : (counts : List ℕ) (a b c d : ℕ) → IsFullest counts [] (length counts) (Some a)
     → IsFullest counts (a ∷ []) (length counts) (Some b)
-    → IsFullest counts (a ∷ b ∷ []) (length counts) (Some c) → IsFullest counts (a ∷ b ∷ c ∷ []) (length counts) (Some d)
+    → IsFullest counts (a ∷ b ∷ []) (length counts) (Some c)
+    → IsFullest counts (a ∷ b ∷ c ∷ []) (length counts) (Some d)
     → ArePicked counts a b c d
 four_picked counts a b c d first second third fourth =
     let b_a = other_head a [] b second.other in
@@ -124,7 +129,14 @@ four_picked counts a b c d first second third fourth =
     let d_b = other_head b (c ∷ []) d (other_tail a (b ∷ c ∷ []) d fourth.other) in
     let d_c = other_head c [] d (other_tail b (c ∷ []) d (other_tail a (b ∷ c ∷ []) d fourth.other)) in
     record {
-      apart = (λ e. b_a (sym e), λ e. c_a (sym e), λ e. d_a (sym e), λ e. c_b (sym e), λ e. d_b (sym e), λ e. d_c (sym e));
+      apart = (
+        λ e. b_a (sym e),
+        λ e. c_a (sym e),
+        λ e. d_a (sym e),
+        λ e. c_b (sym e),
+        λ e. d_b (sym e),
+        λ e. d_c (sym e),
+      );
       there = (first.below, second.below, third.below, fourth.below);
       some = (first.some, second.some, third.some, fourth.some);
       first = λ x lt xa xb xc xd.
@@ -151,14 +163,16 @@ module _ (counts : List ℕ) (a b c d p q r s : ℕ) (same : IsPermutation (a �
   -- what holds of the four holds in any order
   each : (P : ℕ → Type 0) → P a → P b → P c → P d → P p × P q × P r × P s
   each P x y z w =
-      let all = recursion_from_All P (p ∷ q ∷ r ∷ s ∷ []) (All-permutation P (a ∷ b ∷ c ∷ d ∷ []) (p ∷ q ∷ r ∷ s ∷ []) same
+      let all = recursion_from_All P (p ∷ q ∷ r ∷ s ∷ [])
+      (All-permutation P (a ∷ b ∷ c ∷ d ∷ []) (p ∷ q ∷ r ∷ s ∷ []) same
       (All-from_recursion P (a ∷ b ∷ c ∷ d ∷ []) (x, (y, (z, (w, tt)))))) in
       (all.0, all.1.0, all.1.1.0, all.1.1.1.0)
 
   back : (P : ℕ → Type 0) → P p → P q → P r → P s → P a × P b × P c × P d
   back P x y z w =
       let all = recursion_from_All P (a ∷ b ∷ c ∷ d ∷ []) (All-permutation P (p ∷ q ∷ r ∷ s ∷ []) (a ∷ b ∷ c ∷ d ∷ [])
-      (IsPermutation-sym (a ∷ b ∷ c ∷ d ∷ []) (p ∷ q ∷ r ∷ s ∷ []) same) (All-from_recursion P (p ∷ q ∷ r ∷ s ∷ []) (x, (y, (z, (w, tt)))))) in
+      (IsPermutation-sym (a ∷ b ∷ c ∷ d ∷ []) (p ∷ q ∷ r ∷ s ∷ []) same)
+      (All-from_recursion P (p ∷ q ∷ r ∷ s ∷ []) (x, (y, (z, (w, tt)))))) in
       (all.0, all.1.0, all.1.1.0, all.1.1.1.0)
 
   -- and they are apart
@@ -199,7 +213,8 @@ module _ (counts : List ℕ) (a b c d p q r s : ℕ) (same : IsPermutation (a �
   }
 
 -- in any order they are such disks
-pub picked_in_order : (counts : List ℕ) (a b c d : ℕ) (ys : List ℕ) → length ys ≡ 4 → IsPermutation (a ∷ b ∷ c ∷ d ∷ []) ys → ArePicked counts a b c d
+pub picked_in_order : (counts : List ℕ) (a b c d : ℕ) (ys : List ℕ) → length ys ≡ 4
+    → IsPermutation (a ∷ b ∷ c ∷ d ∷ []) ys → ArePicked counts a b c d
     → ArePicked counts (slice_index_or ys 0 0) (slice_index_or ys 1 0) (slice_index_or ys 2 0) (slice_index_or ys 3 0)
 picked_in_order counts a b c d [] long same is = absurd (omega arith)
 picked_in_order counts a b c d (p ∷ []) long same is = absurd (omega arith)

@@ -1,5 +1,7 @@
 -- How the groups of a store are planned, and how their extents are taken.
-use Rattle.std.proofs.Common.{◌≡◌, ◌≢◌, inl, inr, ℕ, ◌+◌, ◌-◌, ◌<◌, ◌≤◌, ◌||◌, ◌&&◌, ◌*◌, Bool, false, eqb, List, [], ◌∷◌, ◌++◌, length, get_or, replicate, sum_by, Result, IfOk, refl, sym, ap, subst, ◌∙◌, arith}
+use Rattle.std.proofs.Common.{◌≡◌, ◌≢◌, inl, inr, ℕ, ◌+◌, ◌-◌, ◌<◌, ◌≤◌, ◌||◌, ◌&&◌, ◌*◌, Bool, false, eqb, List, []}
+use Rattle.std.proofs.Common.{◌∷◌, ◌++◌, length, get_or, replicate, sum_by, Result, IfOk, refl, sym, ap, subst, ◌∙◌}
+use Rattle.std.proofs.Common.{arith}
 use Rattle.std.specs.Prelude.{slice_index}
 use Rattle.std.proofs.lemmas.Bool.{cases_lt}
 use Rattle.std.proofs.lemmas.Bool.Decides.{eqb_tells}
@@ -21,8 +23,10 @@ use Rattle.ar_book.proofs.AfterForm.{formed_members, formed_members_other}
 use Rattle.ar_store.specs.Store.{StoreState, store_of}
 use Rattle.ar_store.specs.declared.form.FourDisks.{FourDisks}
 use Rattle.ar_store.specs.Fullest.{AreFourFullest, HasFewCounts, one_fewer, four_fewer, next_loose, next_members}
-use Rattle.ar_store.specs.Forming.{AreFullest, HasFewLoose, IsFormed, IsPlanFor, IsAllLoose, with_group, without, empty_book, members_list}
-use Rattle.ar_store.proofs.Lined.{IsLined, lined_start, lined_without, fullest_lined, few_start, few_lined, four_cases, one_same, one_le}
+use Rattle.ar_store.specs.Forming.{AreFullest, HasFewLoose, IsFormed, IsPlanFor, IsAllLoose, with_group, without}
+use Rattle.ar_store.specs.Forming.{empty_book, members_list}
+use Rattle.ar_store.proofs.Lined.{IsLined, lined_start, lined_without, fullest_lined, few_start, few_lined, four_cases}
+use Rattle.ar_store.proofs.Lined.{one_same, one_le}
 
 -- a store has formed these groups, one after another, and may form more
 abbrev pub IsForming : StoreState → List Members → StoreState → Type 0
@@ -32,11 +36,13 @@ IsForming s (m ∷ ms) new = AreFullest s.disks m × IsForming (with_group s m) 
 -- one group more
 pub forming_then : (s : StoreState) (ms : List Members) (t : StoreState) (m : Members) → IsForming s ms t
     → AreFullest t.disks m → IsForming s (ms ++ m ∷ []) (with_group t m)
-forming_then s [] t m forming fullest = (subst (λ (x : StoreState). AreFullest x.disks m) forming fullest, ap (λ (x : StoreState). with_group x m) forming)
+forming_then s [] t m forming fullest =
+    (subst (λ (x : StoreState). AreFullest x.disks m) forming fullest, ap (λ (x : StoreState). with_group x m) forming)
 forming_then s (n ∷ ms) t m forming fullest = (forming.0, forming_then (with_group s n) ms t m forming.1 fullest)
 
 -- no group more
-pub forming_end : (s : StoreState) (ms : List Members) (t : StoreState) → IsForming s ms t → HasFewLoose t.disks → IsFormed s ms t
+pub forming_end : (s : StoreState) (ms : List Members) (t : StoreState) → IsForming s ms t → HasFewLoose t.disks
+    → IsFormed s ms t
 forming_end s [] t forming few = (subst (λ (x : StoreState). HasFewLoose x.disks) forming few, forming)
 forming_end s (n ∷ ms) t forming few = (forming.0, forming_end (with_group s n) ms t forming.1 few)
 
@@ -142,7 +148,8 @@ module _ (counts : List ℕ) (f : FourDisks) (four : AreFourFullest counts f) wh
 sum_le : (counts : List ℕ) (d : ℕ) → sum_by (λ n. n) (one_fewer counts d) ≤ sum_by (λ n. n) counts
 sum_le counts d = elim (cases_lt d (length counts)) [
   | inl h ↦
-      let all : sum_by (λ n. n) (one_fewer counts d) + get_or counts d 0 ≡ sum_by (λ n. n) counts + (get_or counts d 0 - 1) =
+      let all : sum_by (λ n. n) (one_fewer counts d) + get_or counts d 0
+      ≡ sum_by (λ n. n) counts + (get_or counts d 0 - 1) =
       sum_by-set (λ n. n) counts d (get_or counts d 0 - 1) 0 h in
       omega arith
   | inr h ↦
@@ -171,7 +178,8 @@ pub planning_next : (g : Geometry) (n e : ℕ) (t : Tables) (counts : List ℕ) 
     → IsPlanning g n e (formed t (next_members counts e f)) (four_fewer counts f)
 planning_next g n e t counts f plan four = record {
   size =
-      length-set three f.fourth _ ∙ length-set two f.third _ ∙ length-set one f.second _ ∙ length-set counts f.first _ ∙ plan.size;
+      length-set three f.fourth _ ∙ length-set two f.third _ ∙ length-set one f.second _ ∙ length-set counts f.first _
+      ∙ plan.size;
   few = λ d. let le = four_le counts f d in let few = plan.few d in omega arith;
   below = λ h i lt range. elim (cases_lt h (length t.groups)) [
     | inl old ↦
@@ -181,16 +189,20 @@ planning_next g n e t counts f plan four = record {
         omega arith)
     | inr new ↦
         let last : h ≡ length t.groups = omega (arith, formed_group_count t m) in
-        subst (λ (x : Members). IsBelow (four_fewer counts f) e x i) (sym (ap (λ k. (group_in (formed t m).groups k).members) last ∙ formed_members t m)) (here i range)
+        subst (λ (x : Members). IsBelow (four_fewer counts f) e x i)
+        (sym (ap (λ k. (group_in (formed t m).groups k).members) last ∙ formed_members t m)) (here i range)
   ];
   reached = λ s loose.
       let now = plan.reached s loose in
       let fullest = fullest_lined now.after counts e f now.lined four in
       record {
         after = without now.after m;
-        forming = subst (λ (ms : List Members). IsForming (store_of s (empty_book s.geometry)) ms (store_of (without now.after m) (formed t m)))
+        forming = subst
+            (λ (ms : List Members). IsForming (store_of s (empty_book s.geometry)) ms
+            (store_of (without now.after m) (formed t m)))
             (sym (map-append (λ (x : GroupState). x.members) t.groups (free_group m (3 * rows_of t.geometry) ∷ [])))
-            (forming_then (store_of s (empty_book s.geometry)) (members_list t) (store_of now.after t) m now.forming fullest);
+            (forming_then (store_of s (empty_book s.geometry)) (members_list t) (store_of now.after t) m now.forming
+            fullest);
         lined = lined_without now.after counts e f now.lined four;
       };
 }
@@ -217,16 +229,19 @@ planning_next g n e t counts f plan four = record {
         let few_b = plan.few f.second in
         let few_c = plan.few f.third in
         let few_d = plan.few f.fourth in
-        four_cases (λ i. IsBelow (four_fewer counts f) e (next_members counts e f) i) (omega arith) (omega arith) (omega arith) (omega arith)
+        four_cases (λ i. IsBelow (four_fewer counts f) e (next_members counts e f) i) (omega arith) (omega arith)
+        (omega arith) (omega arith)
 
 -- all groups are planned
-pub planning_end : (g : Geometry) (n e : ℕ) (t : Tables) (counts : List ℕ) → IsPlanning g n e t counts → HasFewCounts counts
+pub planning_end : (g : Geometry) (n e : ℕ) (t : Tables) (counts : List ℕ) → IsPlanning g n e t counts
+    → HasFewCounts counts
     → (s : SetState) → IsAllLoose g n e s → IsPlanFor s t
 planning_end g n e t counts plan few s loose =
     let now = plan.reached s loose in
     record {
       after = now.after;
-      formed = forming_end (store_of s (empty_book s.geometry)) (members_list t) (store_of now.after t) now.forming (few_lined now.after counts e now.lined few);
+      formed = forming_end (store_of s (empty_book s.geometry)) (members_list t) (store_of now.after t) now.forming
+          (few_lined now.after counts e now.lined few);
     }
 
 -- the members of the next group are in no other
@@ -242,7 +257,8 @@ place_apart q p apart = elim (eqb_tells q.disk p.disk) [
 none_true : (a b c d : Bool) → a ≡ false → b ≡ false → c ≡ false → d ≡ false → (a || b || c || d) ≡ false
 none_true a b c d ea eb ec ed = rw (ea, eb, ec, ed) refl
 
-stands_apart : (m : Members) (p : Place) → ((k : ℕ) → k < 4 → (member m k).disk ≡ p.disk → (member m k).extent ≢ p.extent)
+stands_apart : (m : Members) (p : Place)
+    → ((k : ℕ) → k < 4 → (member m k).disk ≡ p.disk → (member m k).extent ≢ p.extent)
     → stands_on m p ≡ false
 stands_apart m p apart =
     none_true (same_place m.first p) (same_place m.second p) (same_place m.third p) (same_place m.fourth p)
@@ -252,7 +268,8 @@ stands_apart m p apart =
 pub next_unused : (g : Geometry) (n e : ℕ) (t : Tables) (counts : List ℕ) (f : FourDisks) → IsPlanning g n e t counts
     → AreUnused t (next_members counts e f)
 next_unused g n e t counts f plan =
-    four_cases (λ j. IsUnused t (member (next_members counts e f) j)) (unused f.first) (unused f.second) (unused f.third) (unused f.fourth)
+    four_cases (λ j. IsUnused t (member (next_members counts e f) j)) (unused f.first) (unused f.second)
+    (unused f.third) (unused f.fourth)
   where
     unused : (d : ℕ) → IsUnused t (next_loose counts e d)
     unused d i inside =
@@ -267,7 +284,8 @@ next_unused g n e t counts f plan =
 -- a group that was planned in the loop
 pub planning_step : (g : Geometry) (n e : ℕ) (t u : Tables) (counts new xs ys : List ℕ) (f : FourDisks) (m : Members)
     → IsPlanning g n e t counts
-    → xs ≡ counts → AreFourFullest xs f → ys ≡ counts → m ≡ next_members ys e f → u ≡ formed t m → new ≡ four_fewer counts f
+    → xs ≡ counts → AreFourFullest xs f → ys ≡ counts → m ≡ next_members ys e f → u ≡ formed t m
+    → new ≡ four_fewer counts f
     → IsPlanning g n e u new
 planning_step g n e t u counts new xs ys f m plan xs_is four ys_is m_is u_is new_is =
     let next = planning_next g n e t counts f plan (subst (λ zs. AreFourFullest zs f) xs_is four) in
@@ -280,14 +298,18 @@ pub planning_unused : (g : Geometry) (n e : ℕ) (t : Tables) (counts ys : List 
     → IsPlanning g n e t counts
     → ys ≡ counts → m ≡ next_members ys e f → AreUnused t m
 planning_unused g n e t counts ys f m plan ys_is m_is =
-    subst (λ (x : Members). AreUnused t x) (sym (m_is ∙ ap (λ zs. next_members zs e f) ys_is)) (next_unused g n e t counts f plan)
+    subst (λ (x : Members). AreUnused t x) (sym (m_is ∙ ap (λ zs. next_members zs e f) ys_is))
+    (next_unused g n e t counts f plan)
 
-pub planning_less : (counts new xs : List ℕ) (f : FourDisks) → xs ≡ counts → AreFourFullest xs f → new ≡ four_fewer counts f
+pub planning_less : (counts new xs : List ℕ) (f : FourDisks) → xs ≡ counts → AreFourFullest xs f
+    → new ≡ four_fewer counts f
     → sum_by (λ n. n) new < sum_by (λ n. n) counts
 planning_less counts new xs f xs_is four new_is =
-    subst (λ zs. sum_by (λ n. n) zs < sum_by (λ n. n) counts) (sym new_is) (sum_less counts f (subst (λ zs. AreFourFullest zs f) xs_is four))
+    subst (λ zs. sum_by (λ n. n) zs < sum_by (λ n. n) counts) (sym new_is)
+    (sum_less counts f (subst (λ zs. AreFourFullest zs f) xs_is four))
 
 -- the plan for as many disks, under another name for their number
 pub plan_of : {E : Type 0} (r : Result Tables E) (g : Geometry) (m n e : ℕ) → m ≡ n
-    → IfOk r (λ t. (s : SetState) → IsAllLoose g m e s → IsPlanFor s t) → IfOk r (λ t. (s : SetState) → IsAllLoose g n e s → IsPlanFor s t)
+    → IfOk r (λ t. (s : SetState) → IsAllLoose g m e s → IsPlanFor s t)
+    → IfOk r (λ t. (s : SetState) → IsAllLoose g n e s → IsPlanFor s t)
 plan_of r g m n e same plan = subst (λ k. IfOk r (λ t. (s : SetState) → IsAllLoose g k e s → IsPlanFor s t)) same plan

@@ -1,5 +1,6 @@
 -- The one plan that a put carries out: that of the case which applies.
-use Rattle.std.proofs.Common.{◌≡◌, ◌≢◌, ◌⊎◌, inl, inr, ℕ, zero, suc, ◌<◌, ◌≤◌, Option, None, Some, refl, sym, ap, subst, ◌∙◌, arith}
+use Rattle.std.proofs.Common.{◌≡◌, ◌≢◌, ◌⊎◌, inl, inr, ℕ, zero, suc, ◌<◌, ◌≤◌, Option, None, Some, refl, sym, ap, subst}
+use Rattle.std.proofs.Common.{◌∙◌, arith}
 use Rattle.std.proofs.lemmas.Bool.{cases_lt}
 use Rattle.ar_disks.specs.declared.address.Key.{Key}
 use Rattle.ar_disks.specs.declared.address.Members.{Members}
@@ -21,9 +22,11 @@ use Rattle.ar_store.specs.Store.{StoreState, store_of, members_of}
 use Rattle.ar_store.specs.Kept.{IsKept}
 use Rattle.ar_store.specs.Placing.{slot_at, HasNoHole}
 use Rattle.ar_store.specs.Calls.{WasBroken}
-use Rattle.ar_store.specs.Plans.{slot_write, write_as, fill_plan, copy_plan, copies_plan, squeeze_plan, CopiesFirst, CopiesSome, SqueezesThenWrites}
+use Rattle.ar_store.specs.Plans.{slot_write, write_as, fill_plan, copy_plan, copies_plan, squeeze_plan, CopiesFirst}
+use Rattle.ar_store.specs.Plans.{CopiesSome, SqueezesThenWrites}
 use Rattle.ar_store.specs.Plans.{AccessesByCase, CarriesOutPlan, CarriesOutPut}
-use Rattle.ar_store.specs.Plans.{IsPutPlan, in_place, to_mirrored_hole, to_opened_group, in_parity_place, to_parity_hole, by_squeeze}
+use Rattle.ar_store.specs.Plans.{IsPutPlan, in_place, to_mirrored_hole, to_opened_group, in_parity_place}
+use Rattle.ar_store.specs.Plans.{to_parity_hole, by_squeeze}
 use Rattle.ar_store.proofs.Deciding.{lowest_hole, lowest_free, full_mirrored}
 use Rattle.ar_store.proofs.Planned.{put_still}
 use Rattle.ar_store.proofs.Ways.{nowhere, placed, unplaced_not_mirrored, unplaced_not_parity, parity_not_mirrored}
@@ -39,16 +42,19 @@ first_shape from to (suc n) a c copies =
     same_shape (copy_plan b.geometry from to n) b c copies.2.copy.plan ∙ first_shape from to n a b copies.1
 
 -- copies that were made one after another are one plan
-first_carried : (from to : Members) (n : ℕ) (a c : SetState) → CopiesFirst from to n a c → CarriesOut (copies_plan a.geometry from to n) a c
+first_carried : (from to : Members) (n : ℕ) (a c : SetState) → CopiesFirst from to n a c
+    → CarriesOut (copies_plan a.geometry from to n) a c
 first_carried from to zero a c same = subst (λ (s : SetState). CarriesOut Stop a s) (sym same) (stops a)
 first_carried from to (suc n) a c copies =
     let b = copies.0 in
     let P : Geometry → Type 0 = λ g. CarriesOut (copy_plan g from to n) b c in
-    both_carried (copies_plan a.geometry from to n) (copy_plan a.geometry from to n) a b c (first_carried from to n a b copies.1)
+    both_carried (copies_plan a.geometry from to n) (copy_plan a.geometry from to n) a b c
+    (first_carried from to n a b copies.1)
     (subst P (first_shape from to n a b copies.1) copies.2.copy.plan)
 
 -- on a failed array the other copies access nothing
-broken_copies : (g : Geometry) (from to : Members) (n m : ℕ) (a b : SetState) → n ≤ m → b.health ≡ AllBroken → CarriesOut (copies_plan g from to n) a b
+broken_copies : (g : Geometry) (from to : Members) (n m : ℕ) (a b : SetState) → n ≤ m → b.health ≡ AllBroken
+    → CarriesOut (copies_plan g from to n) a b
     → CarriesOut (copies_plan g from to m) a b
 broken_copies g from to n zero a b le broken carried =
     let same : n ≡ zero = omega arith in
@@ -58,7 +64,8 @@ broken_copies g from to n (suc m) a b le broken carried = elim (cases_lt m n) [
       let same : n ≡ suc m = omega arith in
       subst (λ k. CarriesOut (copies_plan g from to k) a b) same carried
   | inr ge ↦
-      both_carried (copies_plan g from to m) (copy_plan g from to m) a b b (broken_copies g from to n m a b ge broken carried)
+      both_carried (copies_plan g from to m) (copy_plan g from to m) a b b
+      (broken_copies g from to n m a b ge broken carried)
       (carries_broken (copy_plan g from to m) b broken)
 ]
 
@@ -91,7 +98,9 @@ some_carried slots copied from to a c some =
 
 -- a squeeze, and the write after it, are one plan
 squeeze_carried : (from to : ℕ) (a c : StoreState) → SqueezesThenWrites from to a c
-    → CarriesOut (squeeze_plan a.disks.geometry (members_of a from) (members_of a to) (slots_of a.book.geometry Mirrored)) a.disks c.disks
+    → CarriesOut
+    (squeeze_plan a.disks.geometry (members_of a from) (members_of a to) (slots_of a.book.geometry Mirrored)) a.disks
+    c.disks
 squeeze_carried from to a c steps =
     let g = a.disks.geometry in
     let one = members_of a from in
@@ -105,10 +114,12 @@ squeeze_carried from to a c steps =
     let P : Geometry → Type 0 = λ x. CarriesOut (copies_plan x one two slots) filled b.disks in
     let Q : Members → Type 0 = λ m. CopiesSome slots moves.moved m (members_of mid to) filled b.disks in
     let R : Members → Type 0 = λ m. CopiesSome slots moves.moved one m filled b.disks in
-    let copies = subst R (opened_members a.book to Parity to) (subst Q (opened_members a.book to Parity from) moves.copies) in
+    let copies =
+    subst R (opened_members a.book to Parity to) (subst Q (opened_members a.book to Parity from) moves.copies) in
     both_carried (fill_plan g two) _ a.disks filled c.disks fill
     (both_carried (copies_plan g one two slots) (slot_write Parity g two slots) filled b.disks c.disks
-    (subst P (same_shape (fill_plan g two) a.disks filled fill) (some_carried slots moves.moved one two filled b.disks copies)) steps.writes.plan)
+    (subst P (same_shape (fill_plan g two) a.disks filled fill)
+    (some_carried slots moves.moved one two filled b.disks copies)) steps.writes.plan)
 
 module _ (a c : StoreState) (k : Key) (cases : AccessesByCase a k c) where
   -- what a put comes to
@@ -125,11 +136,13 @@ module _ (a c : StoreState) (k : Key) (cases : AccessesByCase a k c) where
   plan_high : level a.book k ≡ MirroredLevel → Result
   plan_high at =
       let at_home = home_at (home a.book k) refl (λ none. unplaced_not_mirrored (sym none ∙ at)) in
-      by_plan (write_as Mirrored a at_home.0) (in_place a k at_home.0 at at_home.1) (cases.mirrored at_home.0 at at_home.1).plan
+      by_plan (write_as Mirrored a at_home.0) (in_place a k at_home.0 at at_home.1)
+      (cases.mirrored at_home.0 at at_home.1).plan
 
   plan_up : level a.book k ≢ MirroredLevel → (HasNoHole a.book Mirrored → free_groups a.book < 2 → Result) → Result
   plan_up low rest = elim (lowest_hole a.book Mirrored) [
-    | inl hole ↦ by_plan (write_as Mirrored a hole.0) (to_mirrored_hole a k hole.0 low hole.1) (cases.mirrored_hole hole.0 low hole.1).plan
+    | inl hole ↦ by_plan (write_as Mirrored a hole.0) (to_mirrored_hole a k hole.0 low hole.1)
+        (cases.mirrored_hole hole.0 low hole.1).plan
     | inr none ↦ elim (cases_lt (free_groups a.book) 2) [
       | inl few ↦ rest none few
       | inr many ↦
@@ -142,12 +155,15 @@ module _ (a c : StoreState) (k : Key) (cases : AccessesByCase a k c) where
   plan_low : level a.book k ≡ ParityLevel → HasNoHole a.book Mirrored → free_groups a.book < 2 → Result
   plan_low at none few =
       let at_home = home_at (home a.book k) refl (λ nowhere_k. unplaced_not_parity (sym nowhere_k ∙ at)) in
-      by_plan (write_as Parity a at_home.0) (in_parity_place a k at_home.0 at at_home.1 none few) (cases.parity at_home.0 at at_home.1 none few).plan
+      by_plan (write_as Parity a at_home.0) (in_parity_place a k at_home.0 at at_home.1 none few)
+      (cases.parity at_home.0 at at_home.1 none few).plan
 
   module _ (kept : IsKept a) (block : HasBlock a.book k) (sound : a.disks.health ≢ AllBroken) where
-    plan_new : home a.book k ≡ None → level a.book k ≡ Unplaced → HasNoHole a.book Mirrored → free_groups a.book < 2 → Result
+    plan_new : home a.book k ≡ None → level a.book k ≡ Unplaced → HasNoHole a.book Mirrored → free_groups a.book < 2
+        → Result
     plan_new unplaced at none few = elim (lowest_hole a.book Parity) [
-      | inl hole ↦ by_plan (write_as Parity a hole.0) (to_parity_hole a k hole.0 at none few hole.1) (cases.parity_hole hole.0 at none few hole.1).plan
+      | inl hole ↦ by_plan (write_as Parity a hole.0) (to_parity_hole a k hole.0 at none few hole.1)
+          (cases.parity_hole hole.0 at none few hole.1).plan
       | inr full ↦
           let some = kept.free sound in
           let waiting : HasUnplacedBlock a.book = record { key = k; block = block; unplaced = unplaced } in
@@ -156,7 +172,8 @@ module _ (a c : StoreState) (k : Key) (cases : AccessesByCase a k c) where
           elim (cases.squeezed_group from.0 to.0 at none full few from.1 to.1) [
             | inl was ↦ inl was
             | inr steps ↦
-                by_plan (squeeze_plan a.disks.geometry (members_of a from.0) (members_of a to.0) (slots_of a.book.geometry Mirrored))
+                by_plan (squeeze_plan a.disks.geometry (members_of a from.0) (members_of a to.0)
+                (slots_of a.book.geometry Mirrored))
                 (by_squeeze a k from.0 to.0 at none full few from.1 to.1) (squeeze_carried from.0 to.0 a c steps)
           ]
     ]

@@ -1,5 +1,6 @@
 -- A store of which a disk is replaced: none of its extents is used before it is rebuilt, as none was while it was out.
-use Rattle.std.proofs.Common.{◌≡◌, ◌≢◌, inl, inr, ℕ, Bool, true, false, eqb, leb, ◌&&◌, List, Result, Ok, Err, OnOk, OnErr, None, refl, sym, ap, subst, ◌∙◌, true≢false, arith}
+use Rattle.std.proofs.Common.{◌≡◌, ◌≢◌, inl, inr, ℕ, Bool, true, false, eqb, leb, ◌&&◌, List, Result, Ok, Err, OnOk}
+use Rattle.std.proofs.Common.{OnErr, None, refl, sym, ap, subst, ◌∙◌, true≢false, arith}
 use Rattle.std.proofs.lemmas.Bool.{le-leb}
 use Rattle.std.proofs.lemmas.Bool.Decides.{eqb_tells}
 use Rattle.std.proofs.lemmas.List.{length-set}
@@ -24,7 +25,8 @@ both true c is none = absurd (true≢false (sym is ∙ none))
 both false c is none = refl
 
 -- an extent that is used isn't the new disk's, and was used before
-sound_replaced : (s : SetState) (d : ℕ) (disk : DiskState) (p : Place) → s.health ≡ Out d → IsSound (replaced s d disk) p → (p.disk ≢ d) × IsSound s p
+sound_replaced : (s : SetState) (d : ℕ) (disk : DiskState) (p : Place) → s.health ≡ Out d
+    → IsSound (replaced s d disk) p → (p.disk ≢ d) × IsSound s p
 sound_replaced s d disk p was used =
     let other : eqb p.disk d ≡ false = both (eqb p.disk d) (leb 0 p.extent) (le-leb 0 p.extent (omega arith)) used in (
       (λ same. elim (eqb_tells p.disk d) [ inl is ↦ true≢false (sym is.0 ∙ other) | inr apart ↦ apart.1 same ]),
@@ -50,7 +52,8 @@ module _ (s : SetState) (t : Tables) (d : ℕ) (disk : DiskState) (taken : repla
   slots_replaced = slots_alike s (replaced s d disk) t (replaced_alike s d disk (taken_out s d disk taken))
 
   -- the store keeps what it kept,
-  pub fields_replaced : (block : List ℕ) (g : Geometry) → FieldsAgree (store_of s t) block g → FieldsAgree (store_of (replaced s d disk) t) block g
+  pub fields_replaced : (block : List ℕ) (g : Geometry) → FieldsAgree (store_of s t) block g
+      → FieldsAgree (store_of (replaced s d disk) t) block g
   fields_replaced block g old = record {
     kept = record {
       space = space_alike s (replaced s d disk) t old.kept.space (replaced_shape s d disk) slots_replaced;
@@ -63,10 +66,12 @@ module _ (s : SetState) (t : Tables) (d : ℕ) (disk : DiskState) (taken : repla
   -- and every block stands as it did
   pub all_replaced : IsSpace (store_of s t) → AllStand (store_of s t) (store_of (replaced s d disk) t)
   all_replaced space =
-      all_alike s (replaced s d disk) t space (replaced_shape s d disk) slots_replaced (λ sound. out_sound s d (taken_out s d disk taken))
+      all_alike s (replaced s d disk) t space (replaced_shape s d disk) slots_replaced
+      (λ sound. out_sound s d (taken_out s d disk taken))
 
 -- a call of the disks that is refused, or leaves what it says
-pub after_replacing : {A E : Type 0} (r : Result A E) (P : SetState → Type 0) (Taken : Type 0) (old new changed : SetState) → OnOk r Taken → OnOk r (new ≡ changed)
+pub after_replacing : {A E : Type 0} (r : Result A E) (P : SetState
+    → Type 0) (Taken : Type 0) (old new changed : SetState) → OnOk r Taken → OnOk r (new ≡ changed)
     → OnErr r (new ≡ old) → (Taken → P changed) → P old → P new
 after_replacing (Ok x) P Taken old new changed taken is same then before = subst P (sym is) (then taken)
 after_replacing (Err e) P Taken old new changed taken is same then before = subst P (sym same) before

@@ -26,12 +26,14 @@ use Rattle.ar_store.proofs.Spaces.{slot_group, slot_inside, slot_ready, space_re
 use Rattle.ar_store.proofs.Standing.{all_stand}
 
 -- A slot of a group whose extents and class were asked for.
-module _ (s : StoreState) (slot : Slot) (m : Members) (space : IsSpace s) (has : HasSlot s.book slot) (is_m : m ≡ members_of s slot.group) where
+module _ (s : StoreState) (slot : Slot) (m : Members) (space : IsSpace s) (has : HasSlot s.book slot) (is_m : m
+    ≡ members_of s slot.group) where
   pub asked_group : IsGroup s.disks m
   asked_group = subst (λ (x : Members). IsGroup s.disks x) (sym is_m) (slot_group s slot.group space has.0)
 
   pub asked_slot : (c : Class) → c ≡ class_in s slot.group → slot.slot < slots_of s.disks.geometry c
-  asked_slot c is_c = subst (λ (x : Class). slot.slot < slots_of s.disks.geometry x) (sym is_c) (slot_inside s slot space has)
+  asked_slot c is_c =
+      subst (λ (x : Class). slot.slot < slots_of s.disks.geometry x) (sym is_c) (slot_inside s slot space has)
 
   -- no slot is in a free group
   pub never_free : Free ≢ class_in s slot.group
@@ -42,14 +44,18 @@ module _ (s : StoreState) (slot : Slot) (m : Members) (space : IsSpace s) (has :
       → OnDone o ((block : List ℕ) → ClassHolds c s.disks m slot.slot block → bytes ≡ block)
       → OnDone o ((block : List ℕ) → SlotHolds s slot block → bytes ≡ block)
   given_in c bytes o is_c given =
-      subst (λ (x : Members). OnDone o ((block : List ℕ) → ClassHolds (class_in s slot.group) s.disks x slot.slot block → bytes ≡ block)) is_m
-      (subst (λ (x : Class). OnDone o ((block : List ℕ) → ClassHolds x s.disks m slot.slot block → bytes ≡ block)) is_c given)
+      subst (λ (x : Members). OnDone o ((block : List ℕ) → ClassHolds (class_in s slot.group) s.disks x slot.slot block
+      → bytes ≡ block)) is_m
+      (subst (λ (x : Class). OnDone o ((block : List ℕ) → ClassHolds x s.disks m slot.slot block → bytes ≡ block)) is_c
+      given)
 
   -- the slot was read
-  pub read_in : (c : Class) (b : SetState) → c ≡ class_in s slot.group → CarriesOut (slot_read c s.disks.geometry m slot.slot) s.disks b
+  pub read_in : (c : Class) (b : SetState) → c ≡ class_in s slot.group
+      → CarriesOut (slot_read c s.disks.geometry m slot.slot) s.disks b
       → CarriesOut (read_of s slot) s.disks b
   read_in c b is_c carried =
-      subst (λ (x : Members). CarriesOut (slot_read (class_in s slot.group) s.disks.geometry x slot.slot) s.disks b) is_m
+      subst (λ (x : Members). CarriesOut (slot_read (class_in s slot.group) s.disks.geometry x slot.slot) s.disks b)
+      is_m
       (subst (λ (x : Class). CarriesOut (slot_read x s.disks.geometry m slot.slot) s.disks b) is_c carried)
 
   -- the slot was written, and the others of its group keep their blocks
@@ -60,13 +66,15 @@ module _ (s : StoreState) (slot : Slot) (m : Members) (space : IsSpace s) (has :
       (subst (λ (x : Class). WritesSlot x s.disks b m slot.slot) is_c writes)
 
   -- the slot was written
-  written_in : (c : Class) (b : SetState) (block : List ℕ) → c ≡ class_in s slot.group → IsSlotWritten c s.disks b m slot.slot block
+  written_in : (c : Class) (b : SetState) (block : List ℕ) → c ≡ class_in s slot.group
+      → IsSlotWritten c s.disks b m slot.slot block
       → IsSlotWritten (class_in s slot.group) s.disks b (members_of s slot.group) slot.slot block
   written_in c b block is_c written =
       subst (λ (x : Members). IsSlotWritten (class_in s slot.group) s.disks b x slot.slot block) is_m
       (subst (λ (x : Class). IsSlotWritten x s.disks b m slot.slot block) is_c written)
 
-  pub written_mirrored : (b : SetState) (block : List ℕ) → Mirrored ≡ class_in s slot.group → MirrorHolds b m slot.slot block
+  pub written_mirrored : (b : SetState) (block : List ℕ) → Mirrored ≡ class_in s slot.group
+      → MirrorHolds b m slot.slot block
       → OtherMirrorSlotsHold m slot.slot s.disks b → KeepsButSlot m slot.slot s.disks b
       → IsSlotWritten (class_in s slot.group) s.disks b (members_of s slot.group) slot.slot block
   written_mirrored b block is_c here slots keeps =
@@ -79,7 +87,8 @@ module _ (s : StoreState) (slot : Slot) (m : Members) (space : IsSpace s) (has :
       → IsSlotWritten (class_in s slot.group) s.disks b (members_of s slot.group) slot.slot block
   written_parity b block is_c here others keeps =
       let ready = subst (λ (x : Members). HoldsAny s.disks x slot.slot) (sym is_m)
-      (subst (λ (x : Class). CanWrite x s.disks (members_of s slot.group) slot.slot) (sym is_c) (slot_ready s slot space has)) in
+      (subst (λ (x : Class). CanWrite x s.disks (members_of s slot.group) slot.slot) (sym is_c)
+      (slot_ready s slot space has)) in
       written_in Parity b block is_c (parity_written s.disks b m slot.slot block ready here others keeps)
 
 -- what a read of a mirrored slot gives
@@ -93,7 +102,8 @@ pub record IsRead (a b : SetState) (t : Tables) : Type 0 where
   pub space : IsSpace (store_of b t)
   pub stand : AllStand (store_of a t) (store_of b t)
 
-pub read_leaves : (a b : SetState) (t : Tables) → IsSpace (store_of a t) → IsAccessed a b → Keeps Anywhere a b → IsRead a b t
+pub read_leaves : (a b : SetState) (t : Tables) → IsSpace (store_of a t) → IsAccessed a b → Keeps Anywhere a b
+    → IsRead a b t
 read_leaves a b t space access keeps =
     let after = space_read a b t space access keeps in
     record { space = after; stand = all_stand a b t space after access.follows (slots_read a b t access.follows keeps) }

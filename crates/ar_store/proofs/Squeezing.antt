@@ -1,5 +1,6 @@
 -- What the moves of a squeeze make of the tables.
-use Rattle.std.proofs.Common.{◌≡◌, ◌≢◌, inl, inr, ℕ, ◌+◌, ◌*◌, ◌<◌, ◌≤◌, length, Option, None, Some, IsSome, refl, sym, ap, subst, ◌∙◌, arith}
+use Rattle.std.proofs.Common.{◌≡◌, ◌≢◌, inl, inr, ℕ, ◌+◌, ◌*◌, ◌<◌, ◌≤◌, length, Option, None, Some, IsSome, refl, sym}
+use Rattle.std.proofs.Common.{ap, subst, ◌∙◌, arith}
 use Rattle.std.proofs.Math.Numerals.{suc-eq-add-one}
 use Rattle.std.proofs.lemmas.Option.{none-some, same_Some}
 use Rattle.std.proofs.lemmas.Bool.{cases_lt}
@@ -15,15 +16,18 @@ use Rattle.ar_book.specs.Changes.{assigned, opened}
 use Rattle.ar_book.specs.Choices.{IsEmpty, IsFullMirrored, IsLowestFree}
 use Rattle.ar_book.specs.Book.{TablesAgree}
 use Rattle.ar_book.proofs.Homes.{key_home, key_block, key_beyond}
-use Rattle.ar_book.proofs.AfterAssign.{assigned_class_named, assigned_class_here, assigned_class_left, assigned_key_other, assigned_key_left, assigned_home_other}
-use Rattle.ar_book.proofs.AfterOpen.{opened_group_count, opened_class, opened_class_other, opened_key, opened_empty, opened_free_groups}
+use Rattle.ar_book.proofs.AfterAssign.{assigned_class_named, assigned_class_here, assigned_class_left}
+use Rattle.ar_book.proofs.AfterAssign.{assigned_key_other, assigned_key_left, assigned_home_other}
+use Rattle.ar_book.proofs.AfterOpen.{opened_group_count, opened_class, opened_class_other, opened_key, opened_empty}
+use Rattle.ar_book.proofs.AfterOpen.{opened_free_groups}
 use Rattle.ar_extents.specs.declared.health.Health.TheVariants.{Broken}
 use Rattle.ar_store.specs.declared.space.Space.{Space}
 use Rattle.ar_store.specs.Slots.{AllStand}
 use Rattle.ar_store.specs.Spaces.{store_in, IsReady, Stays}
 use Rattle.ar_store.proofs.Options.{some_value}
 use Rattle.ar_store.proofs.Stays.{stays_refl, stays_then, all_then}
-use Rattle.ar_store.specs.Placing.{slot_at, moved_from, moved_first, squeezed, CanMove, IsVacant, IsSqueezed, HasMovedSome, HasBegunSqueeze, SameUnits}
+use Rattle.ar_store.specs.Placing.{slot_at, moved_from, moved_first, squeezed, CanMove, IsVacant, IsSqueezed}
+use Rattle.ar_store.specs.Placing.{HasMovedSome, HasBegunSqueeze, SameUnits}
 use Rattle.ar_store.proofs.Changes.{units_refl, units_then, units_assigned, mirrored_not_free}
 
 -- The first i blocks of a group have moved, and the rest are to come.
@@ -73,7 +77,8 @@ moving_start t from to can =
       unplaced = λ k is. is;
     }
 
-module _ (t u : Tables) (from to i : ℕ) (k : Key) (ok_t : TablesAgree t) (ok : TablesAgree u) (can : CanMove t from to) (moving : IsMoving t from to i u)
+module _ (t u : Tables) (from to i : ℕ) (k : Key) (ok_t : TablesAgree t) (ok : TablesAgree u) (can : CanMove t from to)
+    (moving : IsMoving t from to i u)
     (inside : i < slots_of t.geometry Mirrored) (names : key_at u (slot_at from i) ≡ Some k) where
   new : Tables
   new = assigned u k (slot_at to i)
@@ -86,7 +91,8 @@ module _ (t u : Tables) (from to i : ℕ) (k : Key) (ok_t : TablesAgree t) (ok :
   move_vacant =
       let more = fewer_mirrored t.geometry in
       let there : to < length u.groups = subst (λ n. to < n) (sym moving.units.groups) can.to_there in
-      let parity : slots_of u.geometry (class_of u to) ≡ slots_of t.geometry Parity = ap (λ c. slots_of u.geometry c) moving.opened ∙ ap (λ g. slots_of g Parity) moving.geometry in
+      let parity : slots_of u.geometry (class_of u to) ≡ slots_of t.geometry Parity =
+      ap (λ c. slots_of u.geometry c) moving.opened ∙ ap (λ g. slots_of g Parity) moving.geometry in
       record { there = (there, omega arith); empty = moving.empty i (omega arith) }
 
   block : HasBlock u k
@@ -115,7 +121,8 @@ module _ (t u : Tables) (from to i : ℕ) (k : Key) (ok_t : TablesAgree t) (ok :
 
   rest_then : (j : ℕ) → i + 1 ≤ j → key_at new (slot_at from j) ≡ key_at t (slot_at from j)
   rest_then j le =
-      other (slot_at from j) (group_ne (slot_at from j) (slot_at to i) apart) (slot_ne (slot_at from j) (slot_at from i) (λ e. omega arith))
+      other (slot_at from j) (group_ne (slot_at from j) (slot_at to i) apart)
+      (slot_ne (slot_at from j) (slot_at from i) (λ e. omega arith))
       ∙ moving.rest j (omega arith)
 
   gone_then : (j : ℕ) → j < i + 1 → key_at new (slot_at from j) ≡ None
@@ -123,7 +130,8 @@ module _ (t u : Tables) (from to i : ℕ) (k : Key) (ok_t : TablesAgree t) (ok :
       elim (eqb_tells j i) [
         | inl same ↦ ap (λ n. key_at new (slot_at from n)) same.1 ∙ left
         | inr ne ↦
-            other (slot_at from j) (group_ne (slot_at from j) (slot_at to i) apart) (slot_ne (slot_at from j) (slot_at from i) ne.1)
+            other (slot_at from j) (group_ne (slot_at from j) (slot_at to i) apart)
+            (slot_ne (slot_at from j) (slot_at from i) ne.1)
             ∙ moving.gone j (let differs = ne.1 in omega arith)
       ]
 
@@ -133,7 +141,8 @@ module _ (t u : Tables) (from to i : ℕ) (k : Key) (ok_t : TablesAgree t) (ok :
       elim (cases_lt j (i + 1)) [
         | inl lt ↦ gone_then j lt
         | inr ge ↦
-            let slots : slots_of t.geometry (class_of t from) ≡ slots_of t.geometry Mirrored = ap (λ c. slots_of t.geometry c) can.mirrored in
+            let slots : slots_of t.geometry (class_of t from) ≡ slots_of t.geometry Mirrored =
+            ap (λ c. slots_of t.geometry c) can.mirrored in
             rest_then j ge ∙ key_beyond t ok_t (slot_at from j) (omega arith)
       ]
 
@@ -143,36 +152,44 @@ module _ (t u : Tables) (from to i : ℕ) (k : Key) (ok_t : TablesAgree t) (ok :
   moving_then = record {
     tables =
         ap (λ (x : Tables). assigned x k (slot_at to i)) moving.tables
-        ∙ ap (λ (o : Option Key). moved_from (moved_first t from to i) o (slot_at to i)) (sym names ∙ moving.rest i (omega arith))
+        ∙ ap (λ (o : Option Key). moved_from (moved_first t from to i) o (slot_at to i)) (sym names
+        ∙ moving.rest i (omega arith))
         ∙ ap (λ n. moved_first t from to n) (suc-eq-add-one i);
     rest = rest_then;
     gone = gone_then;
     empty = λ j le.
-        other (slot_at to j) (slot_ne (slot_at to j) (slot_at to i) (λ e. omega arith)) (group_ne (slot_at to j) (slot_at from i) (λ e. apart (sym e)))
+        other (slot_at to j) (slot_ne (slot_at to j) (slot_at to i) (λ e. omega arith))
+        (group_ne (slot_at to j) (slot_at from i) (λ e. apart (sym e)))
         ∙ moving.empty j (omega arith);
     opened = assigned_class_here u k (slot_at to i) ok block move_vacant.there move_vacant.empty ∙ moving.opened;
     open_from = λ lt.
         let full = some_value (key_at t (slot_at from (i + 1))) (can.full (i + 1) lt) in
         assigned_class_named u k (slot_at to i) (slot_at from (i + 1)) full.0 (rest_then (i + 1) (omega arith) ∙ full.1)
         ∙ moving.open_from inside;
-    freed = λ all. assigned_class_left u k (slot_at to i) ok block move_vacant.there move_vacant.empty (slot_at from i) was (emptied all);
+    freed = λ all. assigned_class_left u k (slot_at to i) ok block move_vacant.there move_vacant.empty (slot_at from i)
+        was (emptied all);
     geometry = moving.geometry;
     units = units_then t u (assigned u k (slot_at to i)) moving.units (units_assigned u k (slot_at to i) block);
     unplaced = λ j is.
         let before = moving.unplaced j is in
-        assigned_home_other u k (slot_at to i) block j (λ same. none-some (slot_at from i) (sym before ∙ ap (λ x. home u x) same ∙ was)) ∙ before;
+        assigned_home_other u k (slot_at to i) block j
+        (λ same. none-some (slot_at from i) (sym before ∙ ap (λ x. home u x) same ∙ was)) ∙ before;
   }
 
 -- a block is there to be moved
-pub move_next : (t u : Tables) (from to i : ℕ) → CanMove t from to → IsMoving t from to i u → i < slots_of t.geometry Mirrored → IsSome (key_at u (slot_at from i))
-move_next t u from to i can moving inside = subst (λ (o : Option Key). IsSome o) (sym (moving.rest i (omega arith))) (can.full i inside)
+pub move_next : (t u : Tables) (from to i : ℕ) → CanMove t from to → IsMoving t from to i u
+    → i < slots_of t.geometry Mirrored → IsSome (key_at u (slot_at from i))
+move_next t u from to i can moving inside =
+    subst (λ (o : Option Key). IsSome o) (sym (moving.rest i (omega arith))) (can.full i inside)
 
 -- after the last move the first slot past them is a hole
-pub moving_end : (t u : Tables) (from to i : ℕ) → CanMove t from to → IsMoving t from to i u → i ≡ slots_of t.geometry Mirrored → IsVacant u (slot_at to i)
+pub moving_end : (t u : Tables) (from to i : ℕ) → CanMove t from to → IsMoving t from to i u
+    → i ≡ slots_of t.geometry Mirrored → IsVacant u (slot_at to i)
 moving_end t u from to i can moving is =
     let more = fewer_mirrored t.geometry in
     let there : to < length u.groups = subst (λ n. to < n) (sym moving.units.groups) can.to_there in
-    let parity : slots_of u.geometry (class_of u to) ≡ slots_of t.geometry Parity = ap (λ c. slots_of u.geometry c) moving.opened ∙ ap (λ g. slots_of g Parity) moving.geometry in
+    let parity : slots_of u.geometry (class_of u to) ≡ slots_of t.geometry Parity =
+    ap (λ c. slots_of u.geometry c) moving.opened ∙ ap (λ g. slots_of g Parity) moving.geometry in
     record { there = (there, omega arith); empty = moving.empty i (omega arith) }
 
 -- A squeeze on its way: the tables, the disks, and what stands.
@@ -182,7 +199,8 @@ pub record IsSqueezing {X : Type 0} (old now : Space X) (from to i : ℕ) : Type
   pub stand : AllStand (store_in old) (store_in now)
   pub sound : now.disks.health ≢ Broken
 
-pub squeezing_start : {X : Type 0} (s : Space X) (from to : ℕ) → IsReady s → CanMove s.book from to → s.disks.health ≢ Broken → IsSqueezing s s from to 0
+pub squeezing_start : {X : Type 0} (s : Space X) (from to : ℕ) → IsReady s → CanMove s.book from to
+    → s.disks.health ≢ Broken → IsSqueezing s s from to 0
 squeezing_start s from to ready can sound = record {
   moving = moving_start s.book from to can;
   stays = stays_refl s ready;
@@ -190,12 +208,16 @@ squeezing_start s from to ready can sound = record {
   sound = sound;
 }
 
-pub squeezing_then : {X : Type 0} (old now new : Space X) (from to i : ℕ) (k : Key) → IsReady old → CanMove old.book from to → IsSqueezing old now from to i
-    → i < slots_of old.book.geometry Mirrored → key_at now.book (slot_at from i) ≡ Some k → new.book ≡ assigned now.book k (slot_at to i)
-    → AllStand (store_in now) (store_in new) → Stays now new → new.disks.health ≢ Broken → IsSqueezing old new from to (i + 1)
+pub squeezing_then : {X : Type 0} (old now new : Space X) (from to i : ℕ) (k : Key) → IsReady old
+    → CanMove old.book from to → IsSqueezing old now from to i
+    → i < slots_of old.book.geometry Mirrored → key_at now.book (slot_at from i) ≡ Some k
+    → new.book ≡ assigned now.book k (slot_at to i)
+    → AllStand (store_in now) (store_in new) → Stays now new → new.disks.health ≢ Broken
+    → IsSqueezing old new from to (i + 1)
 squeezing_then old now new from to i k ready can so_far inside names is stand stays sound = record {
   moving = subst (λ (x : Tables). IsMoving old.book from to (i + 1) x) (sym is)
-      (moving_then old.book now.book from to i k ready.space.tables so_far.stays.ready.space.tables can so_far.moving inside names);
+      (moving_then old.book now.book from to i k ready.space.tables so_far.stays.ready.space.tables can so_far.moving
+      inside names);
   stays = stays_then old now new so_far.stays stays;
   stand = all_then old now new stays so_far.stand stand;
   sound = sound;
@@ -206,14 +228,16 @@ pub slots_end : (n : ℕ) (g h : Geometry) → n ≡ rows_of g → g ≡ h → 2
 slots_end n g h rows same = ap (λ r. 2 * r) (rows ∙ ap rows_of same)
 
 -- a free group was opened for parity, and the blocks of a full mirrored one can move there
-pub can_move : (t : Tables) (from to : ℕ) → TablesAgree t → IsFullMirrored t from → IsLowestFree t to → CanMove (opened t to Parity) from to
+pub can_move : (t : Tables) (from to : ℕ) → TablesAgree t → IsFullMirrored t from → IsLowestFree t to
+    → CanMove (opened t to Parity) from to
 can_move t from to ok full free =
     let ne : from ≢ to = λ same. mirrored_not_free (sym full.mirrored ∙ ap (λ n. class_of t n) same ∙ free.free) in
     record {
       from_there = subst (λ n. from < n) (sym (opened_group_count t to Parity)) full.there;
       to_there = subst (λ n. to < n) (sym (opened_group_count t to Parity)) free.there;
       mirrored = opened_class_other t to Parity from ne ∙ full.mirrored;
-      full = λ i lt. subst (λ (o : Option Key). IsSome o) (sym (opened_key t to Parity (slot_at from i))) (full.full i lt);
+      full = λ i lt. subst (λ (o : Option Key). IsSome o) (sym (opened_key t to Parity (slot_at from i)))
+          (full.full i lt);
       opened = opened_class t to Parity free.there;
       empty = opened_empty t to Parity ok free.there free.free;
     }
@@ -235,7 +259,8 @@ same_free t f g is_f is_g =
 
 -- all blocks have moved: the tables are squeezed, and a hole is left
 pub squeezed_is : (t u v : Tables) (from to n : ℕ) → IsFullMirrored t from → IsLowestFree t to → u ≡ opened t to Parity
-    → v ≡ moved_first u from to (slots_of u.geometry Mirrored) → n ≡ slots_of t.geometry Mirrored → IsVacant v (slot_at to (slots_of u.geometry Mirrored))
+    → v ≡ moved_first u from to (slots_of u.geometry Mirrored) → n ≡ slots_of t.geometry Mirrored
+    → IsVacant v (slot_at to (slots_of u.geometry Mirrored))
     → IsSqueezed t v (slot_at to n)
 squeezed_is t u v from to n full free is_u is_v is_n vacant =
     let P : Tables → Type 0 = λ x. IsVacant v (slot_at to (slots_of x.geometry Mirrored)) in
@@ -251,7 +276,8 @@ squeezed_is t u v from to n full free is_u is_v is_n vacant =
     }
 
 -- the free group was opened, and so many blocks have moved there
-pub begun_squeeze : (t u v : Tables) (from to moved : ℕ) → IsFullMirrored t from → IsLowestFree t to → u ≡ opened t to Parity
+pub begun_squeeze : (t u v : Tables) (from to moved : ℕ) → IsFullMirrored t from → IsLowestFree t to
+    → u ≡ opened t to Parity
     → HasMovedSome u from to moved v → HasBegunSqueeze t v
 begun_squeeze t u v from to moved full lowest is some = record {
   from = from;

@@ -17,6 +17,7 @@ stays_then a b c ab bc = record {
   accessed = accessed_then a.disks b.disks c.disks ab.accessed bc.accessed;
 }
 
-pub all_then : {X : Type 0} (a b c : Space X) → Stays b c → AllStand (store_in a) (store_in b) → AllStand (store_in b) (store_in c)
+pub all_then : {X : Type 0} (a b c : Space X) → Stays b c → AllStand (store_in a) (store_in b)
+    → AllStand (store_in b) (store_in c)
     → AllStand (store_in a) (store_in c)
 all_then a b c bc first second = stand_then (store_in a) (store_in b) (store_in c) bc.accessed.follows first second

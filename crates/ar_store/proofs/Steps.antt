@@ -20,14 +20,16 @@ use Rattle.ar_store.specs.Store.{StoreState, store_of, members_of}
 use Rattle.ar_store.specs.Slots.{ClassHolds, SlotHolds, BesideHold}
 use Rattle.ar_store.specs.Placing.{slot_at}
 use Rattle.ar_store.specs.Calls.{HoldsZeros}
-use Rattle.ar_store.specs.Plans.{slot_read, slot_write, home_read, write_of, move_plan, fill_plan, copy_plan, CopiesSlot, CopiesFirst, MovesInTurn, FillsWithZeros, Squeezes}
+use Rattle.ar_store.specs.Plans.{slot_read, slot_write, home_read, write_of, move_plan, fill_plan, copy_plan}
+use Rattle.ar_store.specs.Plans.{CopiesSlot, CopiesFirst, MovesInTurn, FillsWithZeros, Squeezes}
 use Rattle.ar_store.specs.Spaces.{store_in}
 use Rattle.ar_store.proofs.Squeezing.{IsSqueezing}
 use Rattle.ar_store.proofs.Zeros.{zeros_broken}
 use Rattle.ar_store.proofs.Planned.{first_members}
 
 -- one more slot was copied
-pub copies_then : (from to : Members) (i : ℕ) (old now new : SetState) → CopiesFirst from to i old now → CopiesSlot from to i now new
+pub copies_then : (from to : Members) (i : ℕ) (old now new : SetState) → CopiesFirst from to i old now
+    → CopiesSlot from to i now new
     → new.health ≢ AllBroken → CopiesFirst from to (i + 1) old new
 copies_then from to i old now new before step sound =
     subst (λ n. CopiesFirst from to n old new) (suc-eq-add-one i) (now, before, record { copy = step; sound = sound })
@@ -51,15 +53,21 @@ module _ {X : Type 0} (old now new : Space X) (from to i : ℕ) (k : Key) (so_fa
   placed = key_home now.book so_far.stays.ready.space.tables (slot_at from i) k names
 
   -- the move of the next block is the copy of its slot
-  pub step_plan : CarriesOut (copy_plan now.disks.geometry (members_of (store_in old) from) (members_of (store_in old) to) i) now.disks new.disks
+  pub step_plan : CarriesOut
+      (copy_plan now.disks.geometry (members_of (store_in old) from) (members_of (store_in old) to) i) now.disks
+      new.disks
   unfolding one other
   step_plan =
       let g = now.disks.geometry in
       let s = store_in now in
       let read = slot_read Mirrored g one i in
-      let P : Option Slot → Type 0 = λ h. CarriesOut (both_of (home_read s h) (write_of s (slot_at to i))) s.disks new.disks in
-      let Q : Class → Type 0 = λ c. CarriesOut (both_of (slot_read c g (members_of s from) i) (write_of s (slot_at to i))) s.disks new.disks in
-      let R : Members → Type 0 = λ m. CarriesOut (both_of (slot_read Mirrored g m i) (write_of s (slot_at to i))) s.disks new.disks in
+      let P : Option Slot → Type 0 =
+      λ h. CarriesOut (both_of (home_read s h) (write_of s (slot_at to i))) s.disks new.disks in
+      let Q : Class → Type 0 =
+      λ c. CarriesOut (both_of (slot_read c g (members_of s from) i) (write_of s (slot_at to i))) s.disks
+      new.disks in
+      let R : Members → Type 0 =
+      λ m. CarriesOut (both_of (slot_read Mirrored g m i) (write_of s (slot_at to i))) s.disks new.disks in
       let S : Class → Type 0 = λ c. CarriesOut (both_of read (slot_write c g (members_of s to) i)) s.disks new.disks in
       let T : Members → Type 0 = λ m. CarriesOut (both_of read (slot_write Parity g m i)) s.disks new.disks in
       subst T (members_moved old now from to i to so_far)
@@ -89,14 +97,16 @@ module _ {X : Type 0} (old now new : Space X) (from to i : ℕ) (k : Key) (so_fa
             subst S to_now
             (subst R so_far.moving.opened
             (holds (slot_at from i) block placed
-            (subst P (sym (so_far.moving.open_from inside)) (subst Q (sym (members_moved old now from to i from so_far)) held))));
+            (subst P (sym (so_far.moving.open_from inside))
+            (subst Q (sym (members_moved old now from to i from so_far)) held))));
         beside = λ sound n block below ne held.
             let P : Class → Type 0 = λ c. ClassHolds c s.disks (members_of s to) n block in
             let Q : Members → Type 0 = λ m. ClassHolds Parity s.disks m n block in
             let R : Class → Type 0 = λ c. ClassHolds c new.disks (members_of (store_in new) to) n block in
             let S : Members → Type 0 = λ m. ClassHolds Parity new.disks m n block in
             let fits : n < slots_of now.book.geometry (class_of now.book to) =
-            subst (λ c. n < slots_of now.book.geometry c) (sym so_far.moving.opened) (subst (λ g. n < slots_of g Parity) (sym geometry) below) in
+            subst (λ c. n < slots_of now.book.geometry c) (sym so_far.moving.opened)
+            (subst (λ g. n < slots_of g Parity) (sym geometry) below) in
             subst S to_new
             (subst R later.moving.opened
             (beside.slots (slot_at to n) block (subst (λ l. to < l) (sym so_far.moving.units.groups) there, fits) refl
@@ -105,7 +115,8 @@ module _ {X : Type 0} (old now new : Space X) (from to i : ℕ) (k : Key) (so_fa
       }
 
 -- the group that was opened was filled,
-pub filled_zeros : (a b : StoreState) (g : ℕ) → b.book ≡ opened a.book g Parity → g < length a.book.groups → CarriesOut (fill_plan a.disks.geometry (members_of a g)) a.disks b.disks
+pub filled_zeros : (a b : StoreState) (g : ℕ) → b.book ≡ opened a.book g Parity → g < length a.book.groups
+    → CarriesOut (fill_plan a.disks.geometry (members_of a g)) a.disks b.disks
     → HoldsZeros b g
     → FillsWithZeros (members_of a g) a.disks b.disks
 filled_zeros a b g is inside plan holds =
@@ -121,27 +132,37 @@ filled_zeros a b g is inside plan holds =
     }
 
 -- or the array failed
-pub filled_broken : (m : Members) (a b : SetState) → CarriesOut (fill_plan a.geometry m) a b → b.health ≡ AllBroken → FillsWithZeros m a b
+pub filled_broken : (m : Members) (a b : SetState) → CarriesOut (fill_plan a.geometry m) a b → b.health ≡ AllBroken
+    → FillsWithZeros m a b
 filled_broken m a b plan broken = record { plan = plan; zeros = zeros_broken m b broken }
 
 -- A squeeze: the group was opened and filled, and then blocks moved to it.
 pub squeezes : (a b c : StoreState) (from to : ℕ) → b.book ≡ opened a.book to Parity → to < length a.book.groups
-    → CarriesOut (fill_plan a.disks.geometry (members_of a to)) a.disks b.disks → HoldsZeros b to → MovesInTurn from to b c → Squeezes from to a c
+    → CarriesOut (fill_plan a.disks.geometry (members_of a to)) a.disks b.disks → HoldsZeros b to
+    → MovesInTurn from to b c → Squeezes from to a c
 squeezes a b c from to is inside opening holds moves =
     let P : Tables → Type 0 = λ x. MovesInTurn from to (store_of b.disks x) c in
     record { filled = b.disks; fills = filled_zeros a b to is inside opening holds; moves = subst P is moves }
 
 -- no block has moved so far, and the array failed
-moves_none : (s : SetState) (t u : Tables) (from to : ℕ) → u ≡ t → s.health ≡ AllBroken → MovesInTurn from to (store_of s t) (store_of s u)
+moves_none : (s : SetState) (t u : Tables) (from to : ℕ) → u ≡ t → s.health ≡ AllBroken
+    → MovesInTurn from to (store_of s t) (store_of s u)
 moves_none s t u from to same broken = record {
   moved = 0;
   tables = record { within = omega arith; tables = same };
-  copies = record { within = omega arith; whole = λ sound. absurd (sound broken); counted = s; copies = refl; rest = inl refl };
+  copies = record {
+    within = omega arith;
+    whole = λ sound. absurd (sound broken);
+    counted = s;
+    copies = refl;
+    rest = inl refl;
+  };
 }
 
 -- the group was opened, and the array failed
 pub squeeze_cut : (a b : StoreState) (from to : ℕ) → b.book ≡ opened a.book to Parity
-    → CarriesOut (fill_plan a.disks.geometry (members_of a to)) a.disks b.disks → b.disks.health ≡ AllBroken → Squeezes from to a b
+    → CarriesOut (fill_plan a.disks.geometry (members_of a to)) a.disks b.disks → b.disks.health ≡ AllBroken
+    → Squeezes from to a b
 squeeze_cut a b from to is opening broken = record {
   filled = b.disks;
   fills = filled_broken (members_of a to) a.disks b.disks opening broken;

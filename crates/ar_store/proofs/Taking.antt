@@ -1,5 +1,6 @@
 -- How the extents of planned groups are taken.
-use Rattle.std.proofs.Common.{◌≡◌, ◌≢◌, ℕ, suc, ◌<◌, ◌≤◌, Bool, false, List, [], ◌∷◌, length, get_or, set, drop, Option, Some, position, refl, sym, ap, subst, ◌∙◌, arith}
+use Rattle.std.proofs.Common.{◌≡◌, ◌≢◌, ℕ, suc, ◌<◌, ◌≤◌, Bool, false, List, [], ◌∷◌, length, get_or, set, drop, Option}
+use Rattle.std.proofs.Common.{Some, position, refl, sym, ap, subst, ◌∙◌, arith}
 use Rattle.std.proofs.lemmas.List.{get_or-set_other, get_or-map, length-map}
 use Rattle.std.proofs.Math.Seq.{drop-cons}
 use Rattle.std.proofs.Math.ListN.{drop_of_length-le}
@@ -14,13 +15,15 @@ use Rattle.ar_store.specs.Forming.{AreFullest, HasFewLoose, IsFormed, IsPlanFor,
 -- the lowest loose extent of a disk stays where another disk's is taken
 lowest_other : (s : SetState) (d e x : ℕ) → x ≢ d → lowest_loose (taken s d (Some e)) x ≡ lowest_loose s x
 lowest_other s d e x ne =
-    ap (λ (row : List Bool). position (λ mark. mark) row) (get_or-set_other s.loose d x (set (marks_of s d) e false) [] ne)
+    ap (λ (row : List Bool). position (λ mark. mark) row)
+    (get_or-set_other s.loose d x (set (marks_of s d) e false) [] ne)
 
 -- the lowest loose extent was taken
 took : (s old new : SetState) (d e : ℕ) (o : Option ℕ) → old ≡ s → lowest_loose s d ≡ Some e → o ≡ lowest_loose old d
     → new ≡ taken old d o → new ≡ taken s d (Some e)
 took s old new d e o same low is change =
-    change ∙ ap (λ (t : SetState). taken t d o) same ∙ ap (λ x. taken s d x) (is ∙ ap (λ (t : SetState). lowest_loose t d) same ∙ low)
+    change ∙ ap (λ (t : SetState). taken t d o) same
+    ∙ ap (λ x. taken s d x) (is ∙ ap (λ (t : SetState). lowest_loose t d) same ∙ low)
 
 -- those of four disks were taken, one after another
 pub took_four : (s one two three four : SetState) (m : Members) (a b c d : Option ℕ) → AreFullest s m
@@ -43,7 +46,8 @@ took_four s one two three four m a b c d fullest a_is one_is b_is two_is c_is th
     let low_1 : lowest_loose s1 y.disk ≡ Some y.extent =
     lowest_other s x.disk x.extent y.disk (omega arith) ∙ fullest.lowest 1 (omega arith) in
     let low_2 : lowest_loose s2 z.disk ≡ Some z.extent =
-    lowest_other s1 y.disk y.extent z.disk (omega arith) ∙ lowest_other s x.disk x.extent z.disk (omega arith) ∙ fullest.lowest 2 (omega arith) in
+    lowest_other s1 y.disk y.extent z.disk (omega arith) ∙ lowest_other s x.disk x.extent z.disk (omega arith)
+    ∙ fullest.lowest 2 (omega arith) in
     let low_3 : lowest_loose s3 w.disk ≡ Some w.extent =
     lowest_other s2 z.disk z.extent w.disk (omega arith) ∙ lowest_other s1 y.disk y.extent w.disk (omega arith)
     ∙ lowest_other s x.disk x.extent w.disk (omega arith) ∙ fullest.lowest 3 (omega arith) in
@@ -62,15 +66,18 @@ pub record IsTaking (start set : SetState) (t : Tables) (number : ℕ) : Type 0 
   pub rest : IsFormed (store_of set tables) (drop number (members_list t)) (store_of after t)
 
 pub taking_start : (s : SetState) (t : Tables) → IsPlanFor s t → IsTaking s s t 0
-taking_start s t plan = record { after = plan.after; tables = empty_book s.geometry; all = plan.formed; rest = plan.formed }
+taking_start s t plan =
+    record { after = plan.after; tables = empty_book s.geometry; all = plan.formed; rest = plan.formed }
 
 -- the next group
 pub taking_here : (start set : SetState) (t : Tables) (n : ℕ) (m : Members) (now : IsTaking start set t n)
     → n < length t.groups → m ≡ (group_in t.groups n).members
-    → AreFullest set m × IsFormed (store_of (without set m) (formed now.tables m)) (drop (suc n) (members_list t)) (store_of now.after t)
+    → AreFullest set m
+    × IsFormed (store_of (without set m) (formed now.tables m)) (drop (suc n) (members_list t)) (store_of now.after t)
 taking_here start set t n m now inside is =
     let list : length (members_list t) ≡ length t.groups = length-map t.groups (λ (x : GroupState). x.members) in
-    let at : get_or (members_list t) n m ≡ m = get_or-map (λ (x : GroupState). x.members) t.groups n no_group m inside ∙ sym is in
+    let at : get_or (members_list t) n m ≡ m =
+    get_or-map (λ (x : GroupState). x.members) t.groups n no_group m inside ∙ sym is in
     let cons : drop n (members_list t) ≡ m ∷ drop (suc n) (members_list t) =
     drop-cons (members_list t) n m (omega arith) ∙ ap (λ x. x ∷ drop (suc n) (members_list t)) at in
     let P : List Members → Type 0 = λ ms. IsFormed (store_of set now.tables) ms (store_of now.after t) in
@@ -85,7 +92,9 @@ taking_next start set new t n k m now inside is took next =
       after = now.after;
       tables = formed now.tables m;
       all = now.all;
-      rest = subst (λ (x : SetState). IsFormed (store_of x (formed now.tables m)) (drop (suc n) (members_list t)) (store_of now.after t)) (sym took) here.1;
+      rest = subst
+          (λ (x : SetState). IsFormed (store_of x (formed now.tables m)) (drop (suc n) (members_list t))
+          (store_of now.after t)) (sym took) here.1;
     }
 
 -- all groups' extents are taken

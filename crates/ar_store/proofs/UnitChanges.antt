@@ -1,5 +1,7 @@
 -- A store whose units are made, grow, are dropped, or lose their mark: its blocks stand as they did.
-use Rattle.std.proofs.Common.{◌≡◌, ◌≢◌, inl, inr, ℕ, ◌<◌, ◌≤◌, List, [], get_or, is_some, Option, None, Some, IsSome, Result, Ok, Err, OnOk, OnErr, IsOk, IsTrue, ◌↔◌, refl, sym, ap, subst, ◌∙◌, true≢false, arith}
+use Rattle.std.proofs.Common.{◌≡◌, ◌≢◌, inl, inr, ℕ, ◌<◌, ◌≤◌, List, [], get_or, is_some, Option, None, Some, IsSome}
+use Rattle.std.proofs.Common.{Result, Ok, Err, OnOk, OnErr, IsOk, IsTrue, ◌↔◌, refl, sym, ap, subst, ◌∙◌, true≢false}
+use Rattle.std.proofs.Common.{arith}
 use Rattle.std.specs.Map.{lookup}
 use Rattle.std.specs.Option.{unwrap_or}
 use Rattle.std.proofs.lemmas.Option.{none-some}
@@ -13,7 +15,8 @@ use Rattle.ar_extents.specs.Set.{SetState}
 use Rattle.ar_book.specs.declared.class.Class.TheVariants.{Free, Parity}
 use Rattle.ar_book.specs.declared.class.Slot.{Slot}
 use Rattle.ar_disks.specs.Addresses.{same_addr}
-use Rattle.ar_book.specs.Tables.{UnitTableState, Tables, is_free, no_unit, has_unit, group_in, class_of, key_at, home, free_groups}
+use Rattle.ar_book.specs.Tables.{UnitTableState, Tables, is_free, no_unit, has_unit, group_in, class_of, key_at, home}
+use Rattle.ar_book.specs.Tables.{free_groups}
 use Rattle.ar_book.specs.Changes.{made, grown, dropped, unmarked}
 use Rattle.ar_book.specs.Refusals.{unit_make_refusal, unit_grow_refusal}
 use Rattle.ar_book.specs.Book.{TablesAgree}
@@ -21,7 +24,9 @@ use Rattle.ar_disks.proofs.Addresses.{addr_tells}
 use Rattle.ar_book.proofs.Homes.{home_key}
 use Rattle.ar_book.proofs.GroupLemmas.{KeepsClass}
 use Rattle.ar_book.proofs.AfterMake.{made_home, made_agrees, grown_home, grown_agrees, unmarked_home, unmarked_agrees}
-use Rattle.ar_book.proofs.DropLemmas.{dropped_home_own, dropped_home_other, dropped_key_empty, dropped_key_own, dropped_key_other, dropped_group_count, dropped_members, dropped_class, dropped_class_named, dropped_free_groups, dropped_agrees}
+use Rattle.ar_book.proofs.DropLemmas.{dropped_home_own, dropped_home_other, dropped_key_empty, dropped_key_own}
+use Rattle.ar_book.proofs.DropLemmas.{dropped_key_other, dropped_group_count, dropped_members, dropped_class}
+use Rattle.ar_book.proofs.DropLemmas.{dropped_class_named, dropped_free_groups, dropped_agrees}
 use Rattle.ar_store.specs.Store.{store_of}
 use Rattle.ar_store.specs.Slots.{HoldsBlock, stands}
 use Rattle.ar_store.specs.Kept.{IsSpace, FieldsAgree}
@@ -52,7 +57,8 @@ space_units a t units space agree =
 
 -- and every block stands as it did whose home is the same
 units_stand : (a : SetState) (t : Tables) (units : List (Addr × UnitTableState)) (k : Key)
-    → home (record t { units = units }) k ≡ home t k → stands (store_of a (record t { units = units })) k ≡ stands (store_of a t) k
+    → home (record t { units = units }) k ≡ home t k
+    → stands (store_of a (record t { units = units })) k ≡ stands (store_of a t) k
 units_stand a t units k same = stands_same a t (record t { units = units }) k same (λ slot is. refl) (λ g. refl)
 
 module _ (a : SetState) (t : Tables) (b : Addr) (n : ℕ) (space : IsSpace (store_of a t)) where
@@ -90,7 +96,8 @@ module _ (a : SetState) (t : Tables) (b : Addr) (space : IsSpace (store_of a t))
       ]
 
   -- and a group that has parity had it before
-  parity_before : (g : ℕ) → KeepsClass (class_of t g) (group_in (dropped t b).groups g) → class_of (dropped t b) g ≡ Parity
+  parity_before : (g : ℕ) → KeepsClass (class_of t g) (group_in (dropped t b).groups g)
+      → class_of (dropped t b) g ≡ Parity
       → class_of t g ≡ Parity
   parity_before g (inl same) is = sym same ∙ is
   parity_before g (inr free) is = absurd (free_not_parity (sym free.0 ∙ is))

@@ -32,27 +32,33 @@ use Rattle.ar_store.proofs.Ways.{unplaced_not_mirrored, unplaced_not_parity}
 pub zeros_broken : (m : Members) (s : SetState) → s.health ≡ AllBroken
     → (i : ℕ) → i < 3 * rows_of s.geometry → ParityHolds s m i (zeros (block_len_of s.geometry))
 zeros_broken m s broken =
-    zero_slots s m (rows_of s.geometry) (block_len_of s.geometry) (λ row lt. broken_zero_agrees s s m row (follows_refl s) broken)
+    zero_slots s m (rows_of s.geometry) (block_len_of s.geometry)
+    (λ row lt. broken_zero_agrees s s m row (follows_refl s) broken)
 
 -- a group that was just filled
 pub zeros_all : (s : StoreState) (group : ℕ) → HoldsZeros s group → HoldsZerosFrom s group 0
 zeros_all s group holds = record { slots = λ i le inside. holds.slots i inside }
 
 -- One of its slots was written: those behind it hold zeros.
-pub zeros_later : (a b : StoreState) (s : Slot) → IsSpace a → s.group < length a.book.groups → class_in a s.group ≡ Parity → Follows a.disks b.disks
+pub zeros_later : (a b : StoreState) (s : Slot) → IsSpace a → s.group < length a.book.groups
+    → class_in a s.group ≡ Parity → Follows a.disks b.disks
     → BesideHold a b s → HoldsZerosFrom a s.group s.slot → HoldsZerosFrom b s.group (s.slot + 1)
 zeros_later a b s space there parity ab beside held = record {
   slots = λ i le inside.
-      let inside_a : i < 3 * rows_of a.disks.geometry = subst (λ (g : Geometry). i < 3 * rows_of g) ab.geometry inside in
-      let inside_t : i < slots_of a.book.geometry Parity = subst (λ (g : Geometry). i < slots_of g Parity) (sym space.geometry) inside_a in
+      let inside_a : i < 3 * rows_of a.disks.geometry =
+      subst (λ (g : Geometry). i < 3 * rows_of g) ab.geometry inside in
+      let inside_t : i < slots_of a.book.geometry Parity =
+      subst (λ (g : Geometry). i < slots_of g Parity) (sym space.geometry) inside_a in
       subst (λ (g : Geometry). SlotHolds b (slot_at s.group i) (zeros (block_len_of g))) (sym ab.geometry)
       (beside.slots (slot_at s.group i) (zeros (block_len_of a.disks.geometry))
       (there, subst (λ (c : Class). i < slots_of a.book.geometry c) (sym parity) inside_t) refl
-      (λ e. (let same : i ≡ s.slot = ap (λ (x : Slot). x.slot) e in omega arith)) (held.slots i (omega arith) inside_a));
+      (λ e. (let same : i ≡ s.slot = ap (λ (x : Slot). x.slot) e in omega arith))
+      (held.slots i (omega arith) inside_a));
 }
 
 -- a slot that names no block is a hole of a class
-no_vacant : (t : Tables) (s : Slot) → IsVacant t s → HasNoHole t Mirrored → HasNoHole t Parity → (c : Class) → class_of t s.group ≡ c → ⊥
+no_vacant : (t : Tables) (s : Slot) → IsVacant t s → HasNoHole t Mirrored → HasNoHole t Parity → (c : Class)
+    → class_of t s.group ≡ c → ⊥
 no_vacant t s vacant mirrored parity Free is =
     let none : s.slot < 0 = subst (λ (c : Class). s.slot < slots_of t.geometry c) is vacant.there.1 in omega arith
 no_vacant t s vacant mirrored parity Mirrored is = mirrored.none s (record {
@@ -81,26 +87,38 @@ way_unneeded t u k (Hole s) found (inr has) at mirrored parity few = (let many =
 way_unneeded t u k Broken found opens at mirrored parity few = found.there
 
 -- so that nothing is to be said of zeros
-pub zeros_unneeded : (a : StoreState) (t u : Tables) (k : Key) (way : Way) → IsWayIn t k u way → MayOpen t u → IsZerosOnWay t k a way
+pub zeros_unneeded : (a : StoreState) (t u : Tables) (k : Key) (way : Way) → IsWayIn t k u way → MayOpen t u
+    → IsZerosOnWay t k a way
 zeros_unneeded a t u k (Home s) found opens = tt
 zeros_unneeded a t u k (Hole s) found (inl same) =
-    λ needs. absurd (no_vacant t s (subst (λ (x : Tables). IsVacant x s) same found.there) needs.mirrored.none needs.parity (class_of t s.group) refl)
-zeros_unneeded a t u k (Hole s) found (inr has) = λ needs. absurd (let few = needs.mirrored.few in let many = has.many in omega arith)
+    λ needs. absurd
+    (no_vacant t s (subst (λ (x : Tables). IsVacant x s) same found.there) needs.mirrored.none needs.parity
+    (class_of t s.group) refl)
+zeros_unneeded a t u k (Hole s) found (inr has) =
+    λ needs. absurd (let few = needs.mirrored.few in let many = has.many in omega arith)
 zeros_unneeded a t u k Broken found opens = tt
 
 -- a stamp changes no slot
-pub beside_hold_stamped : (a : StoreState) (b : SetState) (t : Tables) (k : Key) (to : Slot) → BesideHold a (store_of b t) to → BesideHold a (store_of b (stamped t k)) to
-beside_hold_stamped a b t k to beside = record { slots = λ slot block there same ne holds. beside.slots slot block there same ne holds }
+pub beside_hold_stamped : (a : StoreState) (b : SetState) (t : Tables) (k : Key) (to : Slot)
+    → BesideHold a (store_of b t) to → BesideHold a (store_of b (stamped t k)) to
+beside_hold_stamped a b t k to beside =
+    record { slots = λ slot block there same ne holds. beside.slots slot block there same ne holds }
 
 -- The slot that a squeeze left was written: those behind it hold zeros.
-pub zeros_put : (a b d : StoreState) (k : Key) (way : Way) → IsSpace b → Follows b.disks d.disks → Leads a.book k b.book way → IsReadyFor b k way → way ≢ Broken
+pub zeros_put : (a b d : StoreState) (k : Key) (way : Way) → IsSpace b → Follows b.disks d.disks
+    → Leads a.book k b.book way → IsReadyFor b k way → way ≢ Broken
     → IsZerosOnWay a.book k b way → BesideWay way b d → LeavesZeros a k d
 zeros_put a b d k (Home s) space bd leads ready sound held beside = record {
   behind = λ from to unplaced mirrored parity few is_from is_to. absurd (none-some s (sym unplaced ∙ leads.home));
 }
 zeros_put a b d k (Hole s) space bd leads ready sound held beside = record {
   behind = λ from to unplaced mirrored parity few is_from is_to.
-      let left = held (record { unplaced = unplaced; mirrored = record { same = refl; none = mirrored; few = few }; parity = parity }) in
+      let left = held
+      (record {
+        unplaced = unplaced;
+        mirrored = record { same = refl; none = mirrored; few = few };
+        parity = parity;
+      }) in
       let is = (leads.squeezed_group from to mirrored parity few is_from is_to).1 in
       subst (λ (x : Slot). HoldsZerosFrom d x.group (x.slot + 1)) is
       (zeros_later b d s space ready.there.0 left.parity bd beside left.zeros);

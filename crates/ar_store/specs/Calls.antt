@@ -63,18 +63,22 @@ pub record BreaksOpening (old new : StoreState) (class : Class) : Type 0 where
 
 -- each slot of a parity group holds the zero block
 pub record HoldsZeros (s : StoreState) (group : ℕ) : Type 0 where
-  pub slots : (i : ℕ) → i < 3 * rows_of s.disks.geometry → SlotHolds s (slot_at group i) (zeros (block_len_of s.disks.geometry))
+  pub slots : (i : ℕ) → i < 3 * rows_of s.disks.geometry
+      → SlotHolds s (slot_at group i) (zeros (block_len_of s.disks.geometry))
 
 -- each slot of a parity group from `first` on holds the zero block
 pub record HoldsZerosFrom (s : StoreState) (group first : ℕ) : Type 0 where
-  pub slots : (i : ℕ) → first ≤ i → i < 3 * rows_of s.disks.geometry → SlotHolds s (slot_at group i) (zeros (block_len_of s.disks.geometry))
+  pub slots : (i : ℕ) → first ≤ i → i < 3 * rows_of s.disks.geometry
+      → SlotHolds s (slot_at group i) (zeros (block_len_of s.disks.geometry))
 
 -- A put that needed a squeeze filled the group that it opened with zeros: each slot behind the block's own holds the
 -- zero block.
 pub record LeavesZeros (old : StoreState) (k : Key) (new : StoreState) : Type 0 where
   pub behind :
-      (from to : ℕ) → home old.book k ≡ None → HasNoHole old.book Mirrored → HasNoHole old.book Parity → free_groups old.book < 2
-      → IsFullMirrored old.book from → IsLowestFree old.book to → HoldsZerosFrom new to (slots_of old.book.geometry Mirrored + 1)
+      (from to : ℕ) → home old.book k ≡ None → HasNoHole old.book Mirrored → HasNoHole old.book Parity
+      → free_groups old.book < 2
+      → IsFullMirrored old.book from → IsLowestFree old.book to
+      → HoldsZerosFrom new to (slots_of old.book.geometry Mirrored + 1)
 
 -- the slot is in a parity group, each of whose slots from this one on holds the zero block
 pub record IsZerosFrom (s : StoreState) (slot : Slot) : Type 0 where

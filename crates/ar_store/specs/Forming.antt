@@ -18,7 +18,8 @@ pub record AreFullest (s : SetState) (m : Members) : Type 0 where
   pub there : m.fourth.disk < length s.disks
   pub lowest : (i : ℕ) → i < 4 → lowest_loose s (member m i).disk ≡ Some (member m i).extent
   pub fullest : (x i : ℕ) → x < length s.disks → i < 4 → ((j : ℕ) → j < 4 → x ≢ (member m j).disk)
-      → (loose_count s x < loose_count s (member m i).disk) ⊎ ((loose_count s x ≡ loose_count s (member m i).disk) × ((member m i).disk < x))
+      → (loose_count s x < loose_count s (member m i).disk)
+      ⊎ ((loose_count s x ≡ loose_count s (member m i).disk) × ((member m i).disk < x))
 
 -- no four different disks have unassigned extents
 pub record HasFewLoose (s : SetState) : Type 0 where
@@ -28,7 +29,8 @@ pub record HasFewLoose (s : SetState) : Type 0 where
 -- the set with a group's four extents assigned
 abbrev pub without : SetState → Members → SetState
 without s m =
-    taken (taken (taken (taken s m.first.disk (Some m.first.extent)) m.second.disk (Some m.second.extent)) m.third.disk (Some m.third.extent))
+    taken (taken (taken (taken s m.first.disk (Some m.first.extent)) m.second.disk (Some m.second.extent)) m.third.disk
+    (Some m.third.extent))
     m.fourth.disk (Some m.fourth.extent)
 
 -- the store with one more free group, of four extents that were unassigned

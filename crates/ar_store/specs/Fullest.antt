@@ -1,5 +1,6 @@
 -- Which four disks the next group uses, by the number of unassigned extents of each disk (`counts`).
-use Rattle.std.specs.Prelude.{◌≡◌, ◌≢◌, ◌⊎◌, ℕ, ◌-◌, ◌<◌, ◌≤◌, false, ◌==◌, List, length, slice_index, slice_set, Option, IfSome, IfNone}
+use Rattle.std.specs.Prelude.{◌≡◌, ◌≢◌, ◌⊎◌, ℕ, ◌-◌, ◌<◌, ◌≤◌, false, ◌==◌, List, length, slice_index, slice_set}
+use Rattle.std.specs.Prelude.{Option, IfSome, IfNone}
 use Rattle.std.specs.List.{list_any}
 use Rattle.ar_disks.specs.declared.address.Members.{Members}
 use Rattle.ar_disks.specs.declared.address.Place.{Place}
@@ -7,7 +8,8 @@ use Rattle.ar_store.specs.declared.form.FourDisks.{FourDisks}
 
 -- disk d has more unassigned extents than disk x, or as many and the lower number
 abbrev pub Precedes : List ℕ → ℕ → ℕ → Type 0
-Precedes counts d x = (slice_index counts x < slice_index counts d) ⊎ ((slice_index counts x ≡ slice_index counts d) × (d < x))
+Precedes counts d x =
+    (slice_index counts x < slice_index counts d) ⊎ ((slice_index counts x ≡ slice_index counts d) × (d < x))
 
 -- the disk is none of these
 abbrev pub IsOther : List ℕ → ℕ → Type 0
@@ -26,7 +28,8 @@ pub record IsFullest (counts but : List ℕ) (end : ℕ) (best : Option ℕ) : T
 pub record ArePicked (counts : List ℕ) (a b c d : ℕ) : Type 0 where
   pub apart : (a ≢ b) × (a ≢ c) × (a ≢ d) × (b ≢ c) × (b ≢ d) × (c ≢ d)
   pub there : (a < length counts) × (b < length counts) × (c < length counts) × (d < length counts)
-  pub some : (0 < slice_index counts a) × (0 < slice_index counts b) × (0 < slice_index counts c) × (0 < slice_index counts d)
+  pub some : (0 < slice_index counts a) × (0 < slice_index counts b) × (0 < slice_index counts c)
+      × (0 < slice_index counts d)
   pub first : (x : ℕ) → x < length counts → x ≢ a → x ≢ b → x ≢ c → x ≢ d
       → Precedes counts a x × Precedes counts b x × Precedes counts c x × Precedes counts d x
 

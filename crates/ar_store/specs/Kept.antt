@@ -28,7 +28,8 @@ pub record IsSpace (s : StoreState) : Type 0 where
   -- a slot that a block of a unit is mapped to holds one
   pub named : (slot : Slot) (k : Key) → key_at s.book slot ≡ Some k → HoldsBlock s slot
   -- and so does each slot of a parity group, since the parity covers all of them
-  pub parity : (slot : Slot) → slot.group < length s.book.groups → class_in s slot.group ≡ Parity → slot.slot < 3 * rows_of s.disks.geometry → HoldsBlock s slot
+  pub parity : (slot : Slot) → slot.group < length s.book.groups → class_in s slot.group ≡ Parity
+      → slot.slot < 3 * rows_of s.disks.geometry → HoldsBlock s slot
 
 -- And until the array fails a group is free, so that no put is refused for lack of space.
 pub record IsKept (s : StoreState) : Type 0 where

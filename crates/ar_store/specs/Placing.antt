@@ -11,7 +11,8 @@ use Rattle.ar_extents.specs.declared.health.Health.TheVariants.{Broken as AllBro
 use Rattle.ar_store.specs.Store.{StoreState}
 use Rattle.ar_store.specs.declared.way.Way.{Way}
 use Rattle.ar_store.specs.declared.way.Way.TheVariants.{Home, Hole, Broken}
-use Rattle.ar_book.specs.Tables.{Tables, HasSlot, key_at, home, level, slots_of, class_of, free_groups, unit_in, reserved}
+use Rattle.ar_book.specs.Tables.{Tables, HasSlot, key_at, home, level, slots_of, class_of, free_groups, unit_in}
+use Rattle.ar_book.specs.Tables.{reserved}
 use Rattle.ar_book.specs.Changes.{assigned, stamped, opened}
 use Rattle.ar_book.specs.Choices.{IsHole, IsUpTo, IsLowestFree, IsFullMirrored}
 
@@ -66,10 +67,12 @@ pub record Puts (t : Tables) (k : Key) (new : Tables) : Type 0 where
   -- else a block at the parity level is overwritten in place
   pub parity : level t k ≡ ParityLevel → HasNoHole t Mirrored → free_groups t < 2 → new ≡ stamped t k
   -- and one without a home goes to the lowest parity hole
-  pub parity_hole : (s : Slot) → level t k ≡ Unplaced → HasNoHole t Mirrored → free_groups t < 2 → IsLowestHole t Parity s → new ≡ put_in t k s
+  pub parity_hole : (s : Slot) → level t k ≡ Unplaced → HasNoHole t Mirrored → free_groups t < 2
+      → IsLowestHole t Parity s → new ≡ put_in t k s
   -- or, if there is none, to the first hole that a squeeze leaves
   pub squeezed_group :
-      (from to : ℕ) → level t k ≡ Unplaced → HasNoHole t Mirrored → HasNoHole t Parity → free_groups t < 2 → IsFullMirrored t from → IsLowestFree t to
+      (from to : ℕ) → level t k ≡ Unplaced → HasNoHole t Mirrored → HasNoHole t Parity → free_groups t < 2
+      → IsFullMirrored t from → IsLowestFree t to
       → new ≡ put_in (squeezed t from to) k (slot_at to (slots_of t.geometry Mirrored))
 
 -- The units keep all but homes and write sequence numbers; the number of groups and the reserved space stay.
@@ -94,10 +97,13 @@ pub record LeadsToHole (t : Tables) (k : Key) (new : Tables) (s : Slot) : Type 0
   pub when : level t k ≢ MirroredLevel
   pub unplaced : HasNoHole t Mirrored → free_groups t < 2 → level t k ≡ Unplaced
   pub mirrored_hole : (r : Slot) → IsLowestHole t Mirrored r → (new ≡ t) × (s ≡ r)
-  pub opened_group : (g : ℕ) → HasNoHole t Mirrored → 2 ≤ free_groups t → IsLowestFree t g → (new ≡ opened t g Mirrored) × (s ≡ slot_at g 0)
-  pub parity_hole : (r : Slot) → HasNoHole t Mirrored → free_groups t < 2 → IsLowestHole t Parity r → (new ≡ t) × (s ≡ r)
+  pub opened_group : (g : ℕ) → HasNoHole t Mirrored → 2 ≤ free_groups t → IsLowestFree t g
+      → (new ≡ opened t g Mirrored) × (s ≡ slot_at g 0)
+  pub parity_hole : (r : Slot) → HasNoHole t Mirrored → free_groups t < 2 → IsLowestHole t Parity r
+      → (new ≡ t) × (s ≡ r)
   pub squeezed_group :
-      (from to : ℕ) → HasNoHole t Mirrored → HasNoHole t Parity → free_groups t < 2 → IsFullMirrored t from → IsLowestFree t to
+      (from to : ℕ) → HasNoHole t Mirrored → HasNoHole t Parity → free_groups t < 2 → IsFullMirrored t from
+      → IsLowestFree t to
       → (new ≡ squeezed t from to) × (s ≡ slot_at to (slots_of t.geometry Mirrored))
 
 -- where a put writes its block; unspecified once the array has failed
@@ -110,7 +116,8 @@ Leads t k new Broken = Unit {0}
 pub record IsMirroredHole (t new : Tables) (s : Slot) : Type 0 where
   pub empty : IsVacant new s
   pub found : (r : Slot) → IsLowestHole t Mirrored r → (new ≡ t) × (s ≡ r)
-  pub made : (g : ℕ) → HasNoHole t Mirrored → 2 ≤ free_groups t → IsLowestFree t g → (new ≡ opened t g Mirrored) × (s ≡ slot_at g 0)
+  pub made : (g : ℕ) → HasNoHole t Mirrored → 2 ≤ free_groups t → IsLowestFree t g
+      → (new ≡ opened t g Mirrored) × (s ≡ slot_at g 0)
   pub when : HasNoHole t Mirrored → 2 ≤ free_groups t
 
 -- there is none, and none can be made
@@ -122,7 +129,8 @@ pub record HasNoMirroredHole (t new : Tables) : Type 0 where
 -- the first hole that a squeeze leaves
 pub record IsSqueezed (t new : Tables) (s : Slot) : Type 0 where
   pub empty : IsVacant new s
-  pub tables : (from to : ℕ) → IsFullMirrored t from → IsLowestFree t to → (new ≡ squeezed t from to) × (s ≡ slot_at to (slots_of t.geometry Mirrored))
+  pub tables : (from to : ℕ) → IsFullMirrored t from → IsLowestFree t to
+      → (new ≡ squeezed t from to) × (s ≡ slot_at to (slots_of t.geometry Mirrored))
 
 -- all blocks of a full mirrored group can move to an empty parity group
 pub record CanMove (t : Tables) (from to : ℕ) : Type 0 where

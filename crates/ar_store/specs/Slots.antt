@@ -70,20 +70,24 @@ CanWrite Parity s m i = HoldsAny s m i
 -- One slot of a group was written: it holds the block, the others keep theirs, and no other extent was written.
 pub record IsSlotWritten (class : Class) (old new : SetState) (m : Members) (i : ℕ) (block : List ℕ) : Type 0 where
   pub here : ClassHolds class new m i block
-  pub beside : (k : ℕ) (other : List ℕ) → k < slots_of old.geometry class → k ≢ i → ClassHolds class old m k other → ClassHolds class new m k other
+  pub beside : (k : ℕ) (other : List ℕ) → k < slots_of old.geometry class → k ≢ i → ClassHolds class old m k other
+      → ClassHolds class new m k other
   pub outside : Keeps (IsOutside m) old new
 
 -- every slot keeps the block that it held
 pub record SlotsHold (old new : StoreState) : Type 0 where
-  pub slots : (slot : Slot) (block : List ℕ) → HasSlot old.book slot → SlotHolds old slot block → SlotHolds new slot block
+  pub slots : (slot : Slot) (block : List ℕ) → HasSlot old.book slot → SlotHolds old slot block
+      → SlotHolds new slot block
 
 -- every slot but `written` keeps the block that it held
 pub record OtherSlotsHold (old new : StoreState) (written : Slot) : Type 0 where
-  pub slots : (slot : Slot) (block : List ℕ) → HasSlot old.book slot → slot ≢ written → SlotHolds old slot block → SlotHolds new slot block
+  pub slots : (slot : Slot) (block : List ℕ) → HasSlot old.book slot → slot ≢ written → SlotHolds old slot block
+      → SlotHolds new slot block
 
 -- every other slot of the group of `written` keeps the block that it held
 pub record BesideHold (old new : StoreState) (written : Slot) : Type 0 where
-  pub slots : (slot : Slot) (block : List ℕ) → HasSlot old.book slot → slot.group ≡ written.group → slot ≢ written → SlotHolds old slot block → SlotHolds new slot block
+  pub slots : (slot : Slot) (block : List ℕ) → HasSlot old.book slot → slot.group ≡ written.group → slot ≢ written
+      → SlotHolds old slot block → SlotHolds new slot block
 
 -- with disk d lost, whatever it holds, every block keeps its contents
 pub record SurvivesLossOf (s : StoreState) (d : ℕ) : Type 0 where

@@ -36,7 +36,8 @@ impl<D: Disk> Store<D> {
         requires { CanCount (D.state disk) }
         ensures taken { OnOk result (add_refusal self.old.disks (D.state disk) ≡ None) }
         ensures disks { OnOk result (self.new.disks ≡ added self.old.disks (D.state disk)) }
-        ensures refused { IfErr result (λ back. back.0 ≡ unwrap_or (add_refusal self.old.disks (D.state disk)) NoMemory) }
+        ensures refused { IfErr result
+            (λ back. back.0 ≡ unwrap_or (add_refusal self.old.disks (D.state disk)) NoMemory) }
         ensures handed_back { IfErr result (λ back. back.1 ≡ disk) }
         ensures book { self.new.book ≡ self.old.book }
         ensures unchanged { OnErr result (self.new ≡ self.old) }

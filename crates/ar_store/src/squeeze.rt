@@ -22,11 +22,12 @@ impl<D: Disk> Space<D> {
     ghost use Rattle.ar_store.specs.Slots.{AllStand};
     ghost use Rattle.ar_store.specs.Calls.{HoldsZeros, HoldsZerosFrom, IsZerosFrom};
     ghost use Rattle.ar_store.specs.Plans.{CarriesOutSqueeze, MovesInTurn};
-    ghost use Rattle.ar_store.specs.Placing.{slot_at, moved_first, IsVacant, IsSqueezed, HasNoHole, CanMove, HasBegunSqueeze};
+    ghost use Rattle.ar_store.specs.Placing.{slot_at, moved_first, IsVacant, IsSqueezed, HasNoHole, CanMove};
+    ghost use Rattle.ar_store.specs.Placing.{HasBegunSqueeze};
     ghost use Rattle.ar_store.specs.Spaces.{store_in, IsReady, Stays};
 
-    /// Opens the only free group for parity, moves all blocks of the lowest full mirrored group there, and returns the first
-    /// hole behind them. None if the array failed.
+    /// Opens the only free group for parity, moves all blocks of the lowest full mirrored group there, and returns the
+    /// first hole behind them. None if the array failed.
     pub(crate) fn squeeze(&mut self, block: &mut Block) -> Option<Slot>
         requires ready { IsReady self.old }
         requires waiting { HasUnplacedBlock self.old.book }
@@ -72,12 +73,14 @@ impl<D: Disk> Space<D> {
         requires whole { length block.old ≡ block_len_of self.old.disks.geometry }
 
         ensures outcome { result ≡ outcome_of self.new.disks.health }
-        ensures moved { result ≡ Completion.Done → self.new.book ≡ moved_first self.old.book from to (slots_of self.old.book.geometry Mirrored) }
+        ensures moved { result ≡ Completion.Done → self.new.book
+            ≡ moved_first self.old.book from to (slots_of self.old.book.geometry Mirrored) }
         ensures emptied { result ≡ Completion.Done → class_of self.new.book from ≡ Free }
         ensures opened { result ≡ Completion.Done → class_of self.new.book to ≡ Parity }
         ensures zeros { result ≡ Completion.Done → HoldsZeros (store_in self.old) to
             → HoldsZerosFrom (store_in self.new) to (slots_of self.old.book.geometry Mirrored) }
-        ensures hole { result ≡ Completion.Done → IsVacant self.new.book (slot_at to (slots_of self.old.book.geometry Mirrored)) }
+        ensures hole { result ≡ Completion.Done
+            → IsVacant self.new.book (slot_at to (slots_of self.old.book.geometry Mirrored)) }
 
         ensures unplaced { (k : Key) → home self.old.book k ≡ None → home self.new.book k ≡ None }
         ensures stand { AllStand (store_in self.old) (store_in self.new) }

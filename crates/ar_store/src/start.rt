@@ -1,6 +1,7 @@
 // Creates a store. All memory is allocated first (the plan), but for that of the disk set, so that an error can give
 // the disks back.
-ghost use Rattle.std.specs.Prelude.{◌≡◌, ◌<◌, ◌≤◌, ℕ, All, map, replicate, None, length, slice_index, unwrap_or, IfOk, IfErr, OnOk};
+ghost use Rattle.std.specs.Prelude.{◌≡◌, ◌<◌, ◌≤◌, ℕ, All, map, replicate, None, length, slice_index, unwrap_or, IfOk};
+ghost use Rattle.std.specs.Prelude.{IfErr, OnOk};
 ghost use Rattle.ar_disks.specs.Geometry.{block_len_of};
 ghost use Rattle.ar_extents.specs.declared.refusal.StartFault.TheVariants.{NoMemory};
 ghost use Rattle.ar_extents.specs.Set.{SetState, CanCount};
@@ -8,7 +9,8 @@ ghost use Rattle.ar_extents.specs.Changes.{start_fault, started};
 ghost use Rattle.ar_book.specs.Book.{TablesAgree};
 ghost use Rattle.ar_store.specs.Store.{store_of};
 ghost use Rattle.ar_store.specs.Fullest.{AreFourFullest, one_fewer, four_fewer, next_loose, next_members};
-ghost use Rattle.ar_store.specs.Forming.{AreFullest, IsFormed, IsStoreStarted, IsPlanFor, IsSetStarted, IsAllLoose, without, empty_book, members_list};
+ghost use Rattle.ar_store.specs.Forming.{AreFullest, IsFormed, IsStoreStarted, IsPlanFor, IsSetStarted, IsAllLoose};
+ghost use Rattle.ar_store.specs.Forming.{without, empty_book, members_list};
 
 use crate::form::{FourDisks, four_fullest};
 use crate::space::Space;
@@ -95,7 +97,8 @@ fn form<D: Disk>(mut set: DiskSet<D>, plan: Plan) -> Store<D>
 fn make_plan<D: Disk>(alloc: Global, disks: &[D]) -> Result<Plan, AllocError>
     requires { start_fault (map D.state disks.now) ≡ None }
     ensures book { IfOk result (λ plan. IsPlanFor (started (map D.state disks.now)) plan.book) }
-    ensures block { IfOk result (λ plan. length plan.buffers.block ≡ block_len_of (started (map D.state disks.now)).geometry) }
+    ensures block { IfOk result
+        (λ plan. length plan.buffers.block ≡ block_len_of (started (map D.state disks.now)).geometry) }
     ensures scratch { IfOk result (λ plan. plan.buffers.scratch.geometry ≡ (started (map D.state disks.now)).geometry) }
 {
     let geometry = disks[0].geometry();
@@ -139,7 +142,8 @@ fn form_groups(
 ) -> Result<Book, AllocError>
     requires few { length counts.old.items ≤ 255 }
     requires all { counts.old.items ≡ replicate (length counts.old.items) extents }
-    ensures { IfOk result (λ book. (s : SetState) → IsAllLoose geometry (length counts.old.items) extents s → IsPlanFor s book) }
+    ensures { IfOk result (λ book. (s : SetState) → IsAllLoose geometry (length counts.old.items) extents s
+        → IsPlanFor s book) }
 {
     let mut book = Book::new(alloc, geometry);
     while let Some(four) = four_fullest(counts) {
@@ -197,7 +201,8 @@ fn one_fewer(counts: &mut Vec<u16>, disk: u8)
 // Assigns the extents of the groups in `book`, which are those that the set forms.
 fn take_groups<D: Disk>(set: &mut DiskSet<D>, book: &Book)
     requires { IsPlanFor set.old book.now }
-    ensures formed { IsFormed (store_of set.old (empty_book set.old.geometry)) (members_list book.now) (store_of set.new book.now) }
+    ensures formed { IsFormed (store_of set.old (empty_book set.old.geometry)) (members_list book.now)
+        (store_of set.new book.now) }
     ensures sound { TablesAgree book.now }
 {
     for number in 0..book.groups() {

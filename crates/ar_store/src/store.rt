@@ -59,7 +59,8 @@ impl<D: Disk> Store<D> {
         ensures redundant { result ≡ Health.Whole → (d : ℕ) → SurvivesLossOf self.now d }
 
         // Until the array fails, every key reads as a block of full length.
-        ensures whole { result ≢ Health.Broken → (k : Key) → length (stands self.now k) ≡ block_len_of self.now.disks.geometry }
+        ensures whole { result ≢ Health.Broken → (k : Key)
+            → length (stands self.now k) ≡ block_len_of self.now.disks.geometry }
     {
         self.space.disks.health()
     }

@@ -20,7 +20,8 @@ impl<D: Disk> Store<D> {
     /// still fit, `NoMemory`. An error changes nothing.
     pub fn make(&mut self, addr: Addr, sectors: u32) -> Result<(), Refusal>
         ensures granted { OnOk result (unit_make_refusal self.old.book addr sectors ≡ None) }
-        ensures refused { IfErr result (λ refusal. refusal ≡ unwrap_or (unit_make_refusal self.old.book addr sectors) Refusal.NoMemory) }
+        ensures refused { IfErr result (λ refusal. refusal
+            ≡ unwrap_or (unit_make_refusal self.old.book addr sectors) Refusal.NoMemory) }
         ensures made { OnOk result (self.new.book ≡ made self.old.book addr sectors) }
         ensures unchanged { OnErr result (self.new ≡ self.old) }
         ensures disks { self.new.disks ≡ self.old.disks }
@@ -34,7 +35,8 @@ impl<D: Disk> Store<D> {
     /// is too great, `NoRoom` with the number of blocks that still fit, `NoMemory`. An error changes nothing.
     pub fn grow(&mut self, addr: Addr, sectors: u32) -> Result<(), Refusal>
         ensures granted { OnOk result (unit_grow_refusal self.old.book addr sectors ≡ None) }
-        ensures refused { IfErr result (λ refusal. refusal ≡ unwrap_or (unit_grow_refusal self.old.book addr sectors) Refusal.NoMemory) }
+        ensures refused { IfErr result (λ refusal. refusal
+            ≡ unwrap_or (unit_grow_refusal self.old.book addr sectors) Refusal.NoMemory) }
         ensures grown { OnOk result (self.new.book ≡ grown self.old.book addr sectors) }
         ensures unchanged { OnErr result (self.new ≡ self.old) }
         ensures disks { self.new.disks ≡ self.old.disks }

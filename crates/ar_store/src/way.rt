@@ -9,7 +9,8 @@ ghost use Rattle.ar_book.specs.Tables.{home, free_groups, HasBlock};
 ghost use Rattle.ar_store.specs.Slots.{AllStand};
 ghost use Rattle.ar_store.specs.Plans.{CarriesOutSearch};
 ghost use Rattle.ar_store.specs.Calls.{IsZerosOnWay};
-ghost use Rattle.ar_store.specs.Placing.{Leads, IsReadyFor, MayOpen, WantsGroup, MayHavePrepared, IsMirroredHole, HasNoMirroredHole, HasNoHole, IsWayIn, HasNoWay};
+ghost use Rattle.ar_store.specs.Placing.{Leads, IsReadyFor, MayOpen, WantsGroup, MayHavePrepared, IsMirroredHole};
+ghost use Rattle.ar_store.specs.Placing.{HasNoMirroredHole, HasNoHole, IsWayIn, HasNoWay};
 ghost use Rattle.ar_store.specs.Spaces.{store_in, IsReady, Stays};
 
 use crate::space::Space;

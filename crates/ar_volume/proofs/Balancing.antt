@@ -14,9 +14,11 @@ use Rattle.ar_volume.proofs.Seeing.{all_seen, joined_more}
 pub balance_seen : (a b : StoreState) (c : CacheState) → LeavesAll a b → is_broken_set b.disks.health ≡ false
     → SameSeen (record { store = a; cache = c }) (record { store = b; cache = c })
 balance_seen a b c leaves sound =
-    all_seen (record { store = a; cache = c }) (record { store = b; cache = c }) refl (leaves.stands.blocks (not_broken b.disks.health sound))
+    all_seen (record { store = a; cache = c }) (record { store = b; cache = c }) refl
+    (leaves.stands.blocks (not_broken b.disks.health sound))
 
-pub balance_joined : (a b : StoreState) (c : CacheState) → LeavesAll a b → CacheAgrees (record { store = a; cache = c }) → CacheAgrees (record { store = b; cache = c })
+pub balance_joined : (a b : StoreState) (c : CacheState) → LeavesAll a b → CacheAgrees (record { store = a; cache = c })
+    → CacheAgrees (record { store = b; cache = c })
 balance_joined a b c leaves joined =
     joined_more a b c leaves.follows.geometry
     (λ x. (let same = ap (λ units. length (unit_in units x).homes) leaves.units.units in omega arith)) joined

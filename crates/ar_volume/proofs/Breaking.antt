@@ -24,4 +24,5 @@ sound_is (Rebuilding d n) sound = refl
 sound_is Broken sound = absurd (sound refl)
 
 pub accessed_sound : (a b : SetState) → IsAccessed a b → is_broken_set b.health ≡ false → is_broken_set a.health ≡ false
-accessed_sound a b accessed now = sound_is a.health (λ lost. not_broken b.health now (stays_broken a b accessed.follows lost))
+accessed_sound a b accessed now =
+    sound_is a.health (λ lost. not_broken b.health now (stays_broken a b accessed.follows lost))

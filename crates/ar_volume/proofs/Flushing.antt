@@ -1,5 +1,6 @@
 -- The cached blocks of one unit are given to the disks.
-use Rattle.std.proofs.Common.{◌≡◌, ℕ, ◌+◌, ◌-◌, ◌/◌, ◌<◌, ◌≤◌, false, cond, IsTrue, is_some, List, length, Option, None, Some, refl, sym, ap, subst, ◌∙◌, inl, inr, true≢false, arith}
+use Rattle.std.proofs.Common.{◌≡◌, ℕ, ◌+◌, ◌-◌, ◌/◌, ◌<◌, ◌≤◌, false, cond, IsTrue, is_some, List, length, Option, None}
+use Rattle.std.proofs.Common.{Some, refl, sym, ap, subst, ◌∙◌, inl, inr, true≢false, arith}
 use Rattle.std.proofs.lemmas.Bool.{cases_lt, ltb-true}
 use Rattle.ar_disks.specs.declared.address.Addr.{Addr}
 use Rattle.ar_disks.specs.declared.address.Key.{Key}
@@ -17,7 +18,8 @@ use Rattle.ar_unit.specs.Unit.{Absent as NoUnit, Present}
 use Rattle.ar_volume.specs.declared.flush.UnitFlush.TheVariants.{Done, Absent, Broken}
 use Rattle.ar_volume.specs.Flush.{FlushesUnit, unit_keys}
 use Rattle.ar_volume.specs.Following.{ArrayFollows}
-use Rattle.ar_volume.specs.Image.{ArrayState, CacheAgrees, attention_at, geometry_of, is_broken, length_at, seen_at, unit_by}
+use Rattle.ar_volume.specs.Image.{ArrayState, CacheAgrees, attention_at, geometry_of, is_broken, length_at, seen_at}
+use Rattle.ar_volume.specs.Image.{unit_by}
 use Rattle.ar_volume.specs.Sectors.{key_of, keys_from, sectors_in}
 use Rattle.ar_volume.specs.Seen.{IsUnit, KeepsCachedBut}
 use Rattle.ar_volume.specs.Storing.{BreaksForced, ForcesBlock}
@@ -69,7 +71,8 @@ own_blocks s f g addr same =
 pub unit_flushed : (old new : ArrayState) (addr : Addr) (sectors last : ℕ) → CacheAgrees old → IsUnit old addr sectors
     → IsLast old sectors last → is_broken old ≡ false → is_broken new ≡ false
     → ((rb : ℕ) → 0 ≤ rb → rb ≤ last → cached new.cache (key_of addr rb) ≡ None)
-    → KeepsCachedBut old.cache new.cache addr 0 (last + 1) → InTurn ForcesBlock (keys_from addr 0 (last + 1 - 0)) old new
+    → KeepsCachedBut old.cache new.cache addr 0 (last + 1)
+    → InTurn ForcesBlock (keys_from addr 0 (last + 1 - 0)) old new
     → ArrayFollows old new → FlushesUnit old addr Done new
 unit_flushed old new addr sectors last agrees unit is was now forced kept turn follows =
     let blocks = blocks_are old addr sectors last unit is in
@@ -77,7 +80,8 @@ unit_flushed old new addr sectors last agrees unit is was now forced kept turn f
     λ rb. elim (cases_lt rb (last + 1)) [
       | inl below ↦ forced rb (omega arith) (omega arith)
       | inr past ↦
-          kept.others (key_of addr rb) (inr (inr past)) ∙ not_known old (key_of addr rb) agrees (omega (arith, blocks, past))
+          kept.others (key_of addr rb) (inr (inr past))
+          ∙ not_known old (key_of addr rb) agrees (omega (arith, blocks, past))
     ] in
     record {
       there = λ _. unit.there;
@@ -117,7 +121,8 @@ unit_stopped old new addr sectors last unit is was now stops follows = record {
 }
 
 -- there is no such unit
-pub unit_absent : (s : ArrayState) (addr : Addr) → is_broken s ≡ false → has_unit s.store.book addr ≡ false → FlushesUnit s addr Absent s
+pub unit_absent : (s : ArrayState) (addr : Addr) → is_broken s ≡ false → has_unit s.store.book addr ≡ false
+    → FlushesUnit s addr Absent s
 unit_absent s addr sound none = record {
   there = λ is. absurd (cc);
   uncached = λ is rb. absurd (cc);

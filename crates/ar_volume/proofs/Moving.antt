@@ -18,7 +18,8 @@ use Rattle.ar_volume.proofs.Seeing.{all_seen, joined_more}
 abbrev behind : StoreState → CacheState → ArrayState
 behind s c = record { store = s; cache = c }
 
-pub moves_block : (a b : StoreState) (c : CacheState) (answer : Move) → LeavesBlocks a b → ((answer ≡ Broken) ↔ (b.disks.health ≡ AllBroken))
+pub moves_block : (a b : StoreState) (c : CacheState) (answer : Move) → LeavesBlocks a b
+    → ((answer ≡ Broken) ↔ (b.disks.health ≡ AllBroken))
     → MovesBlock (record { store = a; cache = c }) answer (record { store = b; cache = c })
 moves_block a b c answer leaves broken = record {
   leaves = leaves;
@@ -28,11 +29,15 @@ moves_block a b c answer leaves broken = record {
 
 pub moves_seen : (a b : StoreState) (c : CacheState) → LeavesBlocks a b → is_broken_set b.disks.health ≡ false
     → SameSeen (record { store = a; cache = c }) (record { store = b; cache = c })
-moves_seen a b c leaves sound = all_seen (behind a c) (behind b c) refl (leaves.stands.blocks (not_broken b.disks.health sound))
+moves_seen a b c leaves sound =
+    all_seen (behind a c) (behind b c) refl (leaves.stands.blocks (not_broken b.disks.health sound))
 
-pub moves_follow : (a b : StoreState) (c : CacheState) → LeavesBlocks a b → ArrayFollows (record { store = a; cache = c }) (record { store = b; cache = c })
-moves_follow a b c leaves = record { store = record { units = leaves.units; accessed = leaves.accessed }; geometry = refl; capacity = refl }
+pub moves_follow : (a b : StoreState) (c : CacheState) → LeavesBlocks a b
+    → ArrayFollows (record { store = a; cache = c }) (record { store = b; cache = c })
+moves_follow a b c leaves =
+    record { store = record { units = leaves.units; accessed = leaves.accessed }; geometry = refl; capacity = refl }
 
-pub moves_joined : (a b : StoreState) (c : CacheState) → LeavesBlocks a b → CacheAgrees (record { store = a; cache = c }) → CacheAgrees (record { store = b; cache = c })
+pub moves_joined : (a b : StoreState) (c : CacheState) → LeavesBlocks a b
+    → CacheAgrees (record { store = a; cache = c }) → CacheAgrees (record { store = b; cache = c })
 moves_joined a b c leaves joined =
     joined_more a b c leaves.accessed.follows.geometry (λ x. (let same = leaves.units.blocks x in omega arith)) joined

@@ -1,5 +1,6 @@
 -- Runs of sectors, within a block and over blocks.
-use Rattle.std.proofs.Common.{◌≡◌, ◌≢◌, ◌⊎◌, Bool, true, false, ℕ, zero, suc, ◌+◌, ◌-◌, ◌*◌, ◌/◌, ◌%◌, ◌<◌, ◌≤◌, List, ◌++◌, length, take, drop, min, refl, sym, ap, ◌∙◌, inl, inr, lit<, mod-lt, arith}
+use Rattle.std.proofs.Common.{◌≡◌, ◌≢◌, ◌⊎◌, Bool, true, false, ℕ, zero, suc, ◌+◌, ◌-◌, ◌*◌, ◌/◌, ◌%◌, ◌<◌, ◌≤◌, List}
+use Rattle.std.proofs.Common.{◌++◌, length, take, drop, min, refl, sym, ap, ◌∙◌, inl, inr, lit<, mod-lt, arith}
 use Rattle.std.specs.List.{concat}
 use Rattle.std.proofs.lemmas.Bool.{cases_eq, cases_lt}
 use Rattle.std.proofs.Math.Seq.{take-append_seam}
@@ -18,7 +19,8 @@ use Rattle.ar_disks.specs.declared.completion.Completion.TheVariants.{Done as Ke
 use Rattle.ar_volume.specs.Sectors.{sector_in, sectors_in, key_of}
 
 -- sector f of block r
-pub sector_in-place : (g : Geometry) (blocks : ℕ → List ℕ) (r f : ℕ) → f < sectors_of g → sector_in g blocks (r * sectors_of g + f) ≡ sectors_at (blocks r) f 1
+pub sector_in-place : (g : Geometry) (blocks : ℕ → List ℕ) (r f : ℕ) → f < sectors_of g
+    → sector_in g blocks (r * sectors_of g + f) ≡ sectors_at (blocks r) f 1
 unfolding sector_in
 sector_in-place g blocks r f within =
     rw (div-mul-add r (sectors_of g) f within, mod-mul-add r (sectors_of g) f within) refl
@@ -28,9 +30,12 @@ pub sectors_in-block : (g : Geometry) (blocks : ℕ → List ℕ) (r f n : ℕ) 
     → concat (sectors_in g blocks (r * sectors_of g + f) n) ≡ sectors_at (blocks r) f n
 sectors_in-block g blocks r f zero within = sym (sectors_at-none (blocks r) f)
 sectors_in-block g blocks r f (suc n) within =
-    let here : concat (sectors_in g blocks (r * sectors_of g + f) (suc n)) ≡ sector_in g blocks (r * sectors_of g + f) ++ concat (sectors_in g blocks (r * sectors_of g + f + 1) n) = refl in
+    let here : concat (sectors_in g blocks (r * sectors_of g + f) (suc n))
+    ≡ sector_in g blocks (r * sectors_of g + f) ++ concat (sectors_in g blocks (r * sectors_of g + f + 1) n) =
+    refl in
     here
-    ∙ ap (λ l. l ++ concat (sectors_in g blocks (r * sectors_of g + f + 1) n)) (sector_in-place g blocks r f (omega arith))
+    ∙ ap (λ l. l ++ concat (sectors_in g blocks (r * sectors_of g + f + 1) n))
+    (sector_in-place g blocks r f (omega arith))
     ∙ (let next : r * sectors_of g + f + 1 ≡ r * sectors_of g + (f + 1) = omega arith in
     ap (λ k. sectors_at (blocks r) f 1 ++ concat (sectors_in g blocks k n)) next
     ∙ ap (λ l. sectors_at (blocks r) f 1 ++ l) (sectors_in-block g blocks r (f + 1) n (omega arith))
@@ -39,7 +44,8 @@ sectors_in-block g blocks r f (suc n) within =
 
 -- sectors in two runs
 pub sectors_in-add : (g : Geometry) (blocks : ℕ → List ℕ) (first n m : ℕ)
-    → concat (sectors_in g blocks first (n + m)) ≡ concat (sectors_in g blocks first n) ++ concat (sectors_in g blocks (first + n) m)
+    → concat (sectors_in g blocks first (n + m)) ≡ concat (sectors_in g blocks first n)
+    ++ concat (sectors_in g blocks (first + n) m)
 sectors_in-add g blocks first zero m =
     let none : 0 + m ≡ m = omega arith in
     let here : first ≡ first + 0 = omega arith in
@@ -48,41 +54,50 @@ sectors_in-add g blocks first (suc n) m =
     let count : suc n + m ≡ suc (n + m) = omega arith in
     let next : first + 1 + n ≡ first + suc n = omega arith in
     ap (λ k. concat (sectors_in g blocks first k)) count
-    ∙ ap (λ l. sector_in g blocks first ++ l) (sectors_in-add g blocks (first + 1) n m ∙ ap (λ k. concat (sectors_in g blocks (first + 1) n) ++ concat (sectors_in g blocks k m)) next)
-    ∙ sym (append_assoc (sector_in g blocks first) (concat (sectors_in g blocks (first + 1) n)) (concat (sectors_in g blocks (first + suc n) m)))
+    ∙ ap (λ l. sector_in g blocks first ++ l) (sectors_in-add g blocks (first + 1) n m
+    ∙ ap (λ k. concat (sectors_in g blocks (first + 1) n) ++ concat (sectors_in g blocks k m)) next)
+    ∙ sym (append_assoc (sector_in g blocks first) (concat (sectors_in g blocks (first + 1) n))
+    (concat (sectors_in g blocks (first + suc n) m)))
 
 -- a run of one block, by its first sector
 pub sectors_in-piece : (g : Geometry) (blocks : ℕ → List ℕ) (at n : ℕ) → at % sectors_of g + n ≤ sectors_of g
     → concat (sectors_in g blocks at n) ≡ sectors_at (blocks (at / sectors_of g)) (at % sectors_of g) n
 sectors_in-piece g blocks at n within =
     let split : at / sectors_of g * sectors_of g + at % sectors_of g ≡ at = div-add-mod' at (sectors_of g) in
-    ap (λ k. concat (sectors_in g blocks k n)) (sym split) ∙ sectors_in-block g blocks (at / sectors_of g) (at % sectors_of g) n within
+    ap (λ k. concat (sectors_in g blocks k n)) (sym split)
+    ∙ sectors_in-block g blocks (at / sectors_of g) (at % sectors_of g) n within
 
 -- a block over all of whose bytes others were written is these
 pub refilled_is : (block bytes : List ℕ) → length bytes ≡ length block → refilled block bytes ≡ bytes
 refilled_is block bytes same =
-    ap (λ n. take n (bytes ++ drop (length bytes) block)) (sym same) ∙ take-append_seam bytes (drop (length bytes) block)
+    ap (λ n. take n (bytes ++ drop (length bytes) block)) (sym same)
+    ∙ take-append_seam bytes (drop (length bytes) block)
 
 -- one more part of a transfer
-pub sectors_in-more : (g : Geometry) (blocks : ℕ → List ℕ) (lba at part : ℕ) (begun piece : List ℕ) → lba ≤ at → at % sectors_of g + part ≤ sectors_of g
-    → begun ≡ concat (sectors_in g blocks lba (at - lba)) → piece ≡ sectors_at (blocks (at / sectors_of g)) (at % sectors_of g) part
+pub sectors_in-more : (g : Geometry) (blocks : ℕ → List ℕ) (lba at part : ℕ) (begun piece : List ℕ) → lba ≤ at
+    → at % sectors_of g + part ≤ sectors_of g
+    → begun ≡ concat (sectors_in g blocks lba (at - lba))
+    → piece ≡ sectors_at (blocks (at / sectors_of g)) (at % sectors_of g) part
     → begun ++ piece ≡ concat (sectors_in g blocks lba (at + part - lba))
 sectors_in-more g blocks lba at part begun piece from within so_far is =
     let here : lba + (at - lba) ≡ at = omega arith in
     let count : at - lba + part ≡ at + part - lba = omega arith in
     let done : List ℕ = concat (sectors_in g blocks lba (at - lba)) in
     ap (λ l. l ++ piece) so_far
-    ∙ ap (λ l. done ++ l) (is ∙ sym (sectors_in-piece g blocks at part within) ∙ ap (λ k. concat (sectors_in g blocks k part)) (sym here))
+    ∙ ap (λ l. done ++ l) (is ∙ sym (sectors_in-piece g blocks at part within)
+    ∙ ap (λ k. concat (sectors_in g blocks k part)) (sym here))
     ∙ sym (sectors_in-add g blocks lba (at - lba) part)
     ∙ ap (λ k. concat (sectors_in g blocks lba k)) count
 
 -- a part of what is left of a range has some sector
-pub part-some : (g : Geometry) (at left part : ℕ) → part ≡ min (sectors_of g - at % sectors_of g) left → 0 < left → 0 < part
+pub part-some : (g : Geometry) (at left part : ℕ) → part ≡ min (sectors_of g - at % sectors_of g) left → 0 < left
+    → 0 < part
 part-some Paper at left part is some = omega arith
 part-some Small at left part is some = omega arith
 
 -- a part that stops at its block's end
-pub part-within : (g : Geometry) (at left part : ℕ) → part ≡ min (sectors_of g - at % sectors_of g) left → at % sectors_of g + part ≤ sectors_of g
+pub part-within : (g : Geometry) (at left part : ℕ) → part ≡ min (sectors_of g - at % sectors_of g) left
+    → at % sectors_of g + part ≤ sectors_of g
 part-within Paper at left part is = omega arith
 part-within Small at left part is = omega arith
 
@@ -92,8 +107,11 @@ some_sectors Paper = lit< tt
 some_sectors Small = lit< tt
 
 -- a sector of the part that was written last
-pub sector_in-inside : (g : Geometry) (new : ℕ → List ℕ) (bytes : List ℕ) (lba at part j : ℕ) → lba ≤ at → at % sectors_of g + part ≤ sectors_of g → at ≤ j → j < at + part
-    → ((i : ℕ) → at % sectors_of g ≤ i → i < at % sectors_of g + part → sectors_at (new (at / sectors_of g)) i 1 ≡ sectors_at (sectors_at bytes (at - lba) part) (i - at % sectors_of g) 1)
+pub sector_in-inside : (g : Geometry) (new : ℕ → List ℕ) (bytes : List ℕ) (lba at part j : ℕ) → lba ≤ at
+    → at % sectors_of g + part ≤ sectors_of g → at ≤ j → j < at + part
+    → ((i : ℕ) → at % sectors_of g ≤ i → i < at % sectors_of g + part
+    → sectors_at (new (at / sectors_of g)) i 1
+    ≡ sectors_at (sectors_at bytes (at - lba) part) (i - at % sectors_of g) 1)
     → sector_in g new j ≡ sectors_at bytes (j - lba) 1
 sector_in-inside g new bytes lba at part j from within low high put =
     let s : ℕ = sectors_of g in
@@ -111,8 +129,10 @@ sector_in-inside g new bytes lba at part j from within low high put =
     ∙ ap (λ k. sectors_at bytes k 1) there
 
 -- any other sector
-pub sector_in-outside : (g : Geometry) (mid new : ℕ → List ℕ) (at part j : ℕ) → at % sectors_of g + part ≤ sectors_of g → (j < at) ⊎ (at + part ≤ j)
-    → ((i : ℕ) → (i < at % sectors_of g) ⊎ (at % sectors_of g + part ≤ i) → i < sectors_of g → sectors_at (new (at / sectors_of g)) i 1 ≡ sectors_at (mid (at / sectors_of g)) i 1)
+pub sector_in-outside : (g : Geometry) (mid new : ℕ → List ℕ) (at part j : ℕ) → at % sectors_of g + part ≤ sectors_of g
+    → (j < at) ⊎ (at + part ≤ j)
+    → ((i : ℕ) → (i < at % sectors_of g) ⊎ (at % sectors_of g + part ≤ i) → i < sectors_of g
+    → sectors_at (new (at / sectors_of g)) i 1 ≡ sectors_at (mid (at / sectors_of g)) i 1)
     → ((q : ℕ) → q ≢ at / sectors_of g → new q ≡ mid q)
     → sector_in g new j ≡ sector_in g mid j
 unfolding sector_in
@@ -124,19 +144,24 @@ sector_in-outside g mid new at part j within apart outside others =
       | inl same ↦
           (let here : q * s + m ≡ j = div-add-mod' j s in
           let there : q * s + at % s ≡ at = ap (λ k. k * s + at % s) same ∙ div-add-mod' at s in
-          let far : (m < at % s) ⊎ (at % s + part ≤ m) = elim apart [ inl before ↦ inl (omega arith) | inr after ↦ inr (omega arith) ] in
-          ap (λ k. sectors_at (new k) m 1) same ∙ outside m far (mod-lt j (some_sectors g)) ∙ ap (λ k. sectors_at (mid k) m 1) (sym same))
+          let far : (m < at % s) ⊎ (at % s + part ≤ m) =
+          elim apart [ inl before ↦ inl (omega arith) | inr after ↦ inr (omega arith) ] in
+          ap (λ k. sectors_at (new k) m 1) same ∙ outside m far (mod-lt j (some_sectors g))
+          ∙ ap (λ k. sectors_at (mid k) m 1) (sym same))
       | inr other ↦ ap (λ b. sectors_at b m 1) (others q other)
     ]
 
 -- a part of a block was put, s being the sectors of a block
 pub record PutsPart (g : Geometry) (mid new : ℕ → List ℕ) (piece : List ℕ) (at part s : ℕ) : Type 0 where
-  pub inside : (i : ℕ) → at % s ≤ i → i < at % s + part → sectors_at (new (at / s)) i 1 ≡ sectors_at piece (i - at % s) 1
-  pub outside : (i : ℕ) → (i < at % s) ⊎ (at % s + part ≤ i) → i < sectors_of g → sectors_at (new (at / s)) i 1 ≡ sectors_at (mid (at / s)) i 1
+  pub inside : (i : ℕ) → at % s ≤ i → i < at % s + part
+      → sectors_at (new (at / s)) i 1 ≡ sectors_at piece (i - at % s) 1
+  pub outside : (i : ℕ) → (i < at % s) ⊎ (at % s + part ≤ i) → i < sectors_of g
+      → sectors_at (new (at / s)) i 1 ≡ sectors_at (mid (at / s)) i 1
   pub others : (q : ℕ) → q ≢ at / s → new q ≡ mid q
 
 -- the sectors up to the part's end are the bytes'
-pub written-inside : (g : Geometry) (mid new : ℕ → List ℕ) (bytes piece : List ℕ) (lba at part : ℕ) → lba ≤ at → at % sectors_of g + part ≤ sectors_of g
+pub written-inside : (g : Geometry) (mid new : ℕ → List ℕ) (bytes piece : List ℕ) (lba at part : ℕ) → lba ≤ at
+    → at % sectors_of g + part ≤ sectors_of g
     → piece ≡ sectors_at bytes (at - lba) part → PutsPart g mid new piece at part (sectors_of g)
     → ((i : ℕ) → lba ≤ i → i < at → sector_in g mid i ≡ sectors_at bytes (i - lba) 1)
     → (i : ℕ) → lba ≤ i → i < at + part → sector_in g new i ≡ sectors_at bytes (i - lba) 1
@@ -149,7 +174,8 @@ written-inside g mid new bytes piece lba at part from within is puts before i lo
     ]
 
 -- those outside are as they were
-pub written-outside : (g : Geometry) (old mid new : ℕ → List ℕ) (piece : List ℕ) (lba at part : ℕ) → lba ≤ at → at % sectors_of g + part ≤ sectors_of g
+pub written-outside : (g : Geometry) (old mid new : ℕ → List ℕ) (piece : List ℕ) (lba at part : ℕ) → lba ≤ at
+    → at % sectors_of g + part ≤ sectors_of g
     → PutsPart g mid new piece at part (sectors_of g)
     → ((i : ℕ) → (i < lba) ⊎ (at ≤ i) → sector_in g mid i ≡ sector_in g old i)
     → (i : ℕ) → (i < lba) ⊎ (at + part ≤ i) → sector_in g new i ≡ sector_in g old i
@@ -159,11 +185,13 @@ written-outside g old mid new piece lba at part from within puts before i (inr h
     sector_in-outside g mid new at part i within (inr high) puts.outside puts.others ∙ before i (inr (omega arith))
 
 -- a part of the bytes, as it is cut
-pub cut_part : (bytes : List ℕ) (first part : ℕ) → take (first * 512 + part * 512 - first * 512) (drop (first * 512) bytes) ≡ sectors_at bytes first part
+pub cut_part : (bytes : List ℕ) (first part : ℕ)
+    → take (first * 512 + part * 512 - first * 512) (drop (first * 512) bytes) ≡ sectors_at bytes first part
 cut_part bytes first part =
     let len : first * 512 + part * 512 - first * 512 ≡ 512 * part = omega arith in
     let at : first * 512 ≡ 512 * first = omega arith in
-    ap (λ k. take k (drop (first * 512) bytes)) len ∙ ap (λ k. take (512 * part) (drop k bytes)) at ∙ sym (sectors_at_is bytes first part)
+    ap (λ k. take k (drop (first * 512) bytes)) len ∙ ap (λ k. take (512 * part) (drop k bytes)) at
+    ∙ sym (sectors_at_is bytes first part)
 
 -- two blocks of one unit
 pub other_block : (addr : Addr) (q r : ℕ) → q ≢ r → key_of addr q ≢ key_of addr r

@@ -15,9 +15,12 @@ use Rattle.ar_volume.proofs.Seeing.{all_seen, joined_more}
 pub rebuild_seen : (a b : StoreState) (c : CacheState) → AllStand a b → is_broken_set b.disks.health ≡ false
     → SameSeen (record { store = a; cache = c }) (record { store = b; cache = c })
 rebuild_seen a b c stand sound =
-    all_seen (record { store = a; cache = c }) (record { store = b; cache = c }) refl (stand.blocks (not_broken b.disks.health sound))
+    all_seen (record { store = a; cache = c }) (record { store = b; cache = c }) refl
+    (stand.blocks (not_broken b.disks.health sound))
 
-pub rebuild_joined : (a b : StoreState) (c : CacheState) → b.book ≡ a.book → Advances a.disks b.disks → CacheAgrees (record { store = a; cache = c })
+pub rebuild_joined : (a b : StoreState) (c : CacheState) → b.book ≡ a.book → Advances a.disks b.disks
+    → CacheAgrees (record { store = a; cache = c })
     → CacheAgrees (record { store = b; cache = c })
 rebuild_joined a b c tables advances joined =
-    joined_more a b c advances.geometry (λ x. (let same = ap (λ (t : Tables). length (unit_in t.units x).homes) tables in omega arith)) joined
+    joined_more a b c advances.geometry
+    (λ x. (let same = ap (λ (t : Tables). length (unit_in t.units x).homes) tables in omega arith)) joined

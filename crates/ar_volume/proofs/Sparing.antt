@@ -14,7 +14,8 @@ kept_sound false is = refl
 kept_sound true is = absurd (cc)
 
 -- of the blocks that are forced in turn, one more may have left the cache
-pub spared_then : (a b c : CacheState) (addr : Addr) (first rb : ℕ) → KeepsCachedBut a b addr first rb → first ≤ rb → ((k : Key) → k ≢ key_of addr rb → cached c k ≡ cached b k)
+pub spared_then : (a b c : CacheState) (addr : Addr) (first rb : ℕ) → KeepsCachedBut a b addr first rb → first ≤ rb
+    → ((k : Key) → k ≢ key_of addr rb → cached c k ≡ cached b k)
     → KeepsCachedBut a c addr first (rb + 1)
 spared_then a b c addr first rb so after next = record {
   others = λ k outside.
@@ -22,8 +23,10 @@ spared_then a b c addr first rb so after next = record {
         | inl other ↦ next k (λ is. other (ap (λ (x : Key). x.addr) is)) ∙ so.others k (inl other)
         | inr rest ↦
             elim rest [
-              | inl below ↦ next k (λ is. (let same = ap (λ (x : Key). x.rb) is in omega arith)) ∙ so.others k (inr (inl below))
-              | inr behind ↦ next k (λ is. (let same = ap (λ (x : Key). x.rb) is in omega arith)) ∙ so.others k (inr (inr (omega arith)))
+              | inl below ↦ next k (λ is. (let same = ap (λ (x : Key). x.rb) is in omega arith))
+                  ∙ so.others k (inr (inl below))
+              | inr behind ↦ next k (λ is. (let same = ap (λ (x : Key). x.rb) is in omega arith))
+                  ∙ so.others k (inr (inr (omega arith)))
             ]
       ];
 }

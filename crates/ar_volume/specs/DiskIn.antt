@@ -21,7 +21,8 @@ abbrev pub disk_replace_refusal : ArrayState → ℕ → DiskState → Option Re
 disk_replace_refusal s number disk = option_map DiskRefused (replace_refusal s.store.disks number disk)
 
 -- a disk was added; or it was refused for its reason, or else out of memory, given back, and nothing changed
-pub record AddsDisk (old : ArrayState) (disk : DiskState) (result : Result (Unit {0}) (Refusal × DiskState)) (new : ArrayState) : Type 0 where
+pub record AddsDisk (old : ArrayState) (disk : DiskState) (result : Result (Unit {0}) (Refusal × DiskState))
+    (new : ArrayState) : Type 0 where
   pub taken : OnOk result (disk_add_refusal old disk ≡ None)
   pub refused : IfErr result (λ back. back.0 ≡ unwrap_or (disk_add_refusal old disk) (DiskRefused NoMemory))
   pub handed_back : IfErr result (λ back. back.1 ≡ disk)
@@ -30,7 +31,8 @@ pub record AddsDisk (old : ArrayState) (disk : DiskState) (result : Result (Unit
 
 -- a disk took the place of the failed one, and its rebuild began; or it was refused for its reason, given back, and
 -- nothing changed
-pub record ReplacesDisk (old : ArrayState) (number : ℕ) (disk : DiskState) (result : Result (Unit {0}) (Refusal × DiskState)) (new : ArrayState) : Type 0 where
+pub record ReplacesDisk (old : ArrayState) (number : ℕ) (disk : DiskState)
+    (result : Result (Unit {0}) (Refusal × DiskState)) (new : ArrayState) : Type 0 where
   pub taken : OnOk result (disk_replace_refusal old number disk ≡ None)
   pub refused : IfErr result (λ back. disk_replace_refusal old number disk ≡ Some back.0)
   pub handed_back : IfErr result (λ back. back.1 ≡ disk)

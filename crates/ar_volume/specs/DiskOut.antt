@@ -10,7 +10,8 @@ abbrev pub disk_refusal : ArrayState → ℕ → Option Refusal
 disk_refusal s disk = option_map DiskRefused (fail_refusal s.store.disks disk)
 
 -- a disk was marked as failed, or there is none with this number
-pub record TakesDiskOut (old : ArrayState) (disk : ℕ) (result : Result (Unit {0}) Refusal) (new : ArrayState) : Type 0 where
+pub record TakesDiskOut (old : ArrayState) (disk : ℕ) (result : Result (Unit {0}) Refusal) (new : ArrayState)
+    : Type 0 where
   pub taken : OnOk result (disk_refusal old disk ≡ None)
   pub refused : IfErr result (λ r. disk_refusal old disk ≡ Some r)
   pub out : OnOk result (new ≡ record old { store = record old.store { disks = failed old.store.disks disk } })

@@ -23,7 +23,8 @@ pub record FlushesOne (old : ArrayState) (answer : Flush) (new : ArrayState) : T
   pub entries : Flushes answer old.cache new.cache
   pub given : is_broken old ≡ false → Destages answer old.cache.entries (stands old.store) (stands new.store)
   pub put : IsPut PutsStored answer old.store new.store
-  pub stopped : answer ≡ NotFlushed → is_broken old ≡ false → StopsInTurn PutsStored BreaksStored (last_keys old.cache.entries) old.store new.store
+  pub stopped : answer ≡ NotFlushed → is_broken old ≡ false
+      → StopsInTurn PutsStored BreaksStored (last_keys old.cache.entries) old.store new.store
   pub idle : answer ≡ Idle → new ≡ old
   pub on_disks : answer ≡ Idle → (addr : Addr) → image_at new addr ≡ image_on_disks new.store addr
   -- whatever is returned, the units keep all but homes and write sequence numbers, and the room stays
@@ -48,7 +49,8 @@ pub record FlushesUnit (old : ArrayState) (addr : Addr) (answer : UnitFlush) (ne
   pub spared : answer ≡ Done → (key : Key) → key.addr ≢ addr → cached new.cache key ≡ cached old.cache key
   -- each cached block of the unit was put once; if a put failed the array, the blocks up to that one were
   pub in_turn : answer ≡ Done → InTurn ForcesBlock (unit_keys old addr) old new
-  pub stopped : answer ≡ NotAllFlushed → is_broken old ≡ false → StopsInTurn ForcesBlock BreaksForced (unit_keys old addr) old new
+  pub stopped : answer ≡ NotAllFlushed → is_broken old ≡ false
+      → StopsInTurn ForcesBlock BreaksForced (unit_keys old addr) old new
   pub absent : answer ≡ Absent → has_unit old.store.book addr ≡ false
   pub idle : answer ≡ Absent → new ≡ old
   -- whatever is returned, the units keep all but homes and write sequence numbers, and the room stays

@@ -53,7 +53,8 @@ sectors_by s block_at addr = sectors_in s.disks.geometry (unit_block block_at ad
 
 -- the unit at an address by the tables, given the blocks
 abbrev pub unit_by : StoreState → (Key → List ℕ) → Addr → UnitState
-unit_by s block_at addr = if has_unit s.book addr then Present (sectors_by s block_at addr) (attention_at s.book addr) else Absent
+unit_by s block_at addr =
+    if has_unit s.book addr then Present (sectors_by s block_at addr) (attention_at s.book addr) else Absent
 
 -- the sectors of a unit as its host reads them
 abbrev pub unit_sectors : ArrayState → Addr → List (List ℕ)

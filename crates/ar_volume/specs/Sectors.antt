@@ -32,7 +32,8 @@ keys_from addr first count = map (key_of addr) (range_with_len first count)
 -- the keys of the blocks that `count` sectors of a unit from `lba` on lie in, in ascending order
 abbrev pub keys_in : Geometry → Addr → ℕ → ℕ → List Key
 keys_in g addr lba count =
-    if count == 0 then [] else keys_from addr (lba / sectors_of g) ((lba + count - 1) / sectors_of g + 1 - lba / sectors_of g)
+    if count == 0 then [] else keys_from addr (lba / sectors_of g)
+    ((lba + count - 1) / sectors_of g + 1 - lba / sectors_of g)
 
 -- sector i of a unit, given its blocks by number
 unfoldable pub sector_in : Geometry → (ℕ → List ℕ) → ℕ → List ℕ

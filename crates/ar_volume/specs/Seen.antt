@@ -34,9 +34,13 @@ pub record SamePlaces (old new : ArrayState) : Type 0 where
   pub cache : new.cache ≡ old.cache
 
 -- `count` sectors of a unit from `lba` on have these bytes; all other sectors of all units stay
-pub record WritesSectors (old : ArrayState) (addr : Addr) (lba count : ℕ) (bytes : List ℕ) (new : ArrayState) : Type 0 where
-  pub inside : (i : ℕ) → lba ≤ i → i < lba + count → sector_in (geometry_of old) (unit_block (seen_at new) addr) i ≡ sectors_at bytes (i - lba) 1
-  pub outside : (i : ℕ) → (i < lba) ⊎ (lba + count ≤ i) → sector_in (geometry_of old) (unit_block (seen_at new) addr) i ≡ sector_in (geometry_of old) (unit_block (seen_at old) addr) i
+pub record WritesSectors (old : ArrayState) (addr : Addr) (lba count : ℕ) (bytes : List ℕ) (new : ArrayState)
+    : Type 0 where
+  pub inside : (i : ℕ) → lba ≤ i → i < lba + count
+      → sector_in (geometry_of old) (unit_block (seen_at new) addr) i ≡ sectors_at bytes (i - lba) 1
+  pub outside : (i : ℕ) → (i < lba) ⊎ (lba + count ≤ i)
+      → sector_in (geometry_of old) (unit_block (seen_at new) addr) i
+      ≡ sector_in (geometry_of old) (unit_block (seen_at old) addr) i
   pub others : (k : Key) → k.addr ≢ addr → seen_at new k ≡ seen_at old k
 
 -- no block changed its contents

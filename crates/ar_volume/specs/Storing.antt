@@ -1,5 +1,6 @@
 -- Which blocks a READ reads, and which a WRITE puts into the cache and onto the disks.
-use Rattle.std.specs.Prelude.{◌≡◌, ◌⊎◌, ℕ, ◌+◌, ◌*◌, ◌/◌, ◌<◌, ◌≤◌, ◌∷◌, ◌++◌, ◌&&◌, nat_le, Bool, true, false, IsTrue, List, [], length, take, drop, reverse, None, IsSome}
+use Rattle.std.specs.Prelude.{◌≡◌, ◌⊎◌, ℕ, ◌+◌, ◌*◌, ◌/◌, ◌<◌, ◌≤◌, ◌∷◌, ◌++◌, ◌&&◌, nat_le, Bool, true, false, IsTrue}
+use Rattle.std.specs.Prelude.{List, [], length, take, drop, reverse, None, IsSome}
 use Rattle.std.specs.List.{concat}
 use Rattle.std.specs.Map.{keys_of}
 use Rattle.ar_disks.specs.declared.address.Addr.{Addr}
@@ -9,7 +10,8 @@ use Rattle.ar_disks.specs.Geometry.{sectors_of}
 use Rattle.ar_extents.specs.Changes.{is_broken_set}
 use Rattle.ar_store.specs.Store.{StoreState}
 use Rattle.ar_cache.specs.Backing.{InTurn, StopsInTurn}
-use Rattle.ar_cache.specs.Cache.{CacheState, TakesIn, cached, last_keys, pushed_out, put_through, with_entries, without_key}
+use Rattle.ar_cache.specs.Cache.{CacheState, TakesIn, cached, last_keys, pushed_out, put_through, with_entries}
+use Rattle.ar_cache.specs.Cache.{without_key}
 use Rattle.ar_volume.specs.Following.{ReadsStored, PutsStored, BreaksStored}
 use Rattle.ar_volume.specs.Image.{ArrayState, geometry_of, is_broken, seen_at}
 use Rattle.ar_volume.specs.Sectors.{key_of, keys_in, sectors_in}
@@ -22,14 +24,16 @@ pub record ReadsBlock (old : ArrayState) (key : Key) (new : ArrayState) : Type 0
   pub miss : cached old.cache key ≡ None → ReadsStored old.store key new.store
 
 -- the blocks of the first `many` sectors of a range were read, each once, in ascending order
-pub record ReadsFirst {S : Type 0} (gets : S → Key → S → Type 0) (g : Geometry) (addr : Addr) (lba count : ℕ) (old new : S) : Type 0 where
+pub record ReadsFirst {S : Type 0} (gets : S → Key → S
+    → Type 0) (g : Geometry) (addr : Addr) (lba count : ℕ) (old new : S) : Type 0 where
   pub many : ℕ
   pub within : many ≤ count
   pub in_turn : InTurn gets (keys_in g addr lba many) old new
 
 -- A READ failed: the blocks of the first `many` sectors were read in order; then the block of the next sector was, and
 -- no other.
-pub record FailsReading {S : Type 0} (gets : S → Key → S → Type 0) (broken : S → Bool) (g : Geometry) (addr : Addr) (lba count : ℕ)
+pub record FailsReading {S : Type 0} (gets : S → Key → S → Type 0) (broken : S
+    → Bool) (g : Geometry) (addr : Addr) (lba count : ℕ)
     (old new : S) : Type 0 where
   pub many : ℕ
   pub below : many < count
@@ -39,7 +43,8 @@ pub record FailsReading {S : Type 0} (gets : S → Key → S → Type 0) (broken
   pub last : gets next (key_of addr ((lba + many) / sectors_of g)) new
 
 -- The same, and the bytes begin with the sectors of the blocks before the one at which it failed.
-pub record StopsReading {S : Type 0} (gets : S → Key → S → Type 0) (broken : S → Bool) (g : Geometry) (blocks : ℕ → List ℕ) (addr : Addr)
+pub record StopsReading {S : Type 0} (gets : S → Key → S → Type 0) (broken : S → Bool) (g : Geometry) (blocks : ℕ
+    → List ℕ) (addr : Addr)
     (lba count : ℕ) (old new : S) (bytes : List ℕ) : Type 0 where
   pub fails : FailsReading gets broken g addr lba count old new
   pub begun : take (512 * fails.many) bytes ≡ concat (sectors_in g blocks lba fails.many)
@@ -66,7 +71,8 @@ pub record BreaksBlock (old : ArrayState) (key : Key) (new : ArrayState) : Type 
   pub cache : new.cache ≡ old.cache
   pub lost : IsTrue (is_broken old) → new ≡ old
   pub absent : is_broken old ≡ false → cached old.cache key ≡ None
-  pub stopped : is_broken old ≡ false → StopsInTurn PutsStored BreaksStored (pushed_out old.cache key ++ key ∷ []) old.store new.store
+  pub stopped : is_broken old ≡ false
+      → StopsInTurn PutsStored BreaksStored (pushed_out old.cache key ++ key ∷ []) old.store new.store
 
 -- A cached block was destaged; if it wasn't cached, nothing changed.
 pub record ForcesBlock (old : ArrayState) (key : Key) (new : ArrayState) : Type 0 where
@@ -91,35 +97,43 @@ Replaces {S} gets puts false old key new = (read : S) × gets old key read × pu
 
 -- the same, ending on a failed array: by the put of a block that is given whole; else by the read, or by the put after
 -- it
-abbrev pub StopsReplacing : {S : Type 0} → (gets breaks : S → Key → S → Type 0) → (is_broken : S → Bool) → Bool → S → Key → S → Type 0
+abbrev pub StopsReplacing : {S : Type 0} → (gets breaks : S → Key → S → Type 0) → (is_broken : S → Bool) → Bool → S
+    → Key → S → Type 0
 StopsReplacing gets breaks is_broken true old key new = breaks old key new
 StopsReplacing {S} gets breaks is_broken false old key new =
-    (gets old key new × IsTrue (is_broken new)) ⊎ ((read : S) × gets old key read × (is_broken read ≡ false) × breaks read key new)
+    (gets old key new × IsTrue (is_broken new))
+    ⊎ ((read : S) × gets old key read × (is_broken read ≡ false) × breaks read key new)
 
 -- sectors of one block were overwritten
-abbrev pub Overwrites : {S : Type 0} → (S → Key → S → Type 0) → (S → Key → S → Type 0) → Geometry → ℕ → ℕ → S → Key → S → Type 0
+abbrev pub Overwrites : {S : Type 0} → (S → Key → S → Type 0) → (S → Key → S → Type 0) → Geometry → ℕ → ℕ → S → Key → S
+    → Type 0
 Overwrites gets puts g lba count old key new = Replaces gets puts (is_whole g lba count key) old key new
 
 -- the same, ending on a failed array
-abbrev pub StopsOver : {S : Type 0} → (gets breaks : S → Key → S → Type 0) → (is_broken : S → Bool) → Geometry → ℕ → ℕ → S → Key → S → Type 0
-StopsOver gets breaks is_broken g lba count old key new = StopsReplacing gets breaks is_broken (is_whole g lba count key) old key new
+abbrev pub StopsOver : {S : Type 0} → (gets breaks : S → Key → S → Type 0) → (is_broken : S → Bool) → Geometry → ℕ → ℕ
+    → S → Key → S → Type 0
+StopsOver gets breaks is_broken g lba count old key new =
+    StopsReplacing gets breaks is_broken (is_whole g lba count key) old key new
 
 -- Each block of these sectors was overwritten once, in ascending order.
 abbrev pub PutsBlocks : Addr → ℕ → ℕ → ArrayState → ArrayState → Type 0
 PutsBlocks addr lba count old new =
-    InTurn (Overwrites ReadsBlock PutsBlock (geometry_of old) lba count) (keys_in (geometry_of old) addr lba count) old new
+    InTurn (Overwrites ReadsBlock PutsBlock (geometry_of old) lba count) (keys_in (geometry_of old) addr lba count) old
+    new
 
 -- And then, with FORCE UNIT ACCESS, each was forced to the disks, in ascending order.
 abbrev pub StoresBlocks : Addr → ℕ → ℕ → Bool → ArrayState → ArrayState → Type 0
 StoresBlocks addr lba count false old new = PutsBlocks addr lba count old new
 StoresBlocks addr lba count true old new =
-    (put : ArrayState) × PutsBlocks addr lba count old put × InTurn ForcesBlock (keys_in (geometry_of old) addr lba count) put new
+    (put : ArrayState) × PutsBlocks addr lba count old put
+    × InTurn ForcesBlock (keys_in (geometry_of old) addr lba count) put new
 
 -- The blocks of these sectors were overwritten once each, in ascending order, up to one whose read or put failed the
 -- array.
 abbrev pub StopsPutting : Addr → ℕ → ℕ → ArrayState → ArrayState → Type 0
 StopsPutting addr lba count old new =
-    StopsInTurn (Overwrites ReadsBlock PutsBlock (geometry_of old) lba count) (StopsOver ReadsBlock BreaksBlock is_broken (geometry_of old) lba count)
+    StopsInTurn (Overwrites ReadsBlock PutsBlock (geometry_of old) lba count)
+    (StopsOver ReadsBlock BreaksBlock is_broken (geometry_of old) lba count)
     (keys_in (geometry_of old) addr lba count) old new
 
 -- With FORCE UNIT ACCESS: the same, or each was overwritten, and then forced in ascending order, up to one whose put
@@ -128,7 +142,8 @@ abbrev pub StopsStoring : Addr → ℕ → ℕ → Bool → ArrayState → Array
 StopsStoring addr lba count false old new = StopsPutting addr lba count old new
 StopsStoring addr lba count true old new =
     StopsPutting addr lba count old new
-    ⊎ ((put : ArrayState) × PutsBlocks addr lba count old put × StopsInTurn ForcesBlock BreaksForced (keys_in (geometry_of old) addr lba count) put new)
+    ⊎ ((put : ArrayState) × PutsBlocks addr lba count old put
+    × StopsInTurn ForcesBlock BreaksForced (keys_in (geometry_of old) addr lba count) put new)
 
 -- every cached block was put, the least recently used first, and the cache is empty
 pub record EmptiesCache (old new : ArrayState) : Type 0 where

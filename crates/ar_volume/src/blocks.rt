@@ -1,6 +1,7 @@
 // The blocks of all units: a write-back cache over the store. The invariant: every cached block belongs to a unit and
 // has the store's geometry (`CacheAgrees`).
-ghost use Rattle.std.specs.Prelude.{◌≡◌, ◌≢◌, ◌≤◌, ◌<◌, All, map, None, false, IfOk, IfErr, OnOk, MatchOption, length, unwrap_or};
+ghost use Rattle.std.specs.Prelude.{◌≡◌, ◌≢◌, ◌≤◌, ◌<◌, All, map, None, false, IfOk, IfErr, OnOk, MatchOption, length};
+ghost use Rattle.std.specs.Prelude.{unwrap_or};
 ghost use Rattle.ar_disks.specs.declared.address.Key.{Key};
 ghost use Rattle.ar_disks.specs.Block.{zeros};
 ghost use Rattle.ar_disks.specs.Geometry.{block_len_of, rows_of};
@@ -135,7 +136,8 @@ impl<D: Disk> Blocks<D> {
         ensures health { result ≡ self.now.store.disks.health }
         ensures joined { CacheAgrees self.now }
         ensures kept { IsKept self.now.store }
-        ensures whole { result ≢ Health.Broken → (k : Key) → length (seen_at self.now k) ≡ block_len_of (geometry_of self.now) }
+        ensures whole { result ≢ Health.Broken → (k : Key)
+            → length (seen_at self.now k) ≡ block_len_of (geometry_of self.now) }
     {
         // The cache is called for its invariant alone: its blocks are of full length.
         let _cached = self.cache.len();
@@ -241,7 +243,8 @@ impl<D: Disk> Blocks<D> {
         ensures removes { Removes self.old addr result self.new }
         ensures tables { TablesAgree self.old.store.book }
         ensures others { (k : Key) → k.addr ≢ addr → seen_at self.new k ≡ seen_at self.old k }
-        ensures zeros { OnOk result ((k : Key) → k.addr ≡ addr → seen_at self.new k ≡ zeros (block_len_of (geometry_of self.old))) }
+        ensures zeros { OnOk result ((k : Key) → k.addr ≡ addr
+            → seen_at self.new k ≡ zeros (block_len_of (geometry_of self.old))) }
     {
         if let Health::Broken = self.health() {
             return Err(Refusal::Broken);

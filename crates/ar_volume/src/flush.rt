@@ -77,7 +77,8 @@ impl<D: Disk> Blocks<D> {
         requires sound { is_broken self.old ≡ false }
         ensures answer { result ≡ stored (is_broken self.new) }
         ensures gone { result ≡ Completion.Done → cached self.new.cache key ≡ None }
-        ensures others { result ≡ Completion.Done → (k : Key) → k ≢ key → cached self.new.cache k ≡ cached self.old.cache k }
+        ensures others { result ≡ Completion.Done → (k : Key) → k ≢ key
+            → cached self.new.cache k ≡ cached self.old.cache k }
         ensures forces { result ≡ Completion.Done → ForcesBlock self.old key self.new }
         ensures breaks { result ≡ Completion.Broken → BreaksForced self.old key self.new }
         ensures seen { result ≡ Completion.Done → SameSeen self.old self.new }
@@ -91,9 +92,11 @@ impl<D: Disk> Blocks<D> {
         requires sound { is_broken self.old ≡ false }
         requires few { last ≤ 1048576 }
         ensures answer { result ≡ stored (is_broken self.new) }
-        ensures forced { result ≡ Completion.Done → (rb : ℕ) → first ≤ rb → rb ≤ last → cached self.new.cache (key_of addr rb) ≡ None }
+        ensures forced { result ≡ Completion.Done → (rb : ℕ) → first ≤ rb → rb ≤ last
+            → cached self.new.cache (key_of addr rb) ≡ None }
         ensures spared { result ≡ Completion.Done → KeepsCachedBut self.old.cache self.new.cache addr first (last + 1) }
-        ensures in_turn { result ≡ Completion.Done → InTurn ForcesBlock (keys_from addr first (last + 1 - first)) self.old self.new }
+        ensures in_turn { result ≡ Completion.Done
+            → InTurn ForcesBlock (keys_from addr first (last + 1 - first)) self.old self.new }
         ensures stopped { result ≡ Completion.Broken
             → StopsInTurn ForcesBlock BreaksForced (keys_from addr first (last + 1 - first)) self.old self.new }
         ensures seen { result ≡ Completion.Done → SameSeen self.old self.new }

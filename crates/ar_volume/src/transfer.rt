@@ -120,8 +120,10 @@ fn write_part<B: Backing>(
         → sectors_at (B.block_at blocks.new key) i 1 ≡ sectors_at bytes.now (i - first) 1 }
     ensures outside { result ≡ Completion.Done → (i : ℕ) → (i < first) ⊎ (first + count ≤ i) → i < sectors_of geometry
         → sectors_at (B.block_at blocks.new key) i 1 ≡ sectors_at (B.block_at blocks.old key) i 1 }
-    ensures others { result ≡ Completion.Done → (k : Key) → k ≢ key → B.block_at blocks.new k ≡ B.block_at blocks.old k }
-    ensures puts { result ≡ Completion.Done → Replaces B.gets B.puts (count == sectors_of geometry) blocks.old key blocks.new }
+    ensures others { result ≡ Completion.Done → (k : Key) → k ≢ key
+        → B.block_at blocks.new k ≡ B.block_at blocks.old k }
+    ensures puts { result ≡ Completion.Done
+        → Replaces B.gets B.puts (count == sectors_of geometry) blocks.old key blocks.new }
     ensures stopped { result ≡ Completion.Broken
         → StopsReplacing B.gets B.breaks B.is_broken (count == sectors_of geometry) blocks.old key blocks.new }
 
@@ -162,11 +164,15 @@ pub fn write_sectors<B: Backing>(
     ensures inside { result ≡ Completion.Done → (i : ℕ) → lba ≤ i → i < lba + count
         → sector_in geometry (unit_block (B.block_at blocks.new) addr) i ≡ sectors_at bytes.now (i - lba) 1 }
     ensures outside { result ≡ Completion.Done → (i : ℕ) → (i < lba) ⊎ (lba + count ≤ i)
-        → sector_in geometry (unit_block (B.block_at blocks.new) addr) i ≡ sector_in geometry (unit_block (B.block_at blocks.old) addr) i }
-    ensures others { result ≡ Completion.Done → (k : Key) → k.addr ≢ addr → B.block_at blocks.new k ≡ B.block_at blocks.old k }
-    ensures puts { result ≡ Completion.Done → InTurn (Overwrites B.gets B.puts geometry lba count) (keys_in geometry addr lba count) blocks.old blocks.new }
+        → sector_in geometry (unit_block (B.block_at blocks.new) addr) i
+        ≡ sector_in geometry (unit_block (B.block_at blocks.old) addr) i }
+    ensures others { result ≡ Completion.Done → (k : Key) → k.addr ≢ addr
+        → B.block_at blocks.new k ≡ B.block_at blocks.old k }
+    ensures puts { result ≡ Completion.Done
+        → InTurn (Overwrites B.gets B.puts geometry lba count) (keys_in geometry addr lba count) blocks.old blocks.new }
     ensures stopped { result ≡ Completion.Broken → StopsInTurn (Overwrites B.gets B.puts geometry lba count)
-        (StopsOver B.gets B.breaks B.is_broken geometry lba count) (keys_in geometry addr lba count) blocks.old blocks.new }
+        (StopsOver B.gets B.breaks B.is_broken geometry lba count) (keys_in geometry addr lba count) blocks.old
+        blocks.new }
 
     ensures answer { result ≡ stored (B.is_broken blocks.new) }
     ensures keeps { KeepsBacking B.geometry B.knows B.is_broken B.follows blocks.old blocks.new }

@@ -1,5 +1,5 @@
-// Drawn events while disks fault, are taken out, replaced, rebuilt and added, one of them down at a time. In the end every block
-// is read back without each of the disks in turn.
+// Drawn events while disks fault, are taken out, replaced, rebuilt and added, one of them down at a time. In the end
+// every block is read back without each of the disks in turn.
 use crate::calls::{is_in, is_met, play, step};
 use crate::generated::{gain_of, has_room, is_answered};
 use ar_core::{Array, Balance, EventOf, Health, Outcome, OutcomeOf, Rebuild};

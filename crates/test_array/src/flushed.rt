@@ -106,8 +106,8 @@ const DONE: Answer = Answer::Returns(Return::Done);
 
 const BROKEN: Answer = Answer::Returns(Return::Broken);
 
-/// Four blocks of a unit are written, one byte each, and a disk is taken out. They wait in the cache: none is placed, and nothing
-/// is written.
+/// Four blocks of a unit are written, one byte each, and a disk is taken out. They wait in the cache: none is placed,
+/// and nothing is written.
 const WAITING: [Step; 9] = [
     (Ask::Does(Call::Make(0, 0, 8)), DONE),
     (Ask::Does(Call::Write(0, 0, 0, 2, 0xA1)), GOOD),
@@ -160,8 +160,8 @@ fn mirrored_blocks_are_flushed_past_a_lost_disk(rt: HostRuntime) {
     run(&rt, shape, &[&WAITING, &FIRST, &OTHERS]);
 }
 
-/// Block 8, the parity of its row, and blocks 3 and 9 beside it. Block 8 is written once more and its disk is taken out: while it
-/// waits, the parity is the old one. Flushed, it stands in the parity alone, from which it is read.
+/// Block 8, the parity of its row, and blocks 3 and 9 beside it. Block 8 is written once more and its disk is taken
+/// out: while it waits, the parity is the old one. Flushed, it stands in the parity alone, from which it is read.
 const INTO_PARITY: [Step; 15] = [
     (Ask::FlushAll, DONE),
     (Ask::Shows(2, 2, 1), Answer::Byte(0x09)),
@@ -231,8 +231,8 @@ const TWO_UNITS: [Step; 6] = [
     (Ask::Does(Call::FlushUnit(2, 0)), ABSENT),
 ];
 
-/// The first unit's blocks are placed in ascending order, on the pair of disks of the first mirrored slots. The other's stays in
-/// the cache, and is the next to be destaged.
+/// The first unit's blocks are placed in ascending order, on the pair of disks of the first mirrored slots. The other's
+/// stays in the cache, and is the next to be destaged.
 const ONE_UNIT: [Step; 13] = [
     (Ask::Does(Call::FlushUnit(0, 0)), DONE),
     (Ask::Home(0), Answer::Unplaced),

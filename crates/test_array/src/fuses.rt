@@ -81,8 +81,8 @@ pub const READS_AGAIN: [Row; 12] = [
     (Call::Read(0, 0, 22), Return::Sectors(0x1C, 0x1C)),
 ];
 
-/// What needs no block: INQUIRY for five bytes, READ CAPACITY, a READ past the end; and TEST UNIT READY, which fails where the
-/// data are lost.
+/// What needs no block: INQUIRY for five bytes, READ CAPACITY, a READ past the end; and TEST UNIT READY, which fails
+/// where the data are lost.
 const QUESTIONS: [Row; 4] = [
     (
         Call::Command(0, 0, [0x12, 0, 0, 0, 5, 0, 0, 0, 0, 0]),
@@ -132,8 +132,8 @@ pub fn ending<R: Abort + AllocGlobal>(rt: &R, shape: Shape, parts: &[&[Row]]) ->
     ending
 }
 
-/// How many calls the weak disk gets: with each shorter fuse it is lost, and nothing that the array returns shows it. At least
-/// `least`.
+/// How many calls the weak disk gets: with each shorter fuse it is lost, and nothing that the array returns shows it.
+/// At least `least`.
 pub fn calls_in<R: Abort + AllocGlobal>(rt: &R, shape: Shape, parts: &[&[Row]], least: u64) -> u64 {
     for calls in 0..MOST_CALLS {
         let shape = Shape { calls, ..shape };
@@ -215,7 +215,8 @@ impl Breaks {
     }
 }
 
-// The calls by which the data were lost, where a second disk had a fuse: one for each fuse that is too short for the run.
+// The calls by which the data were lost, where a second disk had a fuse: one for each fuse that is too short for the
+// run.
 fn breaks_in<R: Abort + AllocGlobal>(rt: &R, shape: Shape) -> Breaks {
     let mut breaks = Breaks {
         by_taking_out: false,

@@ -44,8 +44,8 @@ fn move_blocks<R: Abort + AllocGlobal>(rt: &R, shape: Shape, array: &mut Array<F
     }
 }
 
-// A unit takes all the room and is written, a disk is added, the background has its turn, and all blocks are written again, and
-// read. Says whether the weak disk was never lost before the reads; if it was it is replaced.
+// A unit takes all the room and is written, a disk is added, the background has its turn, and all blocks are written
+// again, and read. Says whether the weak disk was never lost before the reads; if it was it is replaced.
 fn is_whole<R: Abort + AllocGlobal>(rt: &R, shape: Shape, array: &mut Array<FuseDisk>) -> bool {
     play(rt, shape, array, &[&MAKE, &WRITES, &ADD]);
     move_blocks(rt, shape, array);
@@ -146,7 +146,8 @@ const PROMOTED: [Row; 8] = [
     (Call::Read(0, 0, 10), Return::Sectors(0x06, 0x06)),
 ];
 
-// No lost disk changes what is returned. The block that is demoted is written to two disks, and its group opened on all four.
+// No lost disk changes what is returned. The block that is demoted is written to two disks, and its group opened on all
+// four.
 fn move_past_a_lost_disk<R: Abort + AllocGlobal>(rt: &R, rows: &[Row]) {
     for weak in 0..4u8 {
         let shape = Shape {

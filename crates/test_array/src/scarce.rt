@@ -1,5 +1,5 @@
-// Runs that go on after the refusal of any one allocation. The gate refuses each in turn, by `.ci/scarce`; with ample memory they
-// are the runs themselves.
+// Runs that go on after the refusal of any one allocation. The gate refuses each in turn, by `.ci/scarce`; with ample
+// memory they are the runs themselves.
 use crate::calls::{is_met, step};
 use crate::first_run::FIRST_RUN;
 use crate::fuses::{MAKE, READS, THREE_GROUPS, WRITES};

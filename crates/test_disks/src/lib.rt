@@ -1,4 +1,5 @@
-//! Tests of blocks and disks, of sets of disks, and of both kinds of groups, with disks that are lost at any of their calls.
+//! Tests of blocks and disks, of sets of disks, and of both kinds of groups, with disks that are lost at any of their
+//! calls.
 #![tactic(auto)]
 
 #[cfg(test)]

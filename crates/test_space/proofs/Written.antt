@@ -20,5 +20,6 @@ written_over blocks key block there =
     let here = ap (λ b. unwrap_or (cond b (Some block) (lookup (same_key key) blocks)) []) (same_key_refl key) in
     record {
       written = at key ∙ here;
-      others = λ q differ. at q ∙ ap (λ b. unwrap_or (cond b (Some block) (lookup (same_key q) blocks)) []) (same_key_false key q differ);
+      others = λ q differ. at q
+          ∙ ap (λ b. unwrap_or (cond b (Some block) (lookup (same_key q) blocks)) []) (same_key_false key q differ);
     }

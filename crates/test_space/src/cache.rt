@@ -543,8 +543,8 @@ fn no_put_is_refused_for_memory(rt: HostRuntime) -> Result<(), Fail> {
     )
 }
 
-// Run with each allocation refused in turn: a cache that is full, and has let a block go before, takes a new one in without memory,
-// so that it stays full.
+// Run with each allocation refused in turn: a cache that is full, and has let a block go before, takes a new one in
+// without memory, so that it stays full.
 #[test]
 fn a_full_cache_takes_no_memory(rt: HostRuntime) -> Result<(), Fail> {
     run(

@@ -1,4 +1,5 @@
-// A book of four groups as plain lists, each read to its end, and a drawn run of calls that the space book answers as it does.
+// A book of four groups as plain lists, each read to its end, and a drawn run of calls that the space book answers as
+// it does.
 ghost use Rattle.std.specs.Prelude.{◌<◌};
 
 use crate::calls::{Answer, Call, ask, compare, form_groups, number, slot};

@@ -1,6 +1,6 @@
-// A backing in memory: blocks of zeros under the keys that were added. It breaks at a call that the test chooses, and counts what
-// it was asked. It claims to know every key, and breaks at one that was not added: so a test that names one shows it by its
-// answer.
+// A backing in memory: blocks of zeros under the keys that were added. It breaks at a call that the test chooses, and
+// counts what it was asked. It claims to know every key, and breaks at one that was not added: so a test that names one
+// shows it by its answer.
 ghost use Rattle.std.specs.Prelude.{◌≡◌, IsTrue, Some, IsSome, length};
 ghost use Rattle.std.specs.Bool.{OnTrue};
 ghost use Rattle.std.specs.Map.{lookup, set_value};

@@ -51,7 +51,8 @@ pub enum Call {
     /// Adds a disk of so many extents.
     AddOf(u16),
     Balance,
-    /// Balances where a disk may be lost meanwhile, so that any answer but that of a broken store or of no memory will do.
+    /// Balances where a disk may be lost meanwhile, so that any answer but that of a broken store or of no memory will
+    /// do.
     Try,
     /// Takes a disk out.
     TakeOut(u8),
@@ -149,7 +150,8 @@ fn go_on(
     }
 }
 
-// Compares what a call met with what it was to be answered with. The shape and the row of its table say which one it is.
+// Compares what a call met with what it was to be answered with. The shape and the row of its table say which one it
+// is.
 fn compare(rt: &impl Abort, shape: Shape, row: usize, step: Step, met: Answer) {
     let (_, wanted) = step;
     assert!(rt;

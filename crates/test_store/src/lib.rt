@@ -1,6 +1,6 @@
-//! Tests of the store and of what is done in it, with one rig: where blocks go (`placing`), demotion and cleaning (`moves`),
-//! added disks and balancing (`balance`), replacement and rebuilding (`mirrors`, `parity`, `survivors`), which disks are
-//! refused, disks that are lost at each of their calls, and how stores begin.
+//! Tests of the store and of what is done in it, with one rig: where blocks go (`placing`), demotion and cleaning
+//! (`moves`), added disks and balancing (`balance`), replacement and rebuilding (`mirrors`, `parity`, `survivors`),
+//! which disks are refused, disks that are lost at each of their calls, and how stores begin.
 #![tactic(auto)]
 
 #[cfg(test)]

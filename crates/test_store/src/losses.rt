@@ -87,9 +87,10 @@ fn are_lost_at_each_call(
     }
 }
 
-// Of a mirrored group's slots the first two stand on disks 0 and 1, the others on 2 and 3, and a block is read from the first of
-// its two. Of a parity group's first row the parity is on disk 0 and the blocks on 1, 2, 3; of its second row it is on disk 1,
-// and the blocks on 0, 2, 3. A write at the parity level reads and writes block and parity. The calls of the disks are then:
+// Of a mirrored group's slots the first two stand on disks 0 and 1, the others on 2 and 3, and a block is read from the
+// first of its two. Of a parity group's first row the parity is on disk 0 and the blocks on 1, 2, 3; of its second row
+// it is on disk 1, and the blocks on 0, 2, 3. A write at the parity level reads and writes block and parity. The calls
+// of the disks are then:
 //
 //     eight blocks are written mirrored            4   4   4   4
 //     two groups are filled with zeros             4   4   4   4

@@ -1,4 +1,5 @@
-// Demotion and cleaning, by hand: which block goes to which slot. A SMALL mirrored group has four slots, one with parity six.
+// Demotion and cleaning, by hand: which block goes to which slot. A SMALL mirrored group has four slots, one with
+// parity six.
 use crate::calls::{Answer, Call, Step, play};
 use crate::fixtures::{FOUR_GROUPS, THREE_GROUPS};
 use Answer::{Broken, Byte, Done, Idle, Is, Moved, Now, Used};
@@ -62,8 +63,8 @@ const LAST_FREE_GROUP: [Step; 6] = [
     (Get(7), Byte(8)),
 ];
 
-// Eight blocks are demoted to two groups with parity, of which the second takes two. Three of the first are written again. The
-// one mirrored group can't be emptied then, and of the two others the one with fewer blocks is.
+// Eight blocks are demoted to two groups with parity, of which the second takes two. Three of the first are written
+// again. The one mirrored group can't be emptied then, and of the two others the one with fewer blocks is.
 const PARITY_GROUPS: [Step; 20] = [
     (Make(16), Is(true)),
     (PutEach(1), Done),

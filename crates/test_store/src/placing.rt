@@ -31,8 +31,8 @@ pub const PROMOTED: [Step; 15] = [
     (Get(0), Byte(0xBB)),
 ];
 
-/// A unit of twelve blocks takes all the room of three groups. Its blocks are written in order, so that two squeezes leave
-/// them all at the parity level and one group free.
+/// A unit of twelve blocks takes all the room of three groups. Its blocks are written in order, so that two squeezes
+/// leave them all at the parity level and one group free.
 pub const FILLED: [Step; 2] = [(Make(24), Is(true)), (PutEach(1), Done)];
 
 /// Six blocks in each of two groups with parity.
@@ -172,8 +172,8 @@ fn groups_are_opened_while_two_are_free(rt: HostRuntime) {
     play(&rt, rt.alloc(), THREE_GROUPS, &[&OPENED]);
 }
 
-// One disk is taken out, and then another: the first leaves every block, the second breaks the store. Nothing is read from then
-// on, not even block 1, which has no home.
+// One disk is taken out, and then another: the first leaves every block, the second breaks the store. Nothing is read
+// from then on, not even block 1, which has no home.
 const TAKEN_OUT: [Step; 19] = [
     (Make(4), Is(true)),
     (Put(0, 0xAA), Done),
@@ -258,7 +258,8 @@ const LOST_IN_A_WRITE: [Step; 7] = [
     (Home(1), Nowhere),
 ];
 
-// Both members of the first pair fault in the first write. No block is placed then, and one without a home isn't read as zeros.
+// Both members of the first pair fault in the first write. No block is placed then, and one without a home isn't read
+// as zeros.
 #[test]
 fn a_second_loss_in_a_write_breaks_the_store(rt: HostRuntime) {
     let shape = Shape {

@@ -1,5 +1,5 @@
-// How stores begin, with groups worked by hand. Of the memory that is taken any one allocation may be refused, as a run with
-// `--fail-alloc` does: the disks come back, and a second start takes them.
+// How stores begin, with groups worked by hand. Of the memory that is taken any one allocation may be refused, as a run
+// with `--fail-alloc` does: the disks come back, and a second start takes them.
 ghost use Rattle.std.specs.Prelude.{◌≡◌, ◌≤◌, All, map, IfOk, IfSome, length};
 ghost use Rattle.ar_extents.specs.Set.{CanCount};
 
@@ -91,8 +91,8 @@ fn is_formed(rt: &impl Abort, store: &Store<FuseDisk>, formed: Formed) {
     }
 }
 
-// Starts a store, and compares what it is formed of where that is given. Disks of which none is made come back, with the reason.
-// (Only this function owns a store, since each that does costs its proof the more.)
+// Starts a store, and compares what it is formed of where that is given. Disks of which none is made come back, with
+// the reason. (Only this function owns a store, since each that does costs its proof the more.)
 fn begin(
     rt: &impl Abort,
     alloc: Global,

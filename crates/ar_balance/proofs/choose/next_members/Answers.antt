@@ -20,6 +20,7 @@ returns-clause-found g c =
     (record {
       disks = (a.ensures.disk, b.ensures.disk, d.ensures.disk, e.ensures.disk);
       lowest = four_cases (λ i. lowest_loose s (member m i).disk ≡ Some (member m i).extent)
-          (ap low a.ensures.disk ∙ a.ensures.lowest) (ap low b.ensures.disk ∙ b.ensures.lowest) (ap low d.ensures.disk ∙ d.ensures.lowest)
+          (ap low a.ensures.disk ∙ a.ensures.lowest) (ap low b.ensures.disk ∙ b.ensures.lowest) (ap low d.ensures.disk
+          ∙ d.ensures.lowest)
           (ap low e.ensures.disk ∙ e.ensures.lowest);
     })

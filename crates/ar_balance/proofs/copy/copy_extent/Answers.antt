@@ -9,6 +9,7 @@ loop-row-init g c = record { copied = search rules; made = all_done c.args.set.n
 pub loop-row-preserved : goal.loop-row-preserved
 loop-row-preserved g c = record {
   copied = search rules;
-  made = copied_next c.args.from c.args.to c.loop-row.row c.args.set.now c.loop-row.set c.copy_row.new.set c.loop-row.invariant.made (search rules);
+  made = copied_next c.args.from c.args.to c.loop-row.row c.args.set.now c.loop-row.set c.copy_row.new.set
+      c.loop-row.invariant.made (search rules);
   rest = search rules;
 }

@@ -24,8 +24,10 @@ returns-in-Ok-clause-less g c =
 pub returns-in-Ok-clause-leaves : goal.returns-in-Ok-clause-leaves
 returns-in-Ok-clause-leaves g c =
     let s = c.args.space.now in
-    subst (λ (x : SetState). LeavesAll (store_of s.disks s.book) (store_of x c.form_group.new.self)) (sym c.take_members.ensures)
-    (subst (λ (t : Tables). LeavesAll (store_of s.disks s.book) (store_of (without s.disks c.args.members) t)) (sym c.in-Ok.ensures.formed)
+    subst (λ (x : SetState). LeavesAll (store_of s.disks s.book) (store_of x c.form_group.new.self))
+    (sym c.take_members.ensures)
+    (subst (λ (t : Tables). LeavesAll (store_of s.disks s.book) (store_of (without s.disks c.args.members) t))
+    (sym c.in-Ok.ensures.formed)
     (leaves_formed s.disks s.book c.args.members c.health-health.ensures.kept c.requires.space c.requires.fullest))
 
 pub returns-in-Ok-clause-space : goal.returns-in-Ok-clause-space

@@ -17,7 +17,8 @@ returns-then-not-fill-clause-space g c =
     let x = c.args.shift in
     let b = c.fill.new.space.disks in
     subst (λ (t : Tables). IsSpace (store_of b t)) (sym c.fill.ensures.book)
-    (space_cut s.disks s.book x.group x.position x.from x.to c.health-health.ensures.kept c.requires.space c.requires.names b (c.fill.ensures.cut c.if-not-fill.true))
+    (space_cut s.disks s.book x.group x.position x.from x.to c.health-health.ensures.kept c.requires.space
+    c.requires.names b (c.fill.ensures.cut c.if-not-fill.true))
 
 pub returns-then-not-fill-clause-leaves : goal.returns-then-not-fill-clause-leaves
 returns-then-not-fill-clause-leaves g c =
@@ -25,21 +26,24 @@ returns-then-not-fill-clause-leaves g c =
     let x = c.args.shift in
     let b = c.fill.new.space.disks in
     subst (λ (t : Tables). LeavesAll (store_of s.disks s.book) (store_of b t)) (sym c.fill.ensures.book)
-    (leaves_cut s.disks s.book x.group x.position x.from x.to c.health-health.ensures.kept c.requires.space c.requires.names b (c.fill.ensures.cut c.if-not-fill.true))
+    (leaves_cut s.disks s.book x.group x.position x.from x.to c.health-health.ensures.kept c.requires.space
+    c.requires.names b (c.fill.ensures.cut c.if-not-fill.true))
 
 pub switch-requires-clause-unused : goal.switch-requires-clause-unused
 switch-requires-clause-unused g c =
     let s = c.args.space.now in
     let x = c.args.shift in
     subst (λ (t : Tables). IsUnused t x.to) (sym c.fill.ensures.book)
-    (target_unused s.disks s.book x.group x.position x.from x.to c.health-health.ensures.kept c.requires.space c.requires.names)
+    (target_unused s.disks s.book x.group x.position x.from x.to c.health-health.ensures.kept c.requires.space
+    c.requires.names)
 
 pub returns-clause-less : goal.returns-clause-less
 returns-clause-less g c =
     let s = c.args.space.now in
     let x = c.args.shift in
     subst (λ (d : SetState). balance_left d < balance_left s.disks) (sym c.switch.ensures.disks)
-    (shifted_falls s.disks c.fill.new.space.disks s.book x.group x.position x.from x.to c.health-health.ensures.kept c.requires.space c.requires.names
+    (shifted_falls s.disks c.fill.new.space.disks s.book x.group x.position x.from x.to c.health-health.ensures.kept
+    c.requires.space c.requires.names
     (c.fill.ensures.filled c.if-not-fill.false))
 
 pub returns-clause-space : goal.returns-clause-space
@@ -50,7 +54,8 @@ returns-clause-space g c =
     let is = c.switch.ensures.book ∙ ap (λ (t : Tables). shifted t x.group x.position x.to) c.fill.ensures.book in
     subst (λ (d : SetState). IsSpace (store_of d c.switch.new.space.book)) (sym c.switch.ensures.disks)
     (subst (λ (t : Tables). IsSpace (store_of (switched b x.from x.to) t)) (sym is)
-    (space_switched s.disks s.book x.group x.position x.from x.to c.health-health.ensures.kept c.requires.space c.requires.names b
+    (space_switched s.disks s.book x.group x.position x.from x.to c.health-health.ensures.kept c.requires.space
+    c.requires.names b
     (c.fill.ensures.filled c.if-not-fill.false)))
 
 pub returns-clause-leaves : goal.returns-clause-leaves
@@ -59,7 +64,9 @@ returns-clause-leaves g c =
     let x = c.args.shift in
     let b = c.fill.new.space.disks in
     let is = c.switch.ensures.book ∙ ap (λ (t : Tables). shifted t x.group x.position x.to) c.fill.ensures.book in
-    subst (λ (d : SetState). LeavesAll (store_of s.disks s.book) (store_of d c.switch.new.space.book)) (sym c.switch.ensures.disks)
+    subst (λ (d : SetState). LeavesAll (store_of s.disks s.book) (store_of d c.switch.new.space.book))
+    (sym c.switch.ensures.disks)
     (subst (λ (t : Tables). LeavesAll (store_of s.disks s.book) (store_of (switched b x.from x.to) t)) (sym is)
-    (leaves_switched s.disks s.book x.group x.position x.from x.to c.health-health.ensures.kept c.requires.space c.requires.names b
+    (leaves_switched s.disks s.book x.group x.position x.from x.to c.health-health.ensures.kept c.requires.space
+    c.requires.names b
     (c.fill.ensures.filled c.if-not-fill.false)))

@@ -14,27 +14,34 @@ loop-home-preserved c = elim c.match-home.branch [
   | in-Some+then-not-is_blank w ↦
       let before = c.loop-home.invariant in
       let put = w.set.ensures.set ∙ ap (slice_set (leaves c.loop-home.index) w.in-Some.slot.group) w.nothing.ensures in
-      let inside : w.in-Some.slot.group < length (leaves c.loop-home.index) = omega (arith, before.size, c.requires.there c.loop-home.home-index w.in-Some.slot w.in-Some.is) in
-      subst (AreBlanked c.args.units.now.entries c.args.homes.now (c.loop-home.home-index + 1) c.args.index.now) (sym w.index-is)
+      let inside : w.in-Some.slot.group < length (leaves c.loop-home.index) =
+      omega (arith, before.size, c.requires.there c.loop-home.home-index w.in-Some.slot w.in-Some.is) in
+      subst (AreBlanked c.args.units.now.entries c.args.homes.now (c.loop-home.home-index + 1) c.args.index.now)
+      (sym w.index-is)
       (record {
         size = ap length put ∙ length-set _ _ _ ∙ before.size;
         right = rw c.map-order.ensures at w.set.ensures.right;
-        each = blanked_set c.args.homes.now c.loop-home.home-index c.args.index.now c.loop-home.index before.each w.set.new.self w.in-Some.slot w.in-Some.is inside put;
+        each = blanked_set c.args.homes.now c.loop-home.home-index c.args.index.now c.loop-home.index before.each
+            w.set.new.self w.in-Some.slot w.in-Some.is inside put;
       })
   | in-Some+else-not-is_blank w ↦
       let before = c.loop-home.invariant in
-      subst (AreBlanked c.args.units.now.entries c.args.homes.now (c.loop-home.home-index + 1) c.args.index.now) (sym w.index-is)
+      subst (AreBlanked c.args.units.now.entries c.args.homes.now (c.loop-home.home-index + 1) c.args.index.now)
+      (sym w.index-is)
       (record {
         size = before.size;
         right = before.right;
-        each = blanked_skip c.args.homes.now c.loop-home.home-index c.args.index.now c.loop-home.index before.each w.in-Some.slot w.in-Some.is (sym w.is_blank.ensures ∙ w.if-not-is_blank.false);
+        each = blanked_skip c.args.homes.now c.loop-home.home-index c.args.index.now c.loop-home.index before.each
+            w.in-Some.slot w.in-Some.is (sym w.is_blank.ensures ∙ w.if-not-is_blank.false);
       })
   | in_default w ↦
       let before = c.loop-home.invariant in
-      subst (AreBlanked c.args.units.now.entries c.args.homes.now (c.loop-home.home-index + 1) c.args.index.now) (sym w.index-is)
+      subst (AreBlanked c.args.units.now.entries c.args.homes.now (c.loop-home.home-index + 1) c.args.index.now)
+      (sym w.index-is)
       (record {
         size = before.size;
         right = before.right;
-        each = blanked_none c.args.homes.now c.loop-home.home-index c.args.index.now c.loop-home.index before.each w.in_default.is;
+        each = blanked_none c.args.homes.now c.loop-home.home-index c.args.index.now c.loop-home.index before.each
+            w.in_default.is;
       })
 ]

@@ -18,21 +18,25 @@ loop-home-preserved c = elim c.match-home.branch [
   | in-Some+then-is_blank w ↦
       let before = c.loop-home.invariant.0 in
       let counted = c.loop-home.invariant.1 in
-      let inside : w.in-Some.slot.group < length (leaves c.loop-home.index) = omega (arith, before.size, c.requires.there c.loop-home.home-index w.in-Some.slot w.in-Some.is) in
+      let inside : w.in-Some.slot.group < length (leaves c.loop-home.index) =
+      omega (arith, before.size, c.requires.there c.loop-home.home-index w.in-Some.slot w.in-Some.is) in
       rw (w.index-is, w.steps-is) (
         record {
           size = ap length w.refresh.ensures.set ∙ length-set _ _ _ ∙ before.size;
           right = w.refresh.ensures.right;
-          each = right_set c.args.geometry c.args.units.now.entries c.args.groups.now.items c.args.homes.now c.loop-home.home-index c.loop-home.index before.each
+          each = right_set c.args.geometry c.args.units.now.entries c.args.groups.now.items c.args.homes.now
+              c.loop-home.home-index c.loop-home.index before.each
               w.refresh.new.index w.in-Some.slot w.in-Some.is inside w.refresh.ensures.set;
         },
         record {
           few = λ most have.
               let so_far = counted.few most have in
               let more = w.refresh.ensures.few most in
-              let long = have.long w.in-Some.slot.group (c.requires.there c.loop-home.home-index w.in-Some.slot w.in-Some.is) in
+              let long = have.long w.in-Some.slot.group
+              (c.requires.there c.loop-home.home-index w.in-Some.slot w.in-Some.is) in
               let short = slots_few c.args.geometry in
-              let less = blanks_less c.loop-home.index w.refresh.new.index w.in-Some.slot.group _ inside w.refresh.ensures.set (sym w.is_blank.ensures ∙ w.if-is_blank.true)
+              let less = blanks_less c.loop-home.index w.refresh.new.index w.in-Some.slot.group _ inside
+              w.refresh.ensures.set (sym w.is_blank.ensures ∙ w.if-is_blank.true)
               (have.some c.loop-home.home-index w.in-Some.slot w.in-Some.is) in
               omega (arith, so_far, more, long, short, less);
         },
@@ -43,7 +47,8 @@ loop-home-preserved c = elim c.match-home.branch [
         record {
           size = before.size;
           right = before.right;
-          each = right_skip c.args.geometry c.args.units.now.entries c.args.groups.now.items c.args.homes.now c.loop-home.home-index c.loop-home.index before.each
+          each = right_skip c.args.geometry c.args.units.now.entries c.args.groups.now.items c.args.homes.now
+              c.loop-home.home-index c.loop-home.index before.each
               w.in-Some.slot w.in-Some.is (sym w.is_blank.ensures ∙ w.if-is_blank.false);
         },
         c.loop-home.invariant.1,
@@ -54,7 +59,8 @@ loop-home-preserved c = elim c.match-home.branch [
         record {
           size = before.size;
           right = before.right;
-          each = right_none c.args.geometry c.args.units.now.entries c.args.groups.now.items c.args.homes.now c.loop-home.home-index c.loop-home.index before.each w.in_default.is;
+          each = right_none c.args.geometry c.args.units.now.entries c.args.groups.now.items c.args.homes.now
+              c.loop-home.home-index c.loop-home.index before.each w.in_default.is;
         },
         c.loop-home.invariant.1,
       )
@@ -66,4 +72,5 @@ returns-clause-few c = λ most have. (let few = c.loop-home.invariant.1.few most
 pub returns-clause-leaves : goal.returns-clause-leaves
 returns-clause-leaves c =
     all_leaves _ _ _ _ c.loop-home.invariant.0.size
-    (right_leaf c.args.geometry c.args.units.now.entries c.args.groups.now.items c.args.homes.now c.loop-home.home-index c.loop-home.index c.loop-home.invariant.0.each (omega arith))
+    (right_leaf c.args.geometry c.args.units.now.entries c.args.groups.now.items c.args.homes.now c.loop-home.home-index
+    c.loop-home.index c.loop-home.invariant.0.each (omega arith))

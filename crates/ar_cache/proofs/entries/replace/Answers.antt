@@ -15,5 +15,6 @@ copy_from_slice-requires c =
 pub returns-in-Some-clause-put : goal.returns-in-Some-clause-put
 returns-in-Some-clause-put c =
     ap (λ es. lru_cache es c.args.entries.now.cap)
-    (promoted_set c.args.entries.now.entries c.args.key c.in-Some.present.now c.copy_from_slice.new.self (sym c.in-Some.ensures.value)
+    (promoted_set c.args.entries.now.entries c.args.key c.in-Some.present.now c.copy_from_slice.new.self
+    (sym c.in-Some.ensures.value)
     ∙ ap (λ w. (c.args.key, w) ∷ without_key c.args.entries.now.entries c.args.key) c.copy_from_slice.ensures)

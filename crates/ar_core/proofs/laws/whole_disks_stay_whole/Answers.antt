@@ -4,6 +4,7 @@ use Rattle.ar_core.proofs.laws.whole_disks_stay_whole.Goals as goal
 
 pub returns : goal.returns
 returns c = record {
-  event = λ old new event outcome steps hurts whole. whole_stays event old.store.disks new.store.disks steps.disks hurts whole;
+  event = λ old new event outcome steps hurts whole. whole_stays event old.store.disks new.store.disks steps.disks hurts
+      whole;
   run = whole_run;
 }

@@ -17,7 +17,8 @@ pub returns-then-is_same : goal.returns-then-is_same
 returns-then-is_same c =
     let command : command_of c.args.host.number c.args.entry.now ≡ Some c.in-Some.command.now = search rules in
     let below = ltb-true c.args.at (length c.args.transcript.now) (sym c.in-Some-get.ensures.lookup.0) in
-    let here = slice_get_read c.args.transcript.now (length c.args.transcript.now) c.args.at c.in-Some-get.line.now refl below c.in-Some-get.ensures.lookup.1 in
+    let here = slice_get_read c.args.transcript.now (length c.args.transcript.now) c.args.at c.in-Some-get.line.now refl
+    below c.in-Some-get.ensures.lookup.1 in
     agrees_one c.args.host.number c.args.entry.now c.args.transcript.now c.args.at c.in-Some.command.now
     (here ∙ ap (λ (x : Exchange). Some x) (c.is_same.ensures.same c.if-is_same.true)) command
 
@@ -25,6 +26,8 @@ pub returns-else-is_same : goal.returns-else-is_same
 returns-else-is_same c =
     let command : command_of c.args.host.number c.args.entry.now ≡ Some c.in-Some.command.now = search rules in
     let below = ltb-true c.args.at (length c.args.transcript.now) (sym c.in-Some-get.ensures.lookup.0) in
-    let here = slice_get_read c.args.transcript.now (length c.args.transcript.now) c.args.at c.in-Some-get.line.now refl below c.in-Some-get.ensures.lookup.1 in
+    let here = slice_get_read c.args.transcript.now (length c.args.transcript.now) c.args.at c.in-Some-get.line.now refl
+    below c.in-Some-get.ensures.lookup.1 in
     departs c.args.host.number c.args.entry.now c.args.transcript.now c.args.at c.in-Some.command.now c.requires command
-    (other_there c.args.transcript.now c.args.at c.in-Some-get.line.now c.in-Some.command.now here (c.is_same.ensures.others c.if-is_same.false))
+    (other_there c.args.transcript.now c.args.at c.in-Some-get.line.now c.in-Some.command.now here
+    (c.is_same.ensures.others c.if-is_same.false))

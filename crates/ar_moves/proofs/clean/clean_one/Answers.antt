@@ -18,7 +18,8 @@ use Rattle.ar_moves.proofs.clean.clean_one.Goals as goal
 pub move_to-requires : goal.move_to-requires
 move_to-requires g c =
     let t = c.args.store.now.book in
-    let names = subst (λ (x : Tables). NamesCleaning x c.in-Some.key c.in-Some.to) c.book.ensures c.in-Some.ensures.names in
+    let names = subst (λ (x : Tables). NamesCleaning x c.in-Some.key c.in-Some.to) c.book.ensures
+    c.in-Some.ensures.names in
     let ready = cleaning_ready t c.in-Some.key c.in-Some.to c.health.ensures.kept.space.tables names in
     record { placed = ready.placed; hole = ready.hole }
 
@@ -26,15 +27,23 @@ pub returns-in-Some : goal.returns-in-Some
 returns-in-Some g c =
     let t = c.args.store.now.book in
     let new = c.move_to.new.store.book in
-    let names = subst (λ (x : Tables). NamesCleaning x c.in-Some.key c.in-Some.to) c.book.ensures c.in-Some.ensures.names in
+    let names = subst (λ (x : Tables). NamesCleaning x c.in-Some.key c.in-Some.to) c.book.ensures
+    c.in-Some.ensures.names in
     let moves = c.move_to.ensures in
     record {
-      moved = if_moved_all c.move_to.result (IsMovedTo t c.in-Some.key c.in-Some.to new) (IsMovedTo t c.in-Some.key c.in-Some.to new)
-          (λ k s. BesideHold c.args.store.now c.move_to.new.store s) (CleansBlock c.args.store.now c.move_to.new.store) moves.moved moves.moved
-          (moved_beside c.args.store.now c.move_to.new.store c.move_to.result t new c.in-Some.key c.in-Some.to moves.moved moves.beside)
+      moved = if_moved_all c.move_to.result (IsMovedTo t c.in-Some.key c.in-Some.to new)
+          (IsMovedTo t c.in-Some.key c.in-Some.to new)
+          (λ k s. BesideHold c.args.store.now c.move_to.new.store s) (CleansBlock c.args.store.now c.move_to.new.store)
+          moves.moved moves.moved
+          (moved_beside c.args.store.now c.move_to.new.store c.move_to.result t new c.in-Some.key c.in-Some.to
+          moves.moved moves.beside)
           (λ k s moved same beside.
           let cleans = named_cleaned t new c.in-Some.key c.in-Some.to names k s moved in
-          record { tables = cleans; less = cleans_fall t new k s c.health.ensures.kept.space.tables cleans; beside = beside });
+          record {
+            tables = cleans;
+            less = cleans_fall t new k s c.health.ensures.kept.space.tables cleans;
+            beside = beside;
+          });
       idle = λ idle. absurd (moves.idle idle);
       nothing = λ none. absurd (cleans_nothing t c.in-Some.key c.in-Some.to none names);
       broken = moves.broken;
@@ -57,4 +66,5 @@ returns-in-None-clause-plan g c = λ key to named.
 
 pub returns-in-Broken-clause-plan : goal.returns-in-Broken-clause-plan
 returns-in-Broken-clause-plan g c = λ key to named.
-    carries_broken (move_plan c.args.store.now key to) c.args.store.now.disks (sym c.health.ensures.health ∙ c.in-Broken.is)
+    carries_broken (move_plan c.args.store.now key to) c.args.store.now.disks (sym c.health.ensures.health
+    ∙ c.in-Broken.is)

@@ -14,17 +14,28 @@ returns-in-Some g c =
     let t = c.args.store.now.book in
     let new = c.demote.new.store.book in
     let found = c.in-Some.ensures in
-    let oldest = subst (λ (x : Tables). IsOldestMirrored x c.in-Some.key) c.book.ensures (record { mirrored = found.found; oldest = found.oldest }) in
+    let oldest =
+    subst (λ (x : Tables). IsOldestMirrored x c.in-Some.key) c.book.ensures
+    (record { mirrored = found.found; oldest = found.oldest }) in
     let demoted = c.demote.ensures in
     record {
-      moved = if_moved_all c.demote.result (DemotesTo t c.in-Some.key new) (λ k s. HasNoHole t Parity → HoldsZerosBeside c.demote.new.store s)
+      moved = if_moved_all c.demote.result (DemotesTo t c.in-Some.key new) (λ k s. HasNoHole t Parity
+          → HoldsZerosBeside c.demote.new.store s)
           (λ k s. BesideHold c.args.store.now c.demote.new.store s) (DemotesBlock c.args.store.now c.demote.new.store)
           demoted.moved demoted.zeros demoted.beside
-          (λ k s moved zeros beside. record { tables = oldest_demoted t new c.in-Some.key oldest k s moved; zeros = zeros; beside = beside });
+          (λ k s moved zeros beside. record {
+            tables = oldest_demoted t new c.in-Some.key oldest k s moved;
+            zeros = zeros;
+            beside = beside;
+          });
       idle = λ idle.
           let left = demoted.idle idle in
           record { why = record { none = λ key to ready names. left.why.none to ready names.slot }; same = left.same };
-      nothing = λ named. demoted.nothing (record { none = λ to ready slot. named.none c.in-Some.key to ready (record { oldest = oldest; slot = slot }) });
+      nothing = λ named. demoted.nothing
+          (record {
+            none = λ to ready slot. named.none c.in-Some.key to ready
+                (record { oldest = oldest; slot = slot });
+          });
       broken = demoted.broken;
       opened = demoted.opened;
       ready = demoted.ready;
@@ -34,7 +45,8 @@ returns-in-Some g c =
 
 pub returns-in-None-clause-plan : goal.returns-in-None-clause-plan
 returns-in-None-clause-plan g c =
-    demotes_nothing c.args.store.now (λ k is. c.in-None.ensures.none k (subst (λ (x : Tables). IsMirrored x k) (sym c.book.ensures) is))
+    demotes_nothing c.args.store.now
+    (λ k is. c.in-None.ensures.none k (subst (λ (x : Tables). IsMirrored x k) (sym c.book.ensures) is))
 
 pub returns-in-Broken-clause-plan : goal.returns-in-Broken-clause-plan
 returns-in-Broken-clause-plan g c = demotes_none c.args.store.now (sym c.health.ensures.health ∙ c.in-Broken.is)

@@ -10,7 +10,9 @@ returns g c = record {
   replies = record {
     answer = response_bytes c.respond-response.result c.respond-response.new.answer.items;
     responds = c.respond-response.ensures;
-    sending = subst (λ (l : List ℕ). Sending (g.W.Sink.state c.args.writer.now) (g.W.Sink.state c.send-sent.new.writer) l c.send-sent.result) c.bytes_of.ensures c.send-sent.ensures;
+    sending = subst
+        (λ (l : List ℕ). Sending (g.W.Sink.state c.args.writer.now) (g.W.Sink.state c.send-sent.new.writer) l
+        c.send-sent.result) c.bytes_of.ensures c.send-sent.ensures;
   };
   result_is = c.line_result.ensures;
 }

@@ -9,7 +9,8 @@ pub loop-preserved : goal.loop-preserved
 loop-preserved g c = talked_more g.C.Controller.answers _ _ _ _ c.loop.invariant c.in-Answered.ensures
 
 pub returns-in-Ended : goal.returns-in-Ended
-returns-in-Ended g c = talked_end g.C.Controller.answers _ _ _ _ c.in-Ended.end c.loop.invariant (omega arith) c.in-Ended.ensures
+returns-in-Ended g c =
+    talked_end g.C.Controller.answers _ _ _ _ c.in-Ended.end c.loop.invariant (omega arith) c.in-Ended.ensures
 
 pub returns : goal.returns
 returns g c = talked_full g.C.Controller.answers _ _ _ c.loop.invariant (omega arith)

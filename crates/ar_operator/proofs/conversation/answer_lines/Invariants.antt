@@ -12,4 +12,8 @@ invariant-loop g l =
       controller = l.initial.controller;
     })
     l.counter
-    (record { source = seen_behind l.piece (g.R.Source.state l.reader); sink = g.W.Sink.state l.writer; controller = l.controller })
+    (record {
+      source = seen_behind l.piece (g.R.Source.state l.reader);
+      sink = g.W.Sink.state l.writer;
+      controller = l.controller;
+    })

@@ -3,4 +3,5 @@ use Rattle.ar_operator.proofs.conversation.answer_next.Goals as goal
 
 pub returns-in-Line : goal.returns-in-Line
 returns-in-Line g c =
-    next_behind g.C.Controller.answers _ _ _ _ _ _ _ _ _ _ c.in-Line.ensures c.answer_line-result.ensures c.result_behind.ensures
+    next_behind g.C.Controller.answers _ _ _ _ _ _ _ _ _ _ c.in-Line.ensures c.answer_line-result.ensures
+    c.result_behind.ensures

@@ -11,7 +11,8 @@ use Rattle.ar_operator.proofs.fused.start_fused.Goals as goal
 -- the disks that the array was given are those of the setup
 given : (c : goal.In_ok-array) → c.in_ok-disks.disks.items ≡ disks_of c.args.setup
 given c =
-    let made = ok_before c.fused_disks.result c.map_err.result c.in_ok-disks.disks _ c.map_err.ensures.cases c.in_ok-disks.was in
+    let made = ok_before c.fused_disks.result c.map_err.result c.in_ok-disks.disks _ c.map_err.ensures.cases
+    c.in_ok-disks.was in
     IfOk-at_ok (λ disks. disks.items ≡ disks_of c.args.setup) made c.fused_disks.ensures
 
 began : (c : goal.In_ok-array) → c.start.result ≡ Ok c.in_ok-array.array

@@ -9,5 +9,6 @@ returns-clause-reads c =
     let loud : is_silent c.args.line.now ≡ false = search rules in
     let count = c.in-Some.count in
     let words = c.first_words.new.words in
-    line_read c.args.line.now (take count words) c.order_in_words.result loud c.in-Some.ensures.some (sym (take-map (λ text. text.now) count words) ∙ c.in-Some.ensures.words)
+    line_read c.args.line.now (take count words) c.order_in_words.result loud c.in-Some.ensures.some
+    (sym (take-map (λ text. text.now) count words) ∙ c.in-Some.ensures.words)
     c.order_in_words.ensures.reads

@@ -13,4 +13,8 @@ loop-host-preserved g c =
     grows_then c.loop-host.invariant (record { more = line.more; appends = line.appends })
 
 pub returns : goal.returns
-returns g c = record { adds = on_ok c.write_tasks.result _ _ (λ rest. then_some c.loop-host.invariant rest) c.write_tasks.ensures.adds }
+returns g c =
+    record {
+      adds = on_ok c.write_tasks.result _ _ (λ rest. then_some c.loop-host.invariant rest)
+          c.write_tasks.ensures.adds;
+    }

@@ -22,7 +22,9 @@ pub rebuild_row-requires : goal.rebuild_row-requires
 rebuild_row-requires g c =
     let a = c.args.set.now in
     let b = c.loop-row.set in
-    let before = rows_effect Parity c.args.members.now c.args.position a c.requires.group c.requires.position c.requires.rebuilding c.requires.next c.loop-row.row b c.loop-row.invariant.made in
+    let before =
+    rows_effect Parity c.args.members.now c.args.position a c.requires.group c.requires.position
+    c.requires.rebuilding c.requires.next c.loop-row.row b c.loop-row.invariant.made in
     let rows = c.rows-row-end.ensures ∙ ap rows_of c.geometry.ensures in
     let below = c.loop-row-test.true in
     record {
@@ -42,8 +44,10 @@ loop-row-init g c = record {
 }
 
 -- a row more, in the state that earlier rows left
-one_at : (m : Members) (i row : ℕ) (a b c : SetState) → IsGroup a m → i < 4 → IsRebuilding a.health → member m i ≡ next_place a
-    → AttemptsAll (rows_attempts Parity m i row) true a b → CarriesOut (parity_rebuild m i row) b c → OneMore Parity m i row a b c
+one_at : (m : Members) (i row : ℕ) (a b c : SetState) → IsGroup a m → i < 4 → IsRebuilding a.health
+    → member m i ≡ next_place a
+    → AttemptsAll (rows_attempts Parity m i row) true a b → CarriesOut (parity_rebuild m i row) b c
+    → OneMore Parity m i row a b c
 one_at m i row a b c group below is next made carried =
     one_more Parity m i row a b c group below is next made carried
 
@@ -55,10 +59,12 @@ loop-row-preserved g c =
     let m = c.args.members.now in
     let i = c.args.position in
     let row = c.loop-row.row in
-    let more = one_at c.args.members.now c.args.position c.loop-row.row a b d c.requires.group c.requires.position c.requires.rebuilding c.requires.next
+    let more = one_at c.args.members.now c.args.position c.loop-row.row a b d c.requires.group c.requires.position
+    c.requires.rebuilding c.requires.next
     c.loop-row.invariant.made c.rebuild_row.ensures.plan in
     record {
-      summed = summed_then a b d m i row c.requires.next more.before c.loop-row.invariant.summed c.in-Done.ensures.answer c.rebuild_row.ensures.agrees more.here;
+      summed = summed_then a b d m i row c.requires.next more.before c.loop-row.invariant.summed
+          c.in-Done.ensures.answer c.rebuild_row.ensures.agrees more.here;
       made = more.all c.in-Done.ensures.answer.health;
       scratch = c.rebuild_row.ensures.scratch ∙ c.loop-row.invariant.scratch;
     }
@@ -70,9 +76,12 @@ returns g c =
     let m = c.args.members.now in
     let i = c.args.position in
     let rows : c.loop-row.row ≡ rows_of a.geometry =
-    (let end = c.rows-row-end.ensures ∙ ap rows_of c.geometry.ensures in let past = c.loop-row-test.false in let fits = c.loop-row.auto.row-end in omega arith) in
+    (let end = c.rows-row-end.ensures ∙ ap rows_of c.geometry.ensures in let past = c.loop-row-test.false in
+    let fits = c.loop-row.auto.row-end in omega arith) in
     let made = subst (λ n. AttemptsAll (rows_attempts Parity m i n) true a b) rows c.loop-row.invariant.made in
-    let effect = rows_effect Parity m i a c.requires.group c.requires.position c.requires.rebuilding c.requires.next (rows_of a.geometry) b made in
+    let effect =
+    rows_effect Parity m i a c.requires.group c.requires.position c.requires.rebuilding c.requires.next
+    (rows_of a.geometry) b made in
     record {
       answer = summed_whole a b m i c.requires.group c.requires.position c.requires.rebuilding c.requires.next effect
           (subst (λ n. AreSummed a b m i n) rows c.loop-row.invariant.summed);
@@ -90,16 +99,20 @@ returns-in-GivenUp g c =
     let m = c.args.members.now in
     let i = c.args.position in
     let row = c.loop-row.row in
-    let more = one_at c.args.members.now c.args.position c.loop-row.row a b d c.requires.group c.requires.position c.requires.rebuilding c.requires.next
+    let more = one_at c.args.members.now c.args.position c.loop-row.row a b d c.requires.group c.requires.position
+    c.requires.rebuilding c.requires.next
     c.loop-row.invariant.made c.rebuild_row.ensures.plan in
-    let lt : row < rows_of a.geometry = (let rows = c.rows-row-end.ensures ∙ ap rows_of c.geometry.ensures in let below = c.loop-row-test.true in omega arith) in
+    let lt : row < rows_of a.geometry =
+    (let rows = c.rows-row-end.ensures ∙ ap rows_of c.geometry.ensures in let below = c.loop-row-test.true in
+    omega arith) in
     let still = subst (λ (h : Health). IsRebuilding h) (sym more.before.health) c.requires.rebuilding in
     let changed = given_up_changes b d still c.in-GivenUp.ensures.answer in
     record {
       answer = stopped_then a b d more.before.writes.follows more.before.health c.in-GivenUp.ensures.answer;
       writes = more.writes;
       plan = more.plan changed lt;
-      stopped = λ no. summed_stops a b d m i row lt c.requires.next more.before c.loop-row.invariant.summed more.here c.loop-row.invariant.made (more.failed changed);
+      stopped = λ no. summed_stops a b d m i row lt c.requires.next more.before c.loop-row.invariant.summed more.here
+          c.loop-row.invariant.made (more.failed changed);
       scratch = c.rebuild_row.ensures.scratch ∙ c.loop-row.invariant.scratch;
     }
 
@@ -111,15 +124,19 @@ returns-in-Broken g c =
     let m = c.args.members.now in
     let i = c.args.position in
     let row = c.loop-row.row in
-    let more = one_at c.args.members.now c.args.position c.loop-row.row a b d c.requires.group c.requires.position c.requires.rebuilding c.requires.next
+    let more = one_at c.args.members.now c.args.position c.loop-row.row a b d c.requires.group c.requires.position
+    c.requires.rebuilding c.requires.next
     c.loop-row.invariant.made c.rebuild_row.ensures.plan in
-    let lt : row < rows_of a.geometry = (let rows = c.rows-row-end.ensures ∙ ap rows_of c.geometry.ensures in let below = c.loop-row-test.true in omega arith) in
+    let lt : row < rows_of a.geometry =
+    (let rows = c.rows-row-end.ensures ∙ ap rows_of c.geometry.ensures in let below = c.loop-row-test.true in
+    omega arith) in
     let still = subst (λ (h : Health). IsRebuilding h) (sym more.before.health) c.requires.rebuilding in
     let changed = broken_changes b d still c.in-Broken.ensures.answer in
     record {
       answer = more.spared c.in-Broken.ensures.answer;
       writes = more.writes;
       plan = more.plan changed lt;
-      stopped = λ no. summed_stops a b d m i row lt c.requires.next more.before c.loop-row.invariant.summed more.here c.loop-row.invariant.made (more.failed changed);
+      stopped = λ no. summed_stops a b d m i row lt c.requires.next more.before c.loop-row.invariant.summed more.here
+          c.loop-row.invariant.made (more.failed changed);
       scratch = c.rebuild_row.ensures.scratch ∙ c.loop-row.invariant.scratch;
     }

@@ -8,7 +8,8 @@ use Rattle.ar_rebuild.proofs.step.rebuild_one.Goals as goal
 
 pub rebuild_extent-requires : goal.rebuild_extent-requires
 rebuild_extent-requires g c =
-    let disks : c.disks.result.now ≡ c.store.inside.space.disks = c.disks.ensures ∙ ap (λ (s : StoreState). s.disks) (sym c.store.view_is) in
+    let disks : c.disks.result.now ≡ c.store.inside.space.disks =
+    c.disks.ensures ∙ ap (λ (s : StoreState). s.disks) (sym c.store.view_is) in
     let told = c.in-Rebuilding.ensures in
     record {
       ready = ready_in c.store.inside.space c.store.inside.block c.store.invariant;
@@ -19,7 +20,8 @@ rebuild_extent-requires g c =
 pub invariant_of-store : goal.invariant_of-store
 invariant_of-store g c =
     let a = c.store.inside.space in
-    let disks : c.disks.result.now ≡ a.disks = c.disks.ensures ∙ ap (λ (s : StoreState). s.disks) (sym c.store.view_is) in
+    let disks : c.disks.result.now ≡ a.disks =
+    c.disks.ensures ∙ ap (λ (s : StoreState). s.disks) (sym c.store.view_is) in
     let is = c.in-Rebuilding.ensures.same ∙ ap (λ (s : SetState). s.health) disks in
     let step = c.rebuild_extent.ensures in
     fields_advanced a c.rebuild_extent.new.space c.store.inside.block

@@ -4,4 +4,5 @@ use Rattle.ar_service.specs.Service.{AreCreated}
 use Rattle.ar_service.proofs.service.create_units.Given as goal
 
 abbrev pub invariant-loop-number : goal.invariant-loop-number
-invariant-loop-number g l = AreCreated (take l.number l.units) (g.A.RecordedArray.state l.initial.array) (g.A.RecordedArray.state l.array)
+invariant-loop-number g l =
+    AreCreated (take l.number l.units) (g.A.RecordedArray.state l.initial.array) (g.A.RecordedArray.state l.array)

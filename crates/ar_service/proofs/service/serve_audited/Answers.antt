@@ -4,7 +4,9 @@ use Rattle.ar_history.proofs.kept.Kept.TheSendSync as sending
 use Rattle.ar_service.proofs.service.serve_audited.Goals as goal
 
 pub serve_made-stops-requires-send-A : goal.serve_made-stops-requires-send-A
-serve_made-stops-requires-send-A g c κs within = param_send 0 _ (arg_send _ yes _ (sending.the_send _ g.row.L g.D.Disk g.L.Ledger (given_send 0 _ g.row.D c.type_bounds.send-D)))
+serve_made-stops-requires-send-A g c κs within =
+    param_send 0 _
+    (arg_send _ yes _ (sending.the_send _ g.row.L g.D.Disk g.L.Ledger (given_send 0 _ g.row.D c.type_bounds.send-D)))
 
 pub serve_made-stops-requires-send-L : goal.serve_made-stops-requires-send-L
 serve_made-stops-requires-send-L g c κs within = c.type_bounds.send-L

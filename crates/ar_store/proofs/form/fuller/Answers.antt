@@ -2,13 +2,15 @@ use Rattle.std.proofs.Common.{sym, subst, ◌∙◌, true≢false, arith}
 use Rattle.ar_store.specs.Fullest.{IsFullest}
 use Rattle.ar_store.proofs.Picking.{fullest_same, fullest_first, fullest_next, fullest_less}
 use Rattle.ar_store.proofs.form.fuller.Goals as goal
-use Rattle.ar_store.proofs.form.fuller.Goals.{then-contains-via-then-contains, then-contains-via-else-contains+then-counts-number-eq0}
+use Rattle.ar_store.proofs.form.fuller.Goals.{then-contains-via-then-contains}
+use Rattle.ar_store.proofs.form.fuller.Goals.{then-contains-via-else-contains+then-counts-number-eq0}
 
 pub returns-then-contains : goal.returns-then-contains
 returns-then-contains c =
     fullest_same c.args.counts.now c.args.but.now c.args.number c.args.best c.requires.best
     (λ other. elim c.then-contains.branch [
-      | then-contains-via-then-contains w ↦ absurd (true≢false (sym w.if-contains.true ∙ c.contains.ensures.value ∙ other))
+      | then-contains-via-then-contains w ↦
+          absurd (true≢false (sym w.if-contains.true ∙ c.contains.ensures.value ∙ other))
       | then-contains-via-else-contains+then-counts-number-eq0 w ↦ w.if-counts-number-eq0.true
     ])
 
@@ -27,4 +29,5 @@ returns-then-counts-number c =
 pub returns-else-counts-number : goal.returns-else-counts-number
 returns-else-counts-number c =
     fullest_less c.args.counts.now c.args.but.now c.args.number c.in-Some.disk
-    (subst (λ b. IsFullest c.args.counts.now c.args.but.now c.args.number b) c.in-Some.is c.requires.best) c.if-counts-number.false
+    (subst (λ b. IsFullest c.args.counts.now c.args.but.now c.args.number b) c.in-Some.is c.requires.best)
+    c.if-counts-number.false

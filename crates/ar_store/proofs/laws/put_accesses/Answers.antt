@@ -1,4 +1,5 @@
-use Rattle.ar_store.proofs.PutCosts.{put_to_mirrored, put_to_parity, put_squeezing, put_to_mirrored_slot, put_to_parity_slot}
+use Rattle.ar_store.proofs.PutCosts.{put_to_mirrored, put_to_parity, put_squeezing, put_to_mirrored_slot}
+use Rattle.ar_store.proofs.PutCosts.{put_to_parity_slot}
 use Rattle.ar_store.proofs.laws.put_accesses.Goals as goal
 
 pub returns : goal.returns

@@ -1,4 +1,5 @@
-use Rattle.ar_store.proofs.Costs.{unplaced_made, get_made, mirrored_made, parity_made, moved_to_mirrored, moved_to_parity, whole_reads, whole_writes}
+use Rattle.ar_store.proofs.Costs.{unplaced_made, get_made, mirrored_made, parity_made, moved_to_mirrored}
+use Rattle.ar_store.proofs.Costs.{moved_to_parity, whole_reads, whole_writes}
 use Rattle.ar_store.proofs.SqueezeCosts.{squeeze_made}
 use Rattle.ar_store.proofs.laws.store_accesses.Goals as goal
 

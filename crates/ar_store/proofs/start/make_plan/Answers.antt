@@ -27,12 +27,16 @@ returns g c =
     let disks = map g.D.Disk.state c.args.disks.now in
     let size : length disks ≡ length c.args.disks.now = length-map c.args.disks.now g.D.Disk.state in
     let some = (start_some disks c.requires).0 in
-    let first : disk_in disks 0 ≡ g.D.Disk.state c.index-disks-0.result = disk_in-read g.D.Disk.state c.args.disks.now 0 _ (omega arith) c.index-disks-0.is in
-    let second : disk_in disks 0 ≡ g.D.Disk.state c.index-disks-0-2.result = disk_in-read g.D.Disk.state c.args.disks.now 0 _ (omega arith) c.index-disks-0-2.is in
-    let geometry : c.geometry-geometry.result ≡ (started disks).geometry = c.geometry-geometry.ensures ∙ ap (λ (s : DiskState). s.geometry) (sym first) in
+    let first : disk_in disks 0 ≡ g.D.Disk.state c.index-disks-0.result =
+    disk_in-read g.D.Disk.state c.args.disks.now 0 _ (omega arith) c.index-disks-0.is in
+    let second : disk_in disks 0 ≡ g.D.Disk.state c.index-disks-0-2.result =
+    disk_in-read g.D.Disk.state c.args.disks.now 0 _ (omega arith) c.index-disks-0-2.is in
+    let geometry : c.geometry-geometry.result ≡ (started disks).geometry =
+    c.geometry-geometry.ensures ∙ ap (λ (s : DiskState). s.geometry) (sym first) in
     record {
       book = c.in_ok-book.ensures (started disks)
-          (loose_started disks c.geometry-geometry.result (length c.args.disks.now) c.extents-extents.result (sym geometry) size
+          (loose_started disks c.geometry-geometry.result (length c.args.disks.now) c.extents-extents.result
+          (sym geometry) size
           (ap (λ (s : DiskState). s.extents) second ∙ sym c.extents-extents.ensures));
       block = c.in_ok-buffers.ensures.block ∙ ap block_len_of geometry;
       scratch = c.in_ok-buffers.ensures.scratch ∙ geometry;

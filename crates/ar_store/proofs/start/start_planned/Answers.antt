@@ -19,7 +19,9 @@ form-requires g c =
 pub returns : goal.returns
 returns g c = record {
   started = record {
-    formed = subst (λ (s : SetState). IsFormed (store_of s (empty_book s.geometry)) (members_list c.form.result.book) c.form.result) c.in_ok-set.ensures.started c.form.ensures;
+    formed = subst
+        (λ (s : SetState). IsFormed (store_of s (empty_book s.geometry)) (members_list c.form.result.book)
+        c.form.result) c.in_ok-set.ensures.started c.form.ensures;
   };
   refused = tt;
   handed_back = tt;

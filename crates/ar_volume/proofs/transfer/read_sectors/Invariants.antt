@@ -9,10 +9,12 @@ abbrev pub invariant-loop-at : goal.invariant-loop-at
 invariant-loop-at g l = record {
   from : l.lba ≤ l.at;
   until : l.at ≤ l.end;
-  begun : take (512 * (l.at - l.lba)) l.out ≡ concat (sectors_in l.fn.geometry (unit_block (g.B.Backing.block_at l.fn.blocks) l.addr) l.lba (l.at - l.lba));
+  begun : take (512 * (l.at - l.lba)) l.out
+      ≡ concat (sectors_in l.fn.geometry (unit_block (g.B.Backing.block_at l.fn.blocks) l.addr) l.lba (l.at - l.lba));
   blocks : SameBlocks (g.B.Backing.block_at l.fn.blocks) (g.B.Backing.block_at l.blocks);
   sound : g.B.Backing.is_broken l.blocks ≡ false;
-  keeps : KeepsBacking g.B.Backing.geometry g.B.Backing.knows g.B.Backing.is_broken g.B.Backing.follows l.fn.blocks l.blocks;
+  keeps : KeepsBacking g.B.Backing.geometry g.B.Backing.knows g.B.Backing.is_broken g.B.Backing.follows l.fn.blocks
+      l.blocks;
   gets : InTurn g.B.Backing.gets (keys_in l.fn.geometry l.addr l.lba (l.at - l.lba)) l.fn.blocks l.blocks;
   edge : ((l.at ≡ l.lba) ⊎ (l.at % sectors_of l.fn.geometry ≡ 0)) ⊎ (l.at ≡ l.end);
   len : length l.block ≡ length l.fn.block;

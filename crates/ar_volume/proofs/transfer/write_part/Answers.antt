@@ -8,24 +8,30 @@ use Rattle.ar_volume.proofs.transfer.write_part.Goals as goal
 pub returns-in-Done-clause-inside : goal.returns-in-Done-clause-inside
 returns-in-Done-clause-inside g c = λ done i low high.
     let len : block_len_of c.args.geometry ≡ 512 * sectors_of c.args.geometry = block_len-sectors c.args.geometry in
-    let kept : length c.get.new.into ≡ length c.args.block.now = c.get.auto.into ∙ ap length c.bytes_mut.ensures.value in
+    let kept : length c.get.new.into ≡ length c.args.block.now =
+    c.get.auto.into ∙ ap length c.bytes_mut.ensures.value in
     let whole : length c.get.new.into ≡ block_len_of c.args.geometry = kept ∙ c.requires.whole in
     let put : c.set_sectors.new.self ≡ with_sectors c.get.new.into c.args.first c.args.bytes.now =
     c.set_sectors.ensures.sectors
-    ∙ ap (λ (b : List ℕ). with_sectors b c.args.first c.args.bytes.now) (refilled_is c.args.block.now c.get.new.into kept) in
+    ∙ ap (λ (b : List ℕ). with_sectors b c.args.first c.args.bytes.now)
+    (refilled_is c.args.block.now c.get.new.into kept) in
     ap (λ (b : List ℕ). sectors_at b i 1) ((c.put-in-Done.ensures.written done).written ∙ c.bytes.ensures ∙ put)
-    ∙ sectors_at-with_sectors_inside c.get.new.into c.args.bytes.now c.args.first i low (omega (arith, c.requires.sectors)) (omega (arith, c.requires.sectors, c.requires.within))
+    ∙ sectors_at-with_sectors_inside c.get.new.into c.args.bytes.now c.args.first i low
+    (omega (arith, c.requires.sectors)) (omega (arith, c.requires.sectors, c.requires.within))
 
 pub returns-in-Done-clause-outside : goal.returns-in-Done-clause-outside
 returns-in-Done-clause-outside g c = λ done i apart exists.
     let len : block_len_of c.args.geometry ≡ 512 * sectors_of c.args.geometry = block_len-sectors c.args.geometry in
-    let kept : length c.get.new.into ≡ length c.args.block.now = c.get.auto.into ∙ ap length c.bytes_mut.ensures.value in
+    let kept : length c.get.new.into ≡ length c.args.block.now =
+    c.get.auto.into ∙ ap length c.bytes_mut.ensures.value in
     let whole : length c.get.new.into ≡ block_len_of c.args.geometry = kept ∙ c.requires.whole in
     let put : c.set_sectors.new.self ≡ with_sectors c.get.new.into c.args.first c.args.bytes.now =
     c.set_sectors.ensures.sectors
-    ∙ ap (λ (b : List ℕ). with_sectors b c.args.first c.args.bytes.now) (refilled_is c.args.block.now c.get.new.into kept) in
+    ∙ ap (λ (b : List ℕ). with_sectors b c.args.first c.args.bytes.now)
+    (refilled_is c.args.block.now c.get.new.into kept) in
     let far : (i + 1 ≤ c.args.first) ⊎ (512 * c.args.first + length c.args.bytes.now ≤ 512 * i) =
     elim apart [ inl before ↦ inl (omega arith) | inr after ↦ inr (omega (arith, c.requires.sectors)) ] in
     ap (λ (b : List ℕ). sectors_at b i 1) ((c.put-in-Done.ensures.written done).written ∙ c.bytes.ensures ∙ put)
-    ∙ sectors_at-with_sectors_outside c.get.new.into c.args.bytes.now c.args.first i far (omega (arith, c.requires.sectors, c.requires.within))
+    ∙ sectors_at-with_sectors_outside c.get.new.into c.args.bytes.now c.args.first i far
+    (omega (arith, c.requires.sectors, c.requires.within))
     ∙ ap (λ (b : List ℕ). sectors_at b i 1) (c.get.ensures.content c.in-Done.is)

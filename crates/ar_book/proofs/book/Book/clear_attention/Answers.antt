@@ -11,5 +11,6 @@ pub invariant_of-self : goal.invariant_of-self
 invariant_of-self c = rw c.clear_attention.ensures (record {
   kept = unmarked_kept (the_view c.self.inside) c.self.inside.reserved c.args.addr c.self.invariant.kept;
   leaves = c.self.invariant.leaves ∙ sym (unmarked_leaves (the_view c.self.inside) c.args.addr);
-  right = same_order (the_view c.self.inside).units (unmarked (the_view c.self.inside) c.args.addr).units _ (unmarked_order (the_view c.self.inside) c.args.addr) c.self.invariant.right;
+  right = same_order (the_view c.self.inside).units (unmarked (the_view c.self.inside) c.args.addr).units _
+      (unmarked_order (the_view c.self.inside) c.args.addr) c.self.invariant.right;
 })

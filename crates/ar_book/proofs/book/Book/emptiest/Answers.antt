@@ -13,7 +13,8 @@ overflow_add-holes c =
 
 pub loop-number-preserved : goal.loop-number-preserved
 loop-number-preserved c =
-    let more = sum_by_more (holes_in c.args.self.now.geometry c.args.class) c.args.self.now.groups c.loop-number.number no_group (omega (arith, c.groups-number-end.ensures.count)) in
+    let more = sum_by_more (holes_in c.args.self.now.geometry c.args.class) c.args.self.now.groups c.loop-number.number
+    no_group (omega (arith, c.groups-number-end.ensures.count)) in
     record {
       below = c.emptier-emptiest.ensures;
       holes = omega (arith, more, c.loop-number.invariant.holes, c.holes_at.ensures.holes);
@@ -23,10 +24,15 @@ loop-number-preserved c =
 
 pub returns-clause-found : goal.returns-clause-found
 returns-clause-found c =
-    let slots : slots_of c.self.inside.geometry c.args.class ≡ slots_of c.args.self.now.geometry c.args.class = ap (λ (x : Tables). slots_of x.geometry c.args.class) c.self.view_is in
-    let holes = all_holes c.args.self.now c.args.class c.loop-number.number (omega (arith, c.groups-number-end.ensures.count)) in
-    emptiest_of_all c.args.self.now c.groups-number-end.ensures.sound c.args.class c.loop-number.number c.loop-number.emptiest (omega (arith, slots, holes, c.loop-number.invariant.holes)) (omega (arith, c.groups-number-end.ensures.count)) c.loop-number.invariant.below
+    let slots : slots_of c.self.inside.geometry c.args.class ≡ slots_of c.args.self.now.geometry c.args.class =
+    ap (λ (x : Tables). slots_of x.geometry c.args.class) c.self.view_is in
+    let holes = all_holes c.args.self.now c.args.class c.loop-number.number
+    (omega (arith, c.groups-number-end.ensures.count)) in
+    emptiest_of_all c.args.self.now c.groups-number-end.ensures.sound c.args.class c.loop-number.number
+    c.loop-number.emptiest (omega (arith, slots, holes, c.loop-number.invariant.holes))
+    (omega (arith, c.groups-number-end.ensures.count)) c.loop-number.invariant.below
 
 pub returns-clause-none : goal.returns-clause-none
 returns-clause-none c =
-    none_of_all c.args.self.now c.groups-number-end.ensures.sound c.args.class c.loop-number.number c.loop-number.emptiest (omega (arith, c.groups-number-end.ensures.count)) c.loop-number.invariant.below
+    none_of_all c.args.self.now c.groups-number-end.ensures.sound c.args.class c.loop-number.number
+    c.loop-number.emptiest (omega (arith, c.groups-number-end.ensures.count)) c.loop-number.invariant.below

@@ -11,14 +11,20 @@ use Rattle.ar_book.proofs.book.Book.form_group.Goals as goal
 
 pub invariant_of-self-else-is_err : goal.invariant_of-self-else-is_err
 invariant_of-self-else-is_err c =
-    let kept = formed_kept (the_view c.self.inside) c.self.inside.reserved c.args.members c.self.invariant.kept c.requires.apart
-    (unused_disjoint (the_view c.self.inside) c.args.members (subst (λ (x : Tables). AreUnused x c.args.members) (sym c.self.view_is) c.requires.unused)) (omega arith) (omega arith) in
+    let kept = formed_kept (the_view c.self.inside) c.self.inside.reserved c.args.members c.self.invariant.kept
+    c.requires.apart
+    (unused_disjoint (the_view c.self.inside) c.args.members
+    (subst (λ (x : Tables). AreUnused x c.args.members) (sym c.self.view_is) c.requires.unused)) (omega arith)
+    (omega arith) in
     let t : Tables = the_view c.self.inside in
-    let number : c.groups-number.result ≡ length t.groups = c.groups-number.ensures.count ∙ ap (λ (x : Tables). length x.groups) (sym c.self.view_is) in
+    let number : c.groups-number.result ≡ length t.groups =
+    c.groups-number.ensures.count ∙ ap (λ (x : Tables). length x.groups) (sym c.self.view_is) in
     let leaf = c.free_leaf.ensures ∙ ap free_leaf number in
     let pushed = at_ok c.push-2.result _ (sym c.is_err.ensures.value ∙ c.if-is_err.false) c.push-2.ensures.pushed in
-    let added = pushed ∙ ap (λ l. l ++ c.free_leaf.result ∷ []) c.self.invariant.leaves ∙ ap (λ x. leaves_of t.geometry t.units t.groups ++ x ∷ []) leaf ∙ sym (formed_leaves t c.args.members) in
-    rw (c.in_ok-push.ensures.items, c.in_ok-group.ensures, c.rows.ensures) (record { kept = kept; leaves = added; right = rw c.map.ensures at c.push-2.ensures.right })
+    let added = pushed ∙ ap (λ l. l ++ c.free_leaf.result ∷ []) c.self.invariant.leaves
+    ∙ ap (λ x. leaves_of t.geometry t.units t.groups ++ x ∷ []) leaf ∙ sym (formed_leaves t c.args.members) in
+    rw (c.in_ok-push.ensures.items, c.in_ok-group.ensures, c.rows.ensures)
+    (record { kept = kept; leaves = added; right = rw c.map.ensures at c.push-2.ensures.right })
 
 pub push-requires-2 : goal.push-requires-2
 push-requires-2 c = rw c.map.ensures c.self.invariant.right

@@ -13,8 +13,13 @@ pub overflow_cast-result : goal.overflow_cast-result
 overflow_cast-result c =
     let few = few_groups c.self.inside.geometry c.self.inside.groups.items c.self.invariant.kept.tables.groups in
     let some = count_by-le-length (λ (g : GroupState). is_free g.class) c.self.inside.groups.items in
-    let same : c.free.result ≡ free_groups (the_view c.self.inside) = c.free.ensures ∙ ap free_in c.self.invariant.leaves ∙ free_leaves c.self.inside.geometry (place_in c.self.inside.units.entries) (age_of c.self.inside.units.entries) 0 c.self.inside.groups.items in
+    let same : c.free.result ≡ free_groups (the_view c.self.inside) =
+    c.free.ensures ∙ ap free_in c.self.invariant.leaves
+    ∙ free_leaves c.self.inside.geometry (place_in c.self.inside.units.entries) (age_of c.self.inside.units.entries)
+    0 c.self.inside.groups.items in
     omega arith
 
 pub returns : goal.returns
-returns c = c.free.ensures ∙ ap free_in c.self.invariant.leaves ∙ free_leaves c.self.inside.geometry (place_in c.self.inside.units.entries) (age_of c.self.inside.units.entries) 0 c.self.inside.groups.items ∙ ap free_groups c.self.view_is
+returns c = c.free.ensures ∙ ap free_in c.self.invariant.leaves
+    ∙ free_leaves c.self.inside.geometry (place_in c.self.inside.units.entries) (age_of c.self.inside.units.entries) 0
+    c.self.inside.groups.items ∙ ap free_groups c.self.view_is

@@ -12,7 +12,8 @@ unreachable-requires c =
 
 pub returns-then-matches-clause-full : goal.returns-then-matches-clause-full
 returns-then-matches-clause-full c =
-    let there : c.loop-number.number < length c.args.self.now.groups = omega (arith, c.groups-number-end.ensures.count) in
+    let there : c.loop-number.number < length c.args.self.now.groups =
+    omega (arith, c.groups-number-end.ensures.count) in
     let class : class_of c.args.self.now c.loop-number.number ≡ Mirrored =
     elim c.match-matches.branch [
       | in-Mirrored w ↦ sym c.class.ensures ∙ w.in-Mirrored.is
@@ -21,6 +22,7 @@ returns-then-matches-clause-full c =
     record {
       there = there;
       mirrored = class;
-      full = full_group c.args.self.now c.groups-number-end.ensures.sound Mirrored c.loop-number.number there class c.requires.mirrored;
+      full = full_group c.args.self.now c.groups-number-end.ensures.sound Mirrored c.loop-number.number there class
+          c.requires.mirrored;
       least = c.loop-number.invariant.0;
     }

@@ -8,11 +8,18 @@ use Rattle.ar_book.proofs.book.Book.lowest_free.Goals as goal
 
 pub unreachable-requires : goal.unreachable-requires
 unreachable-requires c =
-    let none : free_groups (the_view c.self.inside) ≡ 0 = lowest_none (the_view c.self.inside) (ap (λ l. (search_all (place_in c.self.inside.units.entries) l).free) (sym c.self.invariant.leaves) ∙ ap (λ x. x.free) (sym (c.best.ensures (place_in c.self.inside.units.entries) c.self.invariant.right)) ∙ c.in-None.is) in
+    let none : free_groups (the_view c.self.inside) ≡ 0 =
+    lowest_none (the_view c.self.inside)
+    (ap (λ l. (search_all (place_in c.self.inside.units.entries) l).free) (sym c.self.invariant.leaves)
+    ∙ ap (λ x. x.free) (sym (c.best.ensures (place_in c.self.inside.units.entries) c.self.invariant.right))
+    ∙ c.in-None.is) in
     let same : free_groups (the_view c.self.inside) ≡ free_groups c.args.self.now = ap free_groups c.self.view_is in
     omega (arith, c.requires)
 
 pub returns : goal.returns
 returns c =
     subst (λ (x : Tables). IsLowestFree x c.in-Some.number) c.self.view_is
-    (lowest_found (the_view c.self.inside) c.in-Some.number (ap (λ l. (search_all (place_in c.self.inside.units.entries) l).free) (sym c.self.invariant.leaves) ∙ ap (λ x. x.free) (sym (c.best.ensures (place_in c.self.inside.units.entries) c.self.invariant.right)) ∙ c.in-Some.is))
+    (lowest_found (the_view c.self.inside) c.in-Some.number
+    (ap (λ l. (search_all (place_in c.self.inside.units.entries) l).free) (sym c.self.invariant.leaves)
+    ∙ ap (λ x. x.free) (sym (c.best.ensures (place_in c.self.inside.units.entries) c.self.invariant.right))
+    ∙ c.in-Some.is))

@@ -13,17 +13,26 @@ use Rattle.ar_book.proofs.book.Book.open_last.Goals as goal
 
 pub invariant_of-self : goal.invariant_of-self
 invariant_of-self c =
-    let low : IsLowestFree (the_view c.self.inside) c.lowest_free-last.result = subst (λ (x : Tables). IsLowestFree x c.lowest_free-last.result) (sym c.self.view_is) c.lowest_free-last.ensures in
+    let low : IsLowestFree (the_view c.self.inside) c.lowest_free-last.result =
+    subst (λ (x : Tables). IsLowestFree x c.lowest_free-last.result) (sym c.self.view_is)
+    c.lowest_free-last.ensures in
     rw c.open_class.ensures (record {
-      kept = opened_kept (the_view c.self.inside) c.self.inside.reserved c.lowest_free-last.result c.args.class c.self.invariant.kept low.there low.free;
-      leaves = opened_leaves (the_view c.self.inside) c.lowest_free-last.result c.args.class _ _ _ low.there refl c.self.invariant.leaves (rw c.open_class.ensures at c.refresh.ensures.set);
+      kept = opened_kept (the_view c.self.inside) c.self.inside.reserved c.lowest_free-last.result c.args.class
+          c.self.invariant.kept low.there low.free;
+      leaves = opened_leaves (the_view c.self.inside) c.lowest_free-last.result c.args.class _ _ _ low.there refl
+          c.self.invariant.leaves (rw c.open_class.ensures at c.refresh.ensures.set);
       right = c.refresh.ensures.right;
     })
 
 pub refresh-requires-clause-leaves : goal.refresh-requires-clause-leaves
-refresh-requires-clause-leaves c = index_length (the_view c.self.inside) _ _ c.self.invariant ∙ sym (ap length c.open_class.ensures ∙ length-set _ _ _)
+refresh-requires-clause-leaves c =
+    index_length (the_view c.self.inside) _ _ c.self.invariant ∙ sym (ap length c.open_class.ensures ∙ length-set _ _ _)
 
 pub returns-clause-empty : goal.returns-clause-empty
 returns-clause-empty c =
-    let low : IsLowestFree (the_view c.self.inside) c.lowest_free-last.result = subst (λ (x : Tables). IsLowestFree x c.lowest_free-last.result) (sym c.self.view_is) c.lowest_free-last.ensures in
-    rw c.open_class.ensures (opened_empty (the_view c.self.inside) c.lowest_free-last.result c.args.class c.self.invariant.kept.tables low.there low.free)
+    let low : IsLowestFree (the_view c.self.inside) c.lowest_free-last.result =
+    subst (λ (x : Tables). IsLowestFree x c.lowest_free-last.result) (sym c.self.view_is)
+    c.lowest_free-last.ensures in
+    rw c.open_class.ensures
+    (opened_empty (the_view c.self.inside) c.lowest_free-last.result c.args.class c.self.invariant.kept.tables
+    low.there low.free)

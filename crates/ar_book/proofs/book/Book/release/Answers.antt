@@ -15,17 +15,20 @@ use Rattle.ar_book.proofs.book.Book.release.Goals as goal
 
 pub vacate_slot-requires-clause-group : goal.vacate_slot-requires-clause-group
 vacate_slot-requires-clause-group c = λ q e.
-    there_group c.self.inside.groups.items q c.args.key (c.self.invariant.kept.tables.agree.to_slot c.args.key q (sym c.home_in-home.ensures ∙ e))
+    there_group c.self.inside.groups.items q c.args.key
+    (c.self.invariant.kept.tables.agree.to_slot c.args.key q (sym c.home_in-home.ensures ∙ e))
 
 pub vacate_slot-requires-clause-slot : goal.vacate_slot-requires-clause-slot
 vacate_slot-requires-clause-slot c = λ q e.
-    there_slot c.self.inside.groups.items q c.args.key (c.self.invariant.kept.tables.agree.to_slot c.args.key q (sym c.home_in-home.ensures ∙ e))
+    there_slot c.self.inside.groups.items q c.args.key
+    (c.self.invariant.kept.tables.agree.to_slot c.args.key q (sym c.home_in-home.ensures ∙ e))
 
 pub refresh_home-requires-clause-there : goal.refresh_home-requires-clause-there
 refresh_home-requires-clause-there c = λ q e.
     let t : Tables = the_view c.self.inside in
     rw (c.vacate_slot.ensures, vacated_size)
-    (there_group t.groups q c.args.key (c.self.invariant.kept.tables.agree.to_slot c.args.key q (sym c.home_in-home.ensures ∙ e)))
+    (there_group t.groups q c.args.key
+    (c.self.invariant.kept.tables.agree.to_slot c.args.key q (sym c.home_in-home.ensures ∙ e)))
 
 pub refresh_home-requires-clause-leaves : goal.refresh_home-requires-clause-leaves
 refresh_home-requires-clause-leaves c =
@@ -41,17 +44,26 @@ invariant_of-self c =
       kept = kept;
       leaves = released_leaves t c.args.key c.self.invariant.kept.tables _ _ _ _ refl refl c.self.invariant.leaves
           (rw (c.vacate_slot.ensures, c.home_in-home.ensures) at c.refresh_home.ensures.set);
-      right = same_order t.units (homed t.units c.args.key None) _ (released_order t c.args.key) c.refresh_home.ensures.right;
+      right = same_order t.units (homed t.units c.args.key None) _ (released_order t c.args.key)
+          c.refresh_home.ensures.right;
     })
 
 pub returns-clause-few : goal.returns-clause-few
 returns-clause-few c most =
     let t : Tables = the_view c.self.inside in
-    let there : ForSome c.home_in-home.result (λ q. q.group < length t.groups) = λ q e. there_group t.groups q c.args.key (c.self.invariant.kept.tables.agree.to_slot c.args.key q (sym c.home_in-home.ensures ∙ e)) in
-    let groups : length (vacated t.groups c.home_in-home.result) ≤ 4096 = omega (arith, vacated_size t.groups c.home_in-home.result, ap (λ (x : Tables). length x.groups) c.self.view_is) in
+    let there : ForSome c.home_in-home.result (λ q. q.group < length t.groups) =
+    λ q e. there_group t.groups q c.args.key
+    (c.self.invariant.kept.tables.agree.to_slot c.args.key q (sym c.home_in-home.ensures ∙ e)) in
+    let groups : length (vacated t.groups c.home_in-home.result) ≤ 4096 =
+    omega (
+      arith,
+      vacated_size t.groups c.home_in-home.result,
+      ap (λ (x : Tables). length x.groups) c.self.view_is,
+    ) in
     let steps = (rw c.vacate_slot.ensures at c.refresh_home.ensures.few) groups in
     let few = few_home t.geometry (vacated t.groups c.home_in-home.result) _ _ c.home_in-home.result
-    (λ q e. vacated_long t.geometry t.groups c.home_in-home.result there c.self.invariant.kept.tables.groups.long q.group (there q e)) steps in
+    (λ q e. vacated_long t.geometry t.groups c.home_in-home.result there c.self.invariant.kept.tables.groups.long
+    q.group (there q e)) steps in
     let rows = ap (λ (x : Tables). rows_of x.geometry) c.self.view_is in
     omega (arith, few)
 

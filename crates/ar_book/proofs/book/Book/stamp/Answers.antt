@@ -15,17 +15,21 @@ use Rattle.ar_book.proofs.IndexAfter.{changed_group, restamped_leaves, kept_stil
 use Rattle.ar_book.proofs.book.Book.stamp.Goals as goal
 
 pub restamp-home-requires : goal.restamp-home-requires
-restamp-home-requires c = stamps_long (the_view c.self.inside) c.self.inside.reserved c.args.key c.self.invariant.kept (subst (λ x. HasBlock x c.args.key) (sym c.self.view_is) c.requires)
+restamp-home-requires c =
+    stamps_long (the_view c.self.inside) c.self.inside.reserved c.args.key c.self.invariant.kept
+    (subst (λ x. HasBlock x c.args.key) (sym c.self.view_is) c.requires)
 
 pub home_to_refresh-changed-requires : goal.home_to_refresh-changed-requires
 home_to_refresh-changed-requires c = λ q e.
     let size = index_length (the_view c.self.inside) _ _ c.self.invariant in
-    let here = there_group c.self.inside.groups.items q c.args.key (c.self.invariant.kept.tables.agree.to_slot c.args.key q (sym c.restamp-home.ensures.home ∙ e)) in
+    let here = there_group c.self.inside.groups.items q c.args.key
+    (c.self.invariant.kept.tables.agree.to_slot c.args.key q (sym c.restamp-home.ensures.home ∙ e)) in
     omega (arith, size, here)
 
 pub refresh_home-requires-clause-there : goal.refresh_home-requires-clause-there
 refresh_home-requires-clause-there c =
-    changed_group (the_view c.self.inside) c.args.key c.self.invariant.kept.tables c.restamp-home.result c.home_to_refresh-changed.result c.restamp-home.ensures.home c.home_to_refresh-changed.ensures.same
+    changed_group (the_view c.self.inside) c.args.key c.self.invariant.kept.tables c.restamp-home.result
+    c.home_to_refresh-changed.result c.restamp-home.ensures.home c.home_to_refresh-changed.ensures.same
 
 pub refresh_home-requires-clause-leaves : goal.refresh_home-requires-clause-leaves
 refresh_home-requires-clause-leaves c = index_length (the_view c.self.inside) _ _ c.self.invariant
@@ -33,7 +37,8 @@ refresh_home-requires-clause-leaves c = index_length (the_view c.self.inside) _ 
 pub refresh_home-requires-clause-right : goal.refresh_home-requires-clause-right
 refresh_home-requires-clause-right c =
     let t : Tables = the_view c.self.inside in
-    same_order t.units c.restamp-home.new.units.entries _ (ap keys_of c.restamp-home.ensures.stamp ∙ keys-set_value (same_addr c.args.key.addr) t.units _) c.self.invariant.right
+    same_order t.units c.restamp-home.new.units.entries _ (ap keys_of c.restamp-home.ensures.stamp
+    ∙ keys-set_value (same_addr c.args.key.addr) t.units _) c.self.invariant.right
 
 pub invariant_of-self : goal.invariant_of-self
 invariant_of-self c =
@@ -41,8 +46,10 @@ invariant_of-self c =
     let block : HasBlock t c.args.key = subst (λ x. HasBlock x c.args.key) (sym c.self.view_is) c.requires in
     rw c.restamp-home.ensures.stamp
     (record {
-      kept = restamped_kept t c.self.inside.reserved c.saturating_add-self-inside.result c.saturating_add-self-inside.result c.args.key c.self.invariant.kept block;
-      leaves = restamped_leaves t c.args.key c.saturating_add-self-inside.result c.self.invariant.kept.tables block _ _ c.restamp-home.result c.home_to_refresh-changed.result c.restamp-home.ensures.home
+      kept = restamped_kept t c.self.inside.reserved c.saturating_add-self-inside.result
+          c.saturating_add-self-inside.result c.args.key c.self.invariant.kept block;
+      leaves = restamped_leaves t c.args.key c.saturating_add-self-inside.result c.self.invariant.kept.tables block _ _
+          c.restamp-home.result c.home_to_refresh-changed.result c.restamp-home.ensures.home
           c.home_to_refresh-changed.ensures.same c.home_to_refresh-changed.ensures.stays c.self.invariant.leaves
           (rw c.restamp-home.ensures.stamp at c.refresh_home.ensures.set);
       right = rw c.restamp-home.ensures.stamp at c.refresh_home.ensures.right;
@@ -53,20 +60,29 @@ returns-clause-few c most =
     let t : Tables = the_view c.self.inside in
     let groups : length t.groups ≤ 4096 = subst (λ (x : Tables). length x.groups ≤ 4096) (sym c.self.view_is) most in
     let here : ForSome c.home_to_refresh-changed.result (λ q. q.group < length t.groups) =
-    changed_group t c.args.key c.self.invariant.kept.tables c.restamp-home.result c.home_to_refresh-changed.result c.restamp-home.ensures.home c.home_to_refresh-changed.ensures.same in
-    let few = few_home t.geometry t.groups _ _ c.home_to_refresh-changed.result (λ q e. c.self.invariant.kept.tables.groups.long q.group (here q e)) (c.refresh_home.ensures.few groups) in
+    changed_group t c.args.key c.self.invariant.kept.tables c.restamp-home.result c.home_to_refresh-changed.result
+    c.restamp-home.ensures.home c.home_to_refresh-changed.ensures.same in
+    let few = few_home t.geometry t.groups _ _ c.home_to_refresh-changed.result
+    (λ q e. c.self.invariant.kept.tables.groups.long q.group (here q e)) (c.refresh_home.ensures.few groups) in
     let rows = ap (λ (x : Tables). rows_of x.geometry) c.self.view_is in
     omega (arith, few)
 
 pub returns-clause-still : goal.returns-clause-still
 returns-clause-still c = λ keeps.
     let t : Tables = the_view c.self.inside in
-    c.refresh_home.ensures.still (kept_still t c.args.key c.saturating_add-self-inside.result c.self.invariant.kept.tables _ c.restamp-home.result c.home_to_refresh-changed.result c.restamp-home.ensures.home
+    c.refresh_home.ensures.still
+    (kept_still t c.args.key c.saturating_add-self-inside.result c.self.invariant.kept.tables _
+    c.restamp-home.result c.home_to_refresh-changed.result c.restamp-home.ensures.home
     c.home_to_refresh-changed.ensures.same c.home_to_refresh-changed.ensures.needed c.self.invariant.leaves
-    (subst (λ (x : Tables). ForSome (home x c.args.key) (λ q. KeepsOldest (oldest_in x q.group) c.args.key c.saturating_add-self-inside.result)) (sym c.self.view_is) keeps))
+    (subst (λ (x : Tables). ForSome (home x c.args.key)
+    (λ q. KeepsOldest (oldest_in x q.group) c.args.key c.saturating_add-self-inside.result)) (sym c.self.view_is)
+    keeps))
 
 pub returns-clause-unlooked : goal.returns-clause-unlooked
 returns-clause-unlooked c = λ low.
     let t : Tables = the_view c.self.inside in
-    c.refresh_home.ensures.unlooked (unlooked_still t c.args.key c.restamp-home.new.units.entries c.self.invariant.kept.tables c.self.inside.index c.restamp-home.result c.home_to_refresh-changed.result
-    c.restamp-home.ensures.home c.home_to_refresh-changed.ensures.same c.self.invariant.leaves (subst (λ (x : Tables). level x c.args.key ≢ Mirrored) (sym c.self.view_is) low))
+    c.refresh_home.ensures.unlooked
+    (unlooked_still t c.args.key c.restamp-home.new.units.entries c.self.invariant.kept.tables c.self.inside.index
+    c.restamp-home.result c.home_to_refresh-changed.result
+    c.restamp-home.ensures.home c.home_to_refresh-changed.ensures.same c.self.invariant.leaves
+    (subst (λ (x : Tables). level x c.args.key ≢ Mirrored) (sym c.self.view_is) low))

@@ -9,7 +9,8 @@ use Rattle.ar_book.proofs.book.Book.used.Goals as goal
 pub overflow_cast-result : goal.overflow_cast-result
 overflow_cast-result c =
     let t : Tables = the_view c.self.inside in
-    let inside : c.args.group < length t.groups = subst (λ (x : Tables). c.args.group < length x.groups) (sym c.self.view_is) c.requires in
+    let inside : c.args.group < length t.groups =
+    subst (λ (x : Tables). c.args.group < length x.groups) (sym c.self.view_is) c.requires in
     let long = c.self.invariant.kept.tables.groups.long c.args.group inside in
     let most = count_by-le-length is_some (group_in t.groups c.args.group).slots in
     let few = slots_few t.geometry in

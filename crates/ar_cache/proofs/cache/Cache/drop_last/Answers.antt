@@ -7,19 +7,32 @@ use Rattle.ar_cache.proofs.cache.Cache.drop_last.Goals as goal
 pub invariant_of-self : goal.invariant_of-self
 invariant_of-self c =
     let i = c.self.inside in
-    let kept = kept_without_last i.geometry i.capacity i.entries c.pop_lru.new.self (c.self.invariant.0, c.self.invariant.1) c.pop_lru.ensures.entries in
-    let hit = lookup_last i.entries.entries (c.in-Some.field-0-0, c.in-Some.block) c.self.invariant.0.distinct (sym c.in-Some.ensures.value) in
-    (kept.0, kept.1, cached_whole (state_of i.geometry i.capacity i.entries) c.in-Some.field-0-0 c.in-Some.block c.self.invariant.0 hit)
+    let kept = kept_without_last i.geometry i.capacity i.entries c.pop_lru.new.self
+    (c.self.invariant.0, c.self.invariant.1) c.pop_lru.ensures.entries in
+    let hit = lookup_last i.entries.entries (c.in-Some.field-0-0, c.in-Some.block) c.self.invariant.0.distinct
+    (sym c.in-Some.ensures.value) in (
+      kept.0,
+      kept.1,
+      cached_whole (state_of i.geometry i.capacity i.entries) c.in-Some.field-0-0 c.in-Some.block
+          c.self.invariant.0 hit,
+    )
 
 pub invariant_of-self-in-Some-2 : goal.invariant_of-self-in-Some-2
 invariant_of-self-in-Some-2 c =
     let i = c.self.inside in
-    let kept = kept_without_last i.geometry i.capacity i.entries c.pop_lru.new.self (c.self.invariant.0, c.self.invariant.1) c.pop_lru.ensures.entries in
-    let hit = lookup_last i.entries.entries (c.in-Some.field-0-0, c.in-Some.block) c.self.invariant.0.distinct (sym c.in-Some.ensures.value) in
-    (kept.0, kept.1, cached_whole (state_of i.geometry i.capacity i.entries) c.in-Some.field-0-0 c.in-Some.block c.self.invariant.0 hit)
+    let kept = kept_without_last i.geometry i.capacity i.entries c.pop_lru.new.self
+    (c.self.invariant.0, c.self.invariant.1) c.pop_lru.ensures.entries in
+    let hit = lookup_last i.entries.entries (c.in-Some.field-0-0, c.in-Some.block) c.self.invariant.0.distinct
+    (sym c.in-Some.ensures.value) in (
+      kept.0,
+      kept.1,
+      cached_whole (state_of i.geometry i.capacity i.entries) c.in-Some.field-0-0 c.in-Some.block
+          c.self.invariant.0 hit,
+    )
 
 pub invariant_of-self-in_default : goal.invariant_of-self-in_default
 invariant_of-self-in_default c =
     let i = c.self.inside in
-    let kept = kept_without_last i.geometry i.capacity i.entries c.pop_lru.new.self (c.self.invariant.0, c.self.invariant.1) c.pop_lru.ensures.entries in
+    let kept = kept_without_last i.geometry i.capacity i.entries c.pop_lru.new.self
+    (c.self.invariant.0, c.self.invariant.1) c.pop_lru.ensures.entries in
     (kept.0, kept.1, c.self.invariant.2)

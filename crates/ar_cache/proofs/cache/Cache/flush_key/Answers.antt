@@ -4,7 +4,8 @@ use Rattle.ar_disks.specs.Geometry.{block_len_of}
 use Rattle.ar_cache.specs.Backing.{WritesKey}
 use Rattle.ar_cache.specs.Cache.{IsValidCache, SameReads, KnowsAll, cached, with_entries}
 use Rattle.ar_cache.proofs.Keys.{same_key_refl}
-use Rattle.ar_cache.proofs.Lookups.{others_without_key, lookup-without_key, seen_moved, known_without_key, known_kept, without_absent}
+use Rattle.ar_cache.proofs.Lookups.{others_without_key, lookup-without_key, seen_moved, known_without_key, known_kept}
+use Rattle.ar_cache.proofs.Lookups.{without_absent}
 use Rattle.ar_cache.proofs.Sound.{cached_whole}
 use Rattle.ar_cache.proofs.cache.Cache.flush_key.Goals as goal
 
@@ -42,7 +43,8 @@ pub put-requires-clause-whole : goal.put-requires-clause-whole
 put-requires-clause-whole g c =
     let sound : IsValidCache c.args.self.now = subst IsValidCache c.self.view_is c.self.invariant.0 in
     let hit = subst (λ s. cached s c.args.key ≡ Some c.in-Some.block.now) c.self.view_is (sym c.in-Some.ensures) in
-    ap length c.bytes.ensures ∙ cached_whole c.args.self.now c.args.key c.in-Some.block.now sound hit ∙ ap block_len_of (sym c.requires.geometry)
+    ap length c.bytes.ensures ∙ cached_whole c.args.self.now c.args.key c.in-Some.block.now sound hit
+    ∙ ap block_len_of (sym c.requires.geometry)
 
 pub returns-in-Done-clause-removed : goal.returns-in-Done-clause-removed
 returns-in-Done-clause-removed g c done =
@@ -51,7 +53,8 @@ returns-in-Done-clause-removed g c done =
       gone =
           let sound : IsValidCache c.args.self.now = subst IsValidCache c.self.view_is c.self.invariant.0 in
           let es = c.args.self.now.entries in
-          subst (λ s. cached s c.args.key ≡ None) (sym c.take_out.ensures) (rw (lookup-without_key es c.args.key c.args.key sound.distinct, same_key_refl c.args.key));
+          subst (λ s. cached s c.args.key ≡ None) (sym c.take_out.ensures)
+          (rw (lookup-without_key es c.args.key c.args.key sound.distinct, same_key_refl c.args.key));
       others = λ other apart.
           let sound : IsValidCache c.args.self.now = subst IsValidCache c.self.view_is c.self.invariant.0 in
           subst (λ s. cached s other ≡ cached c.args.self.now other) (sym c.take_out.ensures)
@@ -64,7 +67,8 @@ returns-in-Done-clause-behind g c =
     let f = g.B.Backing.block_at c.args.backing.now in
     let h = g.B.Backing.block_at c.put.new.self in
     record {
-      given = λ done. rw hit (subst (λ bytes. WritesKey f h c.args.key bytes) c.bytes.ensures (c.in-Done.ensures.written refl));
+      given = λ done. rw hit
+          (subst (λ bytes. WritesKey f h c.args.key bytes) c.bytes.ensures (c.in-Done.ensures.written refl));
       put = λ done is. c.in-Done.ensures.puts refl;
       broke = λ lost. cc;
       absent = λ miss. cc;
@@ -95,6 +99,7 @@ pub returns-in-Done-clause-all_known : goal.returns-in-Done-clause-all_known
 returns-in-Done-clause-all_known g c =
     let sound : IsValidCache c.args.self.now = subst IsValidCache c.self.view_is c.self.invariant.0 in
     let knows = g.B.Backing.knows in
-    let kept = known_kept (knows c.args.backing.now) (knows c.put.new.self) c.args.self.now c.in-Done.ensures.keeps.same_keys c.requires.all_known in
+    let kept = known_kept (knows c.args.backing.now) (knows c.put.new.self) c.args.self.now
+    c.in-Done.ensures.keeps.same_keys c.requires.all_known in
     subst (KnowsAll (knows c.put.new.self)) (sym c.take_out.ensures)
     (known_without_key (knows c.put.new.self) c.args.self.now c.args.key sound.distinct kept)

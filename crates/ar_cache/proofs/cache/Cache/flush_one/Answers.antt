@@ -16,6 +16,7 @@ pub returns-in-Flushed-clause-all_known : goal.returns-in-Flushed-clause-all_kno
 returns-in-Flushed-clause-all_known g c =
     let knows = g.B.Backing.knows in
     let old = c.args.self.now in
-    let kept = known_kept (knows c.args.backing.now) (knows c.destage_last-answer.new.backing) old c.in-Flushed.ensures.keeps.same_keys c.requires.all_known in
+    let kept = known_kept (knows c.args.backing.now) (knows c.destage_last-answer.new.backing) old
+    c.in-Flushed.ensures.keeps.same_keys c.requires.all_known in
     subst (KnowsAll (knows c.destage_last-answer.new.backing)) (sym c.drop_destaged.ensures)
     (known_without_last (knows c.destage_last-answer.new.backing) old c.in-Flushed.ensures.sound.distinct kept)

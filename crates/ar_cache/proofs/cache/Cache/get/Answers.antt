@@ -8,7 +8,8 @@ pub copy_from_slice-requires : goal.copy_from_slice-requires
 copy_from_slice-requires g c =
     let sound : IsValidCache c.args.self.now = subst IsValidCache c.self.view_is c.self.invariant.0 in
     let hit = subst (λ s. cached s c.args.key ≡ Some c.in-Some.block.now) c.self.view_is (sym c.in-Some.ensures) in
-    c.requires.whole ∙ sym (cached_whole c.args.self.now c.args.key c.in-Some.block.now sound hit) ∙ ap length (sym c.bytes.ensures)
+    c.requires.whole ∙ sym (cached_whole c.args.self.now c.args.key c.in-Some.block.now sound hit)
+    ∙ ap length (sym c.bytes.ensures)
 
 pub returns-in-Some-clause-miss : goal.returns-in-Some-clause-miss
 returns-in-Some-clause-miss g c miss =

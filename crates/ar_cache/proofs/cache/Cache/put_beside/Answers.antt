@@ -8,9 +8,11 @@ pub returns-then-insert-clause-seen : goal.returns-then-insert-clause-seen
 returns-then-insert-clause-seen g c done =
     let old = c.args.self.now in
     let at = g.B.Backing.block_at c.args.backing.now in
-    let put = c.if-insert.ensures.put ∙ ap (λ es. with_entries old ((c.args.key, c.args.block.now) ∷ es)) (with_room_spare old c.requires.room) in
+    let put = c.if-insert.ensures.put
+    ∙ ap (λ es. with_entries old ((c.args.key, c.args.block.now) ∷ es)) (with_room_spare old c.requires.room) in
     record {
-      sees = subst (λ s. Sees old at s at c.args.key c.args.block.now) (sym put) (seen_front old at c.args.key c.args.block.now);
+      sees = subst (λ s. Sees old at s at c.args.key c.args.block.now) (sym put)
+          (seen_front old at c.args.key c.args.block.now);
       behind = record { others = λ q ne apart. refl; held = λ is. refl };
     }
 
@@ -18,5 +20,7 @@ pub returns-then-insert-clause-all_known : goal.returns-then-insert-clause-all_k
 returns-then-insert-clause-all_known g c =
     let old = c.args.self.now in
     let knows = g.B.Backing.knows c.args.backing.now in
-    let put = c.if-insert.ensures.put ∙ ap (λ es. with_entries old ((c.args.key, c.args.block.now) ∷ es)) (with_room_spare old c.requires.room) in
-    subst (KnowsAll knows) (sym put) (known_front knows old c.args.key c.args.block.now c.requires.known c.requires.all_known)
+    let put = c.if-insert.ensures.put
+    ∙ ap (λ es. with_entries old ((c.args.key, c.args.block.now) ∷ es)) (with_room_spare old c.requires.room) in
+    subst (KnowsAll knows) (sym put)
+    (known_front knows old c.args.key c.args.block.now c.requires.known c.requires.all_known)

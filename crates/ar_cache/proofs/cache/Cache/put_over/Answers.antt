@@ -1,9 +1,12 @@
-use Rattle.std.proofs.Common.{◌≡◌, ◌≢◌, ◌≤◌, [], ◌∷◌, ◌++◌, length, IsTrue, Some, None, inl, inr, refl, sym, ap, ◌∙◌, subst}
+use Rattle.std.proofs.Common.{◌≡◌, ◌≢◌, ◌≤◌, [], ◌∷◌, ◌++◌, length, IsTrue, Some, None, inl, inr, refl, sym, ap, ◌∙◌}
+use Rattle.std.proofs.Common.{subst}
 use Rattle.std.proofs.lemmas.Bool.{false≢true}
 use Rattle.ar_disks.specs.declared.address.Key.{Key}
 use Rattle.ar_cache.specs.Backing.{InTurn, StopsInTurn}
-use Rattle.ar_cache.specs.Cache.{cached, last_key, last_keys, put_through, Sees, SameReads, KnowsAll, with_entries, without_last}
-use Rattle.ar_cache.proofs.Lookups.{others_given, absent_apart, seen_given, seen_front, seen_through, sees_after, absent_without_last, known_front, known_without_last, known_kept}
+use Rattle.ar_cache.specs.Cache.{cached, last_key, last_keys, put_through, Sees, SameReads, KnowsAll, with_entries}
+use Rattle.ar_cache.specs.Cache.{without_last}
+use Rattle.ar_cache.proofs.Lookups.{others_given, absent_apart, seen_given, seen_front, seen_through, sees_after}
+use Rattle.ar_cache.proofs.Lookups.{absent_without_last, known_front, known_without_last, known_kept}
 use Rattle.ar_cache.proofs.Keys.{same_key_refl}
 use Rattle.ar_cache.proofs.Turns.{in_turn_then, in_turn_one, in_turn_last, stops_among, stops_then}
 use Rattle.ar_cache.proofs.Uses.{pushed_full, with_room_full, fits_put, fits_without_last, ≤_antisym}
@@ -19,16 +22,21 @@ returns-then-insert-clause-seen g c done =
           let d = c.destage_last.ensures in
           let left = with_entries old (without_last old.entries) in
           let full = ≤_antisym d.sound.fits c.requires.full in
-          let new = c.if-insert.ensures.put ∙ ap (λ es. with_entries old ((c.args.key, c.args.block.now) ∷ es)) (with_room_full old full) in
-          let given : SameReads old f left h = seen_given c.destage_last.result old f h c.in_default.not-Broken d.sound.distinct d.behind.given (λ e. ap g.B.Backing.block_at (d.behind.quiet e)) in
+          let new = c.if-insert.ensures.put
+          ∙ ap (λ es. with_entries old ((c.args.key, c.args.block.now) ∷ es)) (with_room_full old full) in
+          let given : SameReads old f left h =
+          seen_given c.destage_last.result old f h c.in_default.not-Broken d.sound.distinct d.behind.given
+          (λ e. ap g.B.Backing.block_at (d.behind.quiet e)) in
           subst (λ s. Sees old f s h c.args.key c.args.block.now) (sym new)
-          (sees_after old left (with_entries left ((c.args.key, c.args.block.now) ∷ left.entries)) f h h c.args.key c.args.block.now given (seen_front left h c.args.key c.args.block.now));
+          (sees_after old left (with_entries left ((c.args.key, c.args.block.now) ∷ left.entries)) f h h c.args.key
+          c.args.block.now given (seen_front left h c.args.key c.args.block.now));
       behind =
           let old = c.args.self.now in
           let f = g.B.Backing.block_at c.args.backing.now in
           let h = g.B.Backing.block_at c.destage_last.new.backing in
           let d = c.destage_last.ensures in
-          let same = λ (q : Key) (apart : last_key old.entries ≢ Some q). others_given c.destage_last.result old.entries f h q c.in_default.not-Broken d.behind.given (λ e. ap g.B.Backing.block_at (d.behind.quiet e)) apart in
+          let same = λ (q : Key) (apart : last_key old.entries ≢ Some q). others_given c.destage_last.result old.entries
+          f h q c.in_default.not-Broken d.behind.given (λ e. ap g.B.Backing.block_at (d.behind.quiet e)) apart in
           record {
             others = λ q ne apart. same q (apart c.requires.full);
             held = λ is. same c.args.key (absent_apart old.entries c.args.key d.sound.distinct c.requires.absent);
@@ -43,7 +51,8 @@ returns-then-insert-clause-entries g c =
       broken = λ lost. cc;
       fits =
           let old = c.args.self.now in
-          subst (λ s. length s.entries ≤ s.capacity) (sym c.if-insert.ensures.put) (fits_put old c.args.key c.args.block.now c.requires.some);
+          subst (λ s. length s.entries ≤ s.capacity) (sym c.if-insert.ensures.put)
+          (fits_put old c.args.key c.args.block.now c.requires.some);
     }
 
 pub returns-then-insert-clause-behind : goal.returns-then-insert-clause-behind
@@ -52,15 +61,19 @@ returns-then-insert-clause-behind g c =
     record {
       present = λ is. absurd (false≢true (rw c.requires.absent at is));
       put = λ done.
-          subst (λ ks. InTurn g.B.Backing.puts (ks ++ put_through c.insert.new.self c.args.key) c.args.backing.now c.destage_last.new.backing) (sym keys) (
+          subst (λ ks. InTurn g.B.Backing.puts (ks ++ put_through c.insert.new.self c.args.key) c.args.backing.now
+          c.destage_last.new.backing) (sym keys) (
           let old = c.args.self.now in
           let d = c.destage_last.ensures in
           let step = g.B.Backing.puts in
           let f = g.B.Backing.block_at c.args.backing.now in
           let h = g.B.Backing.block_at c.destage_last.new.backing in
-          let held : put_through c.insert.new.self c.args.key ≡ [] = ap (λ s. put_through s c.args.key) c.if-insert.ensures.put ∙ rw (same_key_refl c.args.key) in
-          in_turn_then step (last_keys old.entries) (put_through c.insert.new.self c.args.key) c.args.backing.now c.destage_last.new.backing c.destage_last.new.backing
-          (in_turn_last step c.destage_last.result old.entries f h c.args.backing.now c.destage_last.new.backing c.in_default.not-Broken d.behind.given d.behind.put d.behind.quiet)
+          let held : put_through c.insert.new.self c.args.key ≡ [] =
+          ap (λ s. put_through s c.args.key) c.if-insert.ensures.put ∙ rw (same_key_refl c.args.key) in
+          in_turn_then step (last_keys old.entries) (put_through c.insert.new.self c.args.key) c.args.backing.now
+          c.destage_last.new.backing c.destage_last.new.backing
+          (in_turn_last step c.destage_last.result old.entries f h c.args.backing.now c.destage_last.new.backing
+          c.in_default.not-Broken d.behind.given d.behind.put d.behind.quiet)
           (subst (λ ks. InTurn step ks c.destage_last.new.backing c.destage_last.new.backing) (sym held) refl));
       stopped = λ lost. cc;
     }
@@ -72,8 +85,10 @@ returns-then-insert-clause-all_known g c =
     let d = c.destage_last.ensures in
     let left = with_entries old (without_last old.entries) in
     let full = ≤_antisym d.sound.fits c.requires.full in
-    let new = c.if-insert.ensures.put ∙ ap (λ es. with_entries old ((c.args.key, c.args.block.now) ∷ es)) (with_room_full old full) in
-    let kept = known_kept (knows c.args.backing.now) (knows c.destage_last.new.backing) old d.keeps.same_keys c.requires.all_known in
+    let new = c.if-insert.ensures.put
+    ∙ ap (λ es. with_entries old ((c.args.key, c.args.block.now) ∷ es)) (with_room_full old full) in
+    let kept = known_kept (knows c.args.backing.now) (knows c.destage_last.new.backing) old d.keeps.same_keys
+    c.requires.all_known in
     let this = subst IsTrue (sym (d.keeps.same_keys c.args.key)) c.requires.known in
     subst (KnowsAll (knows c.destage_last.new.backing)) (sym new)
     (known_front (knows c.destage_last.new.backing) left c.args.key c.args.block.now this
@@ -89,22 +104,30 @@ returns-in-Done-clause-seen g c done =
           let j = g.B.Backing.block_at c.put.new.self in
           let d = c.destage_last.ensures in
           let left = with_entries old (without_last old.entries) in
-          let new = c.drop_destaged.ensures ∙ ap (λ s. with_entries s (without_last s.entries)) c.if-insert.ensures.refused in
-          let given : SameReads old f left h = seen_given c.destage_last.result old f h c.in_default.not-Broken d.sound.distinct d.behind.given (λ e. ap g.B.Backing.block_at (d.behind.quiet e)) in
+          let new = c.drop_destaged.ensures
+          ∙ ap (λ s. with_entries s (without_last s.entries)) c.if-insert.ensures.refused in
+          let given : SameReads old f left h =
+          seen_given c.destage_last.result old f h c.in_default.not-Broken d.sound.distinct d.behind.given
+          (λ e. ap g.B.Backing.block_at (d.behind.quiet e)) in
           let absent = absent_without_last old.entries c.args.key d.sound.distinct c.requires.absent in
           subst (λ s. Sees old f s j c.args.key c.args.block.now) (sym new)
-          (sees_after old left left f h j c.args.key c.args.block.now given (seen_through left h j c.args.key c.args.block.now absent (c.in-Done.ensures.written refl)));
+          (sees_after old left left f h j c.args.key c.args.block.now given
+          (seen_through left h j c.args.key c.args.block.now absent (c.in-Done.ensures.written refl)));
       behind =
           let old = c.args.self.now in
           let f = g.B.Backing.block_at c.args.backing.now in
           let h = g.B.Backing.block_at c.destage_last.new.backing in
           let d = c.destage_last.ensures in
-          let new = c.drop_destaged.ensures ∙ ap (λ s. with_entries s (without_last s.entries)) c.if-insert.ensures.refused in
-          let gone : cached c.drop_destaged.new.self c.args.key ≡ None = subst (λ s. cached s c.args.key ≡ None) (sym new) (absent_without_last old.entries c.args.key d.sound.distinct c.requires.absent) in
+          let new = c.drop_destaged.ensures
+          ∙ ap (λ s. with_entries s (without_last s.entries)) c.if-insert.ensures.refused in
+          let gone : cached c.drop_destaged.new.self c.args.key ≡ None =
+          subst (λ s. cached s c.args.key ≡ None) (sym new)
+          (absent_without_last old.entries c.args.key d.sound.distinct c.requires.absent) in
           record {
             others = λ q ne apart.
                 (c.in-Done.ensures.written refl).others q ne
-                ∙ others_given c.destage_last.result old.entries f h q c.in_default.not-Broken d.behind.given (λ e. ap g.B.Backing.block_at (d.behind.quiet e)) (apart c.requires.full);
+                ∙ others_given c.destage_last.result old.entries f h q c.in_default.not-Broken d.behind.given
+                (λ e. ap g.B.Backing.block_at (d.behind.quiet e)) (apart c.requires.full);
             held = λ is. absurd (false≢true (rw gone at is));
           };
     }
@@ -116,13 +139,16 @@ returns-in-Done-clause-entries g c =
       absent = λ miss done.
           let old = c.args.self.now in
           let full = ≤_antisym c.destage_last.ensures.sound.fits c.requires.full in
-          let new = c.drop_destaged.ensures ∙ ap (λ s. with_entries s (without_last s.entries)) c.if-insert.ensures.refused in
+          let new = c.drop_destaged.ensures
+          ∙ ap (λ s. with_entries s (without_last s.entries)) c.if-insert.ensures.refused in
           inr (new ∙ ap (with_entries old) (sym (with_room_full old full)));
       broken = λ lost. cc;
       fits =
           let old = c.args.self.now in
-          let new = c.drop_destaged.ensures ∙ ap (λ s. with_entries s (without_last s.entries)) c.if-insert.ensures.refused in
-          subst (λ s. length s.entries ≤ s.capacity) (sym new) (fits_without_last old c.destage_last.ensures.sound.fits);
+          let new = c.drop_destaged.ensures
+          ∙ ap (λ s. with_entries s (without_last s.entries)) c.if-insert.ensures.refused in
+          subst (λ s. length s.entries ≤ s.capacity) (sym new)
+          (fits_without_last old c.destage_last.ensures.sound.fits);
     }
 
 pub returns-in-Done-clause-behind : goal.returns-in-Done-clause-behind
@@ -131,18 +157,25 @@ returns-in-Done-clause-behind g c =
     record {
       present = λ is. absurd (false≢true (rw c.requires.absent at is));
       put = λ done.
-          subst (λ ks. InTurn g.B.Backing.puts (ks ++ put_through c.drop_destaged.new.self c.args.key) c.args.backing.now c.put.new.self) (sym keys) (
+          subst (λ ks. InTurn g.B.Backing.puts (ks ++ put_through c.drop_destaged.new.self c.args.key)
+          c.args.backing.now c.put.new.self) (sym keys) (
           let old = c.args.self.now in
           let d = c.destage_last.ensures in
           let step = g.B.Backing.puts in
           let f = g.B.Backing.block_at c.args.backing.now in
           let h = g.B.Backing.block_at c.destage_last.new.backing in
-          let new = c.drop_destaged.ensures ∙ ap (λ s. with_entries s (without_last s.entries)) c.if-insert.ensures.refused in
-          let gone : cached c.drop_destaged.new.self c.args.key ≡ None = subst (λ s. cached s c.args.key ≡ None) (sym new) (absent_without_last old.entries c.args.key d.sound.distinct c.requires.absent) in
+          let new = c.drop_destaged.ensures
+          ∙ ap (λ s. with_entries s (without_last s.entries)) c.if-insert.ensures.refused in
+          let gone : cached c.drop_destaged.new.self c.args.key ≡ None =
+          subst (λ s. cached s c.args.key ≡ None) (sym new)
+          (absent_without_last old.entries c.args.key d.sound.distinct c.requires.absent) in
           let through : put_through c.drop_destaged.new.self c.args.key ≡ c.args.key ∷ [] = rw gone in
-          in_turn_then step (last_keys old.entries) (put_through c.drop_destaged.new.self c.args.key) c.args.backing.now c.destage_last.new.backing c.put.new.self
-          (in_turn_last step c.destage_last.result old.entries f h c.args.backing.now c.destage_last.new.backing c.in_default.not-Broken d.behind.given d.behind.put d.behind.quiet)
-          (subst (λ ks. InTurn step ks c.destage_last.new.backing c.put.new.self) (sym through) (in_turn_one step c.args.key c.destage_last.new.backing c.put.new.self (c.in-Done.ensures.puts refl))));
+          in_turn_then step (last_keys old.entries) (put_through c.drop_destaged.new.self c.args.key) c.args.backing.now
+          c.destage_last.new.backing c.put.new.self
+          (in_turn_last step c.destage_last.result old.entries f h c.args.backing.now c.destage_last.new.backing
+          c.in_default.not-Broken d.behind.given d.behind.put d.behind.quiet)
+          (subst (λ ks. InTurn step ks c.destage_last.new.backing c.put.new.self) (sym through)
+          (in_turn_one step c.args.key c.destage_last.new.backing c.put.new.self (c.in-Done.ensures.puts refl))));
       stopped = λ lost. cc;
     }
 
@@ -152,9 +185,12 @@ returns-in-Done-clause-all_known g c =
     let knows = g.B.Backing.knows in
     let d = c.destage_last.ensures in
     let new = c.drop_destaged.ensures ∙ ap (λ s. with_entries s (without_last s.entries)) c.if-insert.ensures.refused in
-    let first = known_kept (knows c.args.backing.now) (knows c.destage_last.new.backing) old d.keeps.same_keys c.requires.all_known in
-    let then = known_kept (knows c.destage_last.new.backing) (knows c.put.new.self) old c.in-Done.ensures.keeps.same_keys first in
-    subst (KnowsAll (knows c.put.new.self)) (sym new) (known_without_last (knows c.put.new.self) old d.sound.distinct then)
+    let first = known_kept (knows c.args.backing.now) (knows c.destage_last.new.backing) old d.keeps.same_keys
+    c.requires.all_known in
+    let then = known_kept (knows c.destage_last.new.backing) (knows c.put.new.self) old
+    c.in-Done.ensures.keeps.same_keys first in
+    subst (KnowsAll (knows c.put.new.self)) (sym new)
+    (known_without_last (knows c.put.new.self) old d.sound.distinct then)
 
 pub returns-in-Broken-clause-behind : goal.returns-in-Broken-clause-behind
 returns-in-Broken-clause-behind g c =
@@ -163,8 +199,10 @@ returns-in-Broken-clause-behind g c =
       present = λ is. absurd (false≢true (rw c.requires.absent at is));
       put = λ done. cc;
       stopped = λ lost.
-          subst (λ ks. StopsInTurn g.B.Backing.puts g.B.Backing.breaks (ks ++ c.args.key ∷ []) c.args.backing.now c.destage_last.new.backing) (sym keys) (
-          stops_among g.B.Backing.puts g.B.Backing.breaks (last_keys c.args.self.now.entries) (c.args.key ∷ []) c.args.backing.now c.destage_last.new.backing (c.in-Broken.ensures.behind.stopped refl));
+          subst (λ ks. StopsInTurn g.B.Backing.puts g.B.Backing.breaks (ks ++ c.args.key ∷ []) c.args.backing.now
+          c.destage_last.new.backing) (sym keys) (
+          stops_among g.B.Backing.puts g.B.Backing.breaks (last_keys c.args.self.now.entries) (c.args.key ∷ [])
+          c.args.backing.now c.destage_last.new.backing (c.in-Broken.ensures.behind.stopped refl));
     }
 
 pub returns-in-Broken-put-clause-behind : goal.returns-in-Broken-put-clause-behind
@@ -174,13 +212,16 @@ returns-in-Broken-put-clause-behind g c =
       present = λ is. absurd (false≢true (rw c.requires.absent at is));
       put = λ done. cc;
       stopped = λ lost.
-          subst (λ ks. StopsInTurn g.B.Backing.puts g.B.Backing.breaks (ks ++ c.args.key ∷ []) c.args.backing.now c.put.new.self) (sym keys) (
+          subst (λ ks. StopsInTurn g.B.Backing.puts g.B.Backing.breaks (ks ++ c.args.key ∷ []) c.args.backing.now
+          c.put.new.self) (sym keys) (
           let old = c.args.self.now in
           let d = c.destage_last.ensures in
           let step = g.B.Backing.puts in
           let f = g.B.Backing.block_at c.args.backing.now in
           let h = g.B.Backing.block_at c.destage_last.new.backing in
-          stops_then step g.B.Backing.breaks (last_keys old.entries) c.args.key [] c.args.backing.now c.destage_last.new.backing c.put.new.self
-          (in_turn_last step c.destage_last.result old.entries f h c.args.backing.now c.destage_last.new.backing c.in_default.not-Broken d.behind.given d.behind.put d.behind.quiet)
+          stops_then step g.B.Backing.breaks (last_keys old.entries) c.args.key [] c.args.backing.now
+          c.destage_last.new.backing c.put.new.self
+          (in_turn_last step c.destage_last.result old.entries f h c.args.backing.now c.destage_last.new.backing
+          c.in_default.not-Broken d.behind.given d.behind.put d.behind.quiet)
           (c.in-Broken-put.ensures.breaks refl));
     }

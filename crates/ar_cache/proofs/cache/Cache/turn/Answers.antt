@@ -14,8 +14,10 @@ invariant_of-self c =
     let last = last_of_key i.entries.entries key (sym c.in-Some.ensures) in
     let hit = lookup_last i.entries.entries (key, last.0) c.self.invariant.0.distinct last.1 in
     let whole = cached_whole (state_of i.geometry i.capacity i.entries) key last.0 c.self.invariant.0 hit in
-    let moved = c.promote.ensures.entries ∙ ap (λ es. lru_cache es i.entries.cap) (promoted_is i.entries.entries key last.0 hit) in
-    let kept = kept_replaced i.geometry i.capacity i.entries c.promote.new.self key last.0 last.0 (c.self.invariant.0, c.self.invariant.1) hit whole moved in
+    let moved = c.promote.ensures.entries
+    ∙ ap (λ es. lru_cache es i.entries.cap) (promoted_is i.entries.entries key last.0 hit) in
+    let kept = kept_replaced i.geometry i.capacity i.entries c.promote.new.self key last.0 last.0
+    (c.self.invariant.0, c.self.invariant.1) hit whole moved in
     (kept.0, kept.1, c.self.invariant.2)
 
 pub returns-else-eq : goal.returns-else-eq
@@ -24,7 +26,10 @@ returns-else-eq c =
     let key = c.in-Some.key in
     let last = last_of_key i.entries.entries key (sym c.in-Some.ensures) in
     let hit = lookup_last i.entries.entries (key, last.0) c.self.invariant.0.distinct last.1 in
-    let moved = c.promote.ensures.entries ∙ ap (λ es. lru_cache es i.entries.cap) (promoted_is i.entries.entries key last.0 hit) in
-    let front = turned_front i.entries.entries c.args.addr key last.0 c.self.invariant.0.distinct last.1 (sym c.if-eq.ensures) in
-    seen_as i.geometry i.capacity i.entries c.promote.new.self c.args.self.now (λ t. turned t.entries c.args.addr) c.self.view_is
+    let moved = c.promote.ensures.entries
+    ∙ ap (λ es. lru_cache es i.entries.cap) (promoted_is i.entries.entries key last.0 hit) in
+    let front = turned_front i.entries.entries c.args.addr key last.0 c.self.invariant.0.distinct last.1
+    (sym c.if-eq.ensures) in
+    seen_as i.geometry i.capacity i.entries c.promote.new.self c.args.self.now (λ t. turned t.entries c.args.addr)
+    c.self.view_is
     (ap (λ m. m.entries) moved ∙ sym front)

@@ -9,10 +9,14 @@ use Rattle.ar_core.proofs.array.Array.disk_out.Goals as goal
 
 pub invariant_of-self : goal.invariant_of-self
 invariant_of-self g c =
-    quiet_kept c.self.inside.blocks c.fail.new.self (DiskOutEvent c.args.disk) (DiskOutOutcome c.fail.result) (length c.self.inside.block)
-    (steps_out c.self.inside.blocks c.fail.new.self c.args.disk c.fail.result c.fail.ensures.takes_out c.fail.ensures.seen) refl c.self.invariant.0 c.self.invariant.1
+    quiet_kept c.self.inside.blocks c.fail.new.self (DiskOutEvent c.args.disk) (DiskOutOutcome c.fail.result)
+    (length c.self.inside.block)
+    (steps_out c.self.inside.blocks c.fail.new.self c.args.disk c.fail.result c.fail.ensures.takes_out
+    c.fail.ensures.seen) refl c.self.invariant.0 c.self.invariant.1
 
 pub returns : goal.returns
 returns g c =
-    subst (λ (s : ArrayState). Steps s (DiskOutEvent c.args.disk) (DiskOutOutcome c.fail.result) c.fail.new.self) c.self.view_is
-    (steps_out c.self.inside.blocks c.fail.new.self c.args.disk c.fail.result c.fail.ensures.takes_out c.fail.ensures.seen)
+    subst (λ (s : ArrayState). Steps s (DiskOutEvent c.args.disk) (DiskOutOutcome c.fail.result) c.fail.new.self)
+    c.self.view_is
+    (steps_out c.self.inside.blocks c.fail.new.self c.args.disk c.fail.result c.fail.ensures.takes_out
+    c.fail.ensures.seen)

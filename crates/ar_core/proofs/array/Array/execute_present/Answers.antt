@@ -13,9 +13,12 @@ pub returns-in-Err-clause-serves : goal.returns-in-Err-clause-serves
 unfolding obeyed broken_obeyed
 returns-in-Err-clause-serves g c =
     subst
-    (λ (r : Result Command Sense). Serves c.args.self.now c.args.addr (obeyed (unit_sectors c.args.self.now c.args.addr) (attention_at c.args.self.now.store.book c.args.addr) r c.args.bytes.now) (broken_obeyed c.args.sectors r (length c.args.bytes.now)) c.check.result c.args.self.now)
+    (λ (r : Result Command Sense). Serves c.args.self.now c.args.addr
+    (obeyed (unit_sectors c.args.self.now c.args.addr) (attention_at c.args.self.now.store.book c.args.addr) r
+    c.args.bytes.now) (broken_obeyed c.args.sectors r (length c.args.bytes.now)) c.check.result c.args.self.now)
     c.in-Err.ensures.value
     (serves_check c.args.self.now c.args.addr c.in-Err.sense c.check.result c.check.ensures)
 
 pub returns-in-Err-clause-settles : goal.returns-in-Err-clause-settles
-returns-in-Err-clause-settles g c = settles_check c.args.self.now c.args.addr (reading c.args.cdb.now) c.in-Err.sense c.check.result c.check.ensures
+returns-in-Err-clause-settles g c =
+    settles_check c.args.self.now c.args.addr (reading c.args.cdb.now) c.in-Err.sense c.check.result c.check.ensures

@@ -11,13 +11,16 @@ use Rattle.ar_core.proofs.array.Array.flush_all.Goals as goal
 
 pub invariant_of-self : goal.invariant_of-self
 invariant_of-self g c = (
-  padded_follows c.self.inside.blocks c.flush_all.new.self c.self.invariant.0 c.flush_all.ensures.follows (λ now. c.flush_all.ensures.seen (c.flush_all.ensures.answer ∙ ap stored now)),
+  padded_follows c.self.inside.blocks c.flush_all.new.self c.self.invariant.0 c.flush_all.ensures.follows
+      (λ now. c.flush_all.ensures.seen (c.flush_all.ensures.answer ∙ ap stored now)),
   c.self.invariant.1 ∙ ap block_len_of (sym c.flush_all.ensures.follows.store.accessed.follows.geometry),
 )
 
 pub returns-clause-images : goal.returns-clause-images
 returns-clause-images g c = λ done addr.
-    image_same c.self.inside.blocks c.flush_all.new.self addr (unit_follows c.self.inside.blocks.store.book c.flush_all.new.self.store.book addr c.flush_all.ensures.follows.store.units)
+    image_same c.self.inside.blocks c.flush_all.new.self addr
+    (unit_follows c.self.inside.blocks.store.book c.flush_all.new.self.store.book addr
+    c.flush_all.ensures.follows.store.units)
     c.flush_all.ensures.follows.store.accessed.follows.geometry (λ k _. (c.flush_all.ensures.seen done).same k)
     ∙ ap (λ (s : ArrayState). image_at s addr) c.self.view_is
 

@@ -9,12 +9,16 @@ use Rattle.ar_core.proofs.array.Array.flush_unit.Goals as goal
 
 pub invariant_of-self : goal.invariant_of-self
 invariant_of-self g c =
-    quiet_kept c.self.inside.blocks c.flush_unit.new.self (FlushUnitEvent c.args.addr) (FlushUnitOutcome c.flush_unit.result) (length c.self.inside.block)
-    (steps_unit_flushed c.self.inside.blocks c.flush_unit.new.self c.args.addr c.flush_unit.result c.flush_unit.ensures.flushes c.flush_unit.ensures.seen
+    quiet_kept c.self.inside.blocks c.flush_unit.new.self (FlushUnitEvent c.args.addr)
+    (FlushUnitOutcome c.flush_unit.result) (length c.self.inside.block)
+    (steps_unit_flushed c.self.inside.blocks c.flush_unit.new.self c.args.addr c.flush_unit.result
+    c.flush_unit.ensures.flushes c.flush_unit.ensures.seen
     c.flush_unit.ensures.follows) refl c.self.invariant.0 c.self.invariant.1
 
 pub returns : goal.returns
 returns g c =
-    subst (λ (s : ArrayState). Steps s (FlushUnitEvent c.args.addr) (FlushUnitOutcome c.flush_unit.result) c.flush_unit.new.self) c.self.view_is
-    (steps_unit_flushed c.self.inside.blocks c.flush_unit.new.self c.args.addr c.flush_unit.result c.flush_unit.ensures.flushes c.flush_unit.ensures.seen
+    subst (λ (s : ArrayState). Steps s (FlushUnitEvent c.args.addr) (FlushUnitOutcome c.flush_unit.result)
+    c.flush_unit.new.self) c.self.view_is
+    (steps_unit_flushed c.self.inside.blocks c.flush_unit.new.self c.args.addr c.flush_unit.result
+    c.flush_unit.ensures.flushes c.flush_unit.ensures.seen
     c.flush_unit.ensures.follows)

@@ -9,12 +9,16 @@ use Rattle.ar_core.proofs.array.Array.grow.Goals as goal
 
 pub invariant_of-self : goal.invariant_of-self
 invariant_of-self g c =
-    let steps = steps_grown c.self.inside.blocks c.grow.new.self c.args.addr c.args.sectors c.grow.result c.self.invariant.0 c.grow.ensures.grows c.grow.ensures.seen in (
-      padded_grown c.self.inside.blocks c.grow.new.self c.args.addr c.args.sectors c.grow.result c.self.invariant.0 c.grow.ensures.grows c.grow.ensures.seen,
+    let steps = steps_grown c.self.inside.blocks c.grow.new.self c.args.addr c.args.sectors c.grow.result
+    c.self.invariant.0 c.grow.ensures.grows c.grow.ensures.seen in (
+      padded_grown c.self.inside.blocks c.grow.new.self c.args.addr c.args.sectors c.grow.result c.self.invariant.0
+          c.grow.ensures.grows c.grow.ensures.seen,
       c.self.invariant.1 ∙ ap block_len_of (sym steps.disks.geometry),
     )
 
 pub returns : goal.returns
 returns g c =
-    subst (λ (s : ArrayState). Steps s (GrowEvent c.args.addr c.args.sectors) (GrowOutcome c.grow.result) c.grow.new.self) c.self.view_is
-    (steps_grown c.self.inside.blocks c.grow.new.self c.args.addr c.args.sectors c.grow.result c.self.invariant.0 c.grow.ensures.grows c.grow.ensures.seen)
+    subst (λ (s : ArrayState). Steps s (GrowEvent c.args.addr c.args.sectors) (GrowOutcome c.grow.result)
+    c.grow.new.self) c.self.view_is
+    (steps_grown c.self.inside.blocks c.grow.new.self c.args.addr c.args.sectors c.grow.result c.self.invariant.0
+    c.grow.ensures.grows c.grow.ensures.seen)

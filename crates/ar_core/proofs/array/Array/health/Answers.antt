@@ -6,4 +6,5 @@ use Rattle.ar_core.proofs.array.Array.health.Goals as goal
 
 pub returns-clause-whole : goal.returns-clause-whole
 returns-clause-whole g c = λ sound a.
-    subst (λ (s : ArrayState). IsWhole (image s a)) c.self.view_is (image_whole c.self.inside.blocks (c.health.ensures.whole sound) a)
+    subst (λ (s : ArrayState). IsWhole (image s a)) c.self.view_is
+    (image_whole c.self.inside.blocks (c.health.ensures.whole sound) a)

@@ -9,12 +9,16 @@ use Rattle.ar_core.proofs.array.Array.make.Goals as goal
 
 pub invariant_of-self : goal.invariant_of-self
 invariant_of-self g c =
-    let steps = steps_made c.self.inside.blocks c.make.new.self c.args.addr c.args.sectors c.make.result c.self.invariant.0 c.make.ensures.makes c.make.ensures.seen in (
-      padded_made c.self.inside.blocks c.make.new.self c.args.addr c.args.sectors c.make.result c.self.invariant.0 c.make.ensures.makes c.make.ensures.seen,
+    let steps = steps_made c.self.inside.blocks c.make.new.self c.args.addr c.args.sectors c.make.result
+    c.self.invariant.0 c.make.ensures.makes c.make.ensures.seen in (
+      padded_made c.self.inside.blocks c.make.new.self c.args.addr c.args.sectors c.make.result c.self.invariant.0
+          c.make.ensures.makes c.make.ensures.seen,
       c.self.invariant.1 ∙ ap block_len_of (sym steps.disks.geometry),
     )
 
 pub returns : goal.returns
 returns g c =
-    subst (λ (s : ArrayState). Steps s (MakeEvent c.args.addr c.args.sectors) (MakeOutcome c.make.result) c.make.new.self) c.self.view_is
-    (steps_made c.self.inside.blocks c.make.new.self c.args.addr c.args.sectors c.make.result c.self.invariant.0 c.make.ensures.makes c.make.ensures.seen)
+    subst (λ (s : ArrayState). Steps s (MakeEvent c.args.addr c.args.sectors) (MakeOutcome c.make.result)
+    c.make.new.self) c.self.view_is
+    (steps_made c.self.inside.blocks c.make.new.self c.args.addr c.args.sectors c.make.result c.self.invariant.0
+    c.make.ensures.makes c.make.ensures.seen)

@@ -21,12 +21,16 @@ write_sectors-requires-clause-known g c = λ rb within.
 pub invariant_of-self : goal.invariant_of-self
 invariant_of-self g c =
     let unit = subst (λ (s : ArrayState). IsUnit s c.args.addr c.args.sectors) (sym c.self.view_is) c.requires.unit in
-    let follows : ArrayFollows c.self.inside.blocks c.write_sectors.new.blocks = c.write_sectors.ensures.keeps.joined in (
-      padded_written c.self.inside.blocks c.write_sectors.new.blocks c.args.addr c.args.sectors c.args.lba c.args.count c.args.bytes.now c.write_sectors.result c.self.invariant.0 unit c.requires.within
+    let follows : ArrayFollows c.self.inside.blocks c.write_sectors.new.blocks =
+    c.write_sectors.ensures.keeps.joined in (
+      padded_written c.self.inside.blocks c.write_sectors.new.blocks c.args.addr c.args.sectors c.args.lba c.args.count
+          c.args.bytes.now c.write_sectors.result c.self.invariant.0 unit c.requires.within
           (ap is_broken c.self.view_is ∙ c.requires.sound) follows c.write_sectors.ensures.answer
           (λ done.
-          range_written c.self.inside.blocks c.write_sectors.new.blocks c.args.addr c.args.lba c.args.count c.args.bytes.now c.geometry-geometry.result c.geometry-geometry.ensures
-          (c.write_sectors.ensures.inside done) (c.write_sectors.ensures.outside done) (c.write_sectors.ensures.others done)),
+          range_written c.self.inside.blocks c.write_sectors.new.blocks c.args.addr c.args.lba c.args.count
+          c.args.bytes.now c.geometry-geometry.result c.geometry-geometry.ensures
+          (c.write_sectors.ensures.inside done) (c.write_sectors.ensures.outside done)
+          (c.write_sectors.ensures.others done)),
       c.write_sectors.ensures.len ∙ c.self.invariant.1 ∙ ap block_len_of (sym follows.store.accessed.follows.geometry),
     )
 
@@ -34,26 +38,34 @@ pub returns-clause-nothing : goal.returns-clause-nothing
 returns-clause-nothing g c = λ none.
     nothing_put (Overwrites ReadsBlock PutsBlock c.geometry-geometry.result c.args.lba c.args.count)
     (StopsOver ReadsBlock BreaksBlock is_broken c.geometry-geometry.result c.args.lba c.args.count)
-    c.geometry-geometry.result c.args.addr c.args.lba c.args.count c.self.inside.blocks c.write_sectors.new.blocks c.write_sectors.result none
+    c.geometry-geometry.result c.args.addr c.args.lba c.args.count c.self.inside.blocks c.write_sectors.new.blocks
+    c.write_sectors.result none
     c.write_sectors.ensures.puts c.write_sectors.ensures.stopped
     ∙ c.self.view_is
 
 pub returns-clause-writes : goal.returns-clause-writes
 returns-clause-writes g c = λ done.
-    subst (λ (s : ArrayState). WritesSectors s c.args.addr c.args.lba c.args.count c.args.bytes.now c.write_sectors.new.blocks) c.self.view_is
-    (range_written c.self.inside.blocks c.write_sectors.new.blocks c.args.addr c.args.lba c.args.count c.args.bytes.now c.geometry-geometry.result c.geometry-geometry.ensures
+    subst (λ (s : ArrayState). WritesSectors s c.args.addr c.args.lba c.args.count c.args.bytes.now
+    c.write_sectors.new.blocks) c.self.view_is
+    (range_written c.self.inside.blocks c.write_sectors.new.blocks c.args.addr c.args.lba c.args.count c.args.bytes.now
+    c.geometry-geometry.result c.geometry-geometry.ensures
     (c.write_sectors.ensures.inside done) (c.write_sectors.ensures.outside done) (c.write_sectors.ensures.others done))
 
 pub returns-clause-puts : goal.returns-clause-puts
 returns-clause-puts g c = λ done.
-    subst (λ (s : ArrayState). PutsBlocks c.args.addr c.args.lba c.args.count s c.write_sectors.new.blocks) c.self.view_is
+    subst (λ (s : ArrayState). PutsBlocks c.args.addr c.args.lba c.args.count s c.write_sectors.new.blocks)
+    c.self.view_is
     (subst
-    (λ (h : Geometry). InTurn (Overwrites ReadsBlock PutsBlock h c.args.lba c.args.count) (keys_in h c.args.addr c.args.lba c.args.count) c.self.inside.blocks c.write_sectors.new.blocks)
+    (λ (h : Geometry). InTurn (Overwrites ReadsBlock PutsBlock h c.args.lba c.args.count)
+    (keys_in h c.args.addr c.args.lba c.args.count) c.self.inside.blocks c.write_sectors.new.blocks)
     c.geometry-geometry.ensures (c.write_sectors.ensures.puts done))
 
 pub returns-clause-stopped : goal.returns-clause-stopped
 returns-clause-stopped g c = λ lost.
-    subst (λ (s : ArrayState). StopsPutting c.args.addr c.args.lba c.args.count s c.write_sectors.new.blocks) c.self.view_is
+    subst (λ (s : ArrayState). StopsPutting c.args.addr c.args.lba c.args.count s c.write_sectors.new.blocks)
+    c.self.view_is
     (subst
-    (λ (h : Geometry). StopsInTurn (Overwrites ReadsBlock PutsBlock h c.args.lba c.args.count) (StopsOver ReadsBlock BreaksBlock is_broken h c.args.lba c.args.count) (keys_in h c.args.addr c.args.lba c.args.count) c.self.inside.blocks c.write_sectors.new.blocks)
+    (λ (h : Geometry). StopsInTurn (Overwrites ReadsBlock PutsBlock h c.args.lba c.args.count)
+    (StopsOver ReadsBlock BreaksBlock is_broken h c.args.lba c.args.count)
+    (keys_in h c.args.addr c.args.lba c.args.count) c.self.inside.blocks c.write_sectors.new.blocks)
     c.geometry-geometry.ensures (c.write_sectors.ensures.stopped lost))

@@ -9,12 +9,16 @@ use Rattle.ar_core.proofs.array.Array.remove.Goals as goal
 
 pub invariant_of-self : goal.invariant_of-self
 invariant_of-self g c =
-    let steps = steps_removed c.self.inside.blocks c.remove.new.self c.args.addr c.remove.result c.remove.ensures.tables c.remove.ensures.removes c.remove.ensures.others in (
-      padded_removed c.self.inside.blocks c.remove.new.self c.args.addr c.remove.result c.self.invariant.0 c.remove.ensures.tables c.remove.ensures.removes c.remove.ensures.others c.remove.ensures.zeros,
+    let steps = steps_removed c.self.inside.blocks c.remove.new.self c.args.addr c.remove.result c.remove.ensures.tables
+    c.remove.ensures.removes c.remove.ensures.others in (
+      padded_removed c.self.inside.blocks c.remove.new.self c.args.addr c.remove.result c.self.invariant.0
+          c.remove.ensures.tables c.remove.ensures.removes c.remove.ensures.others c.remove.ensures.zeros,
       c.self.invariant.1 ∙ ap block_len_of (sym steps.disks.geometry),
     )
 
 pub returns : goal.returns
 returns g c =
-    subst (λ (s : ArrayState). Steps s (RemoveEvent c.args.addr) (RemoveOutcome c.remove.result) c.remove.new.self) c.self.view_is
-    (steps_removed c.self.inside.blocks c.remove.new.self c.args.addr c.remove.result c.remove.ensures.tables c.remove.ensures.removes c.remove.ensures.others)
+    subst (λ (s : ArrayState). Steps s (RemoveEvent c.args.addr) (RemoveOutcome c.remove.result) c.remove.new.self)
+    c.self.view_is
+    (steps_removed c.self.inside.blocks c.remove.new.self c.args.addr c.remove.result c.remove.ensures.tables
+    c.remove.ensures.removes c.remove.ensures.others)

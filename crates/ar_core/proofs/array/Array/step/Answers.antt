@@ -9,5 +9,7 @@ use Rattle.ar_core.proofs.array.Array.step.Goals as goal
 pub returns-in-Cmd : goal.returns-in-Cmd
 returns-in-Cmd g c =
     subst (λ (e : Event). Steps c.args.self.now e (CmdOutcome c.command.result) c.command.new.self) (sym c.in-Cmd.is)
-    (steps_command c.args.self.now c.command.new.self c.in-Cmd.host c.in-Cmd.lun c.in-Cmd.cdb c.in-Cmd.payload c.command.result
-    (subst (λ (b : List ℕ). ExecutesCommand c.args.self.now (addr_in c.in-Cmd.host c.in-Cmd.lun) c.in-Cmd.cdb b c.command.result c.command.new.self) c.as_slice.ensures c.command.ensures))
+    (steps_command c.args.self.now c.command.new.self c.in-Cmd.host c.in-Cmd.lun c.in-Cmd.cdb c.in-Cmd.payload
+    c.command.result
+    (subst (λ (b : List ℕ). ExecutesCommand c.args.self.now (addr_in c.in-Cmd.host c.in-Cmd.lun) c.in-Cmd.cdb b
+    c.command.result c.command.new.self) c.as_slice.ensures c.command.ensures))

@@ -6,6 +6,7 @@ use Rattle.ar_core.proofs.array.Array.tell_growth.Goals as goal
 
 pub invariant_of-self : goal.invariant_of-self
 invariant_of-self g c = (
-  padded_cleared c.self.inside.blocks c.clear_attention.new.self c.args.addr c.self.invariant.0 c.clear_attention.ensures.cleared c.clear_attention.ensures.seen,
+  padded_cleared c.self.inside.blocks c.clear_attention.new.self c.args.addr c.self.invariant.0
+      c.clear_attention.ensures.cleared c.clear_attention.ensures.seen,
   c.self.invariant.1 ∙ ap (λ (s : ArrayState). block_len_of (geometry_of s)) (sym c.clear_attention.ensures.cleared),
 )

@@ -5,7 +5,8 @@ use Rattle.ar_history.proofs.kept.Kept.background.Goals as goal
 
 pub invariant_of-self : goal.invariant_of-self
 invariant_of-self g c =
-    let same : c.background.new.self.history ≡ c.self.inside.history.items = c.background.ensures.history ∙ c.self.invariant.2 in (
+    let same : c.background.new.self.history ≡ c.self.inside.history.items =
+    c.background.ensures.history ∙ c.self.invariant.2 in (
       subst (λ (l : List Entry). HistoryAgrees c.background.new.self.array l) same c.background.ensures.kept.after,
       c.self.invariant.1,
       same,

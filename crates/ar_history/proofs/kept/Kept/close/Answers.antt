@@ -9,13 +9,17 @@ use Rattle.ar_history.proofs.kept.Kept.close.Goals as goal
 
 pub returns-clause-isolated : goal.returns-clause-isolated
 returns-clause-isolated g c =
-    let same : c.as_slice.result.now ≡ c.args.self.now.history = c.as_slice.ensures.value ∙ ap (λ (k : KeptState). k.history) c.self.view_is in
+    let same : c.as_slice.result.now ≡ c.args.self.now.history =
+    c.as_slice.ensures.value ∙ ap (λ (k : KeptState). k.history) c.self.view_is in
     subst (λ (l : List Entry). OnOk c.audited.result (All (IsTranscriptIsolated l) c.args.seats.now)) same
     (all_isolated c.as_slice.result.now c.args.seats.now c.audited.result
-    (subst (λ (l : List Entry). IsLegal l) (sym c.as_slice.ensures.value) c.self.invariant.0.legal) c.audited.ensures.parts)
+    (subst (λ (l : List Entry). IsLegal l) (sym c.as_slice.ensures.value) c.self.invariant.0.legal)
+    c.audited.ensures.parts)
 
 pub returns-clause-none_else : goal.returns-clause-none_else
 returns-clause-none_else g c =
-    let same : c.as_slice.result.now ≡ c.args.self.now.history = c.as_slice.ensures.value ∙ ap (λ (k : KeptState). k.history) c.self.view_is in
+    let same : c.as_slice.result.now ≡ c.args.self.now.history =
+    c.as_slice.ensures.value ∙ ap (λ (k : KeptState). k.history) c.self.view_is in
     subst (λ (l : List Entry). IfOk c.audited.result (λ report. sum report.commands ≡ count_by is_command l)) same
-    (none_else c.as_slice.result.now c.args.seats.now c.audited.result c.requires.order c.audited.ensures.parts c.audited.ensures.commands)
+    (none_else c.as_slice.result.now c.args.seats.now c.audited.result c.requires.order c.audited.ensures.parts
+    c.audited.ensures.commands)

@@ -14,30 +14,41 @@ returns-then-is_lost-clause-serves g c =
     let old = c.args.self.now in
     let new = c.unrecorded.new.self in
     let reply = c.unrecorded.result.reply in
-    let serves : ServesCommand old.array old.history c.args.seat.now.host c.args.lun c.args.cdb c.args.payload reply new.array new.history =
-    subst (λ (s : SeatState). ServesCommand old.array old.history s.host c.args.lun c.args.cdb c.args.payload reply new.array new.history)
+    let serves : ServesCommand old.array old.history c.args.seat.now.host c.args.lun c.args.cdb c.args.payload reply
+    new.array new.history =
+    subst (λ (s : SeatState). ServesCommand old.array old.history s.host c.args.lun c.args.cdb c.args.payload reply
+    new.array new.history)
     c.seat.view_is c.unrecorded.ensures.serves in
-    subst (λ (at : Option ℕ). ServesHost old c.args.seat.now c.args.lun c.args.cdb c.args.payload reply at new c.args.seat.now) (sym c.unrecorded.ensures.at)
+    subst (λ (at : Option ℕ). ServesHost old c.args.seat.now c.args.lun c.args.cdb c.args.payload reply at new
+    c.args.seat.now) (sym c.unrecorded.ensures.at)
     (unrecorded old c.args.seat.now c.args.lun c.args.cdb c.args.payload reply new serves
     (ap (λ (b : Bool). not b && not (is_busy reply.status)) c.unrecorded.ensures.broken))
 
 pub returns-then-is_lost-clause-busy : goal.returns-then-is_lost-clause-busy
 returns-then-is_lost-clause-busy g c =
-    leaves_blocks c.args.self.now.array c.unrecorded.new.self.array c.seat.inside.host c.args.lun c.args.cdb c.args.payload
+    leaves_blocks c.args.self.now.array c.unrecorded.new.self.array c.seat.inside.host c.args.lun c.args.cdb
+    c.args.payload
     c.unrecorded.result.reply (inl (inl c.unrecorded.ensures.steps))
 
 pub returns-in-Ok-clause-serves : goal.returns-in-Ok-clause-serves
 returns-in-Ok-clause-serves g c =
-    serves_from c.args.self.now c.prepare.new.self c.args.seat.now c.prepare.new.seat c.args.lun c.args.cdb c.args.payload c.execute_prepared.result.reply
-    c.execute_prepared.result.at c.execute_prepared.new.self c.execute_prepared.new.seat c.in-Ok.ensures.same c.in-Ok.ensures.same_seat
-    (subst (λ (x : Exchange). ServesHost c.prepare.new.self c.prepare.new.seat x.lun x.cdb c.args.payload c.execute_prepared.result.reply c.execute_prepared.result.at c.execute_prepared.new.self c.execute_prepared.new.seat)
+    serves_from c.args.self.now c.prepare.new.self c.args.seat.now c.prepare.new.seat c.args.lun c.args.cdb
+    c.args.payload c.execute_prepared.result.reply
+    c.execute_prepared.result.at c.execute_prepared.new.self c.execute_prepared.new.seat c.in-Ok.ensures.same
+    c.in-Ok.ensures.same_seat
+    (subst (λ (x : Exchange). ServesHost c.prepare.new.self c.prepare.new.seat x.lun x.cdb c.args.payload
+    c.execute_prepared.result.reply c.execute_prepared.result.at c.execute_prepared.new.self
+    c.execute_prepared.new.seat)
     c.in-Ok.ensures.copies.0 c.execute_prepared.ensures.serves)
 
 pub returns-in-Ok-clause-busy : goal.returns-in-Ok-clause-busy
 returns-in-Ok-clause-busy g c =
     λ is.
-    subst (λ (s : ArrayState). LeavesStorage s c.execute_prepared.new.self.array) (ap (λ (k : KeptState). k.array) c.in-Ok.ensures.same)
-    (leaves_blocks c.prepare.new.self.array c.execute_prepared.new.self.array c.prepare.new.seat.host c.in-Ok.copies.ours.lun c.in-Ok.copies.ours.cdb c.args.payload
+    subst (λ (s : ArrayState). LeavesStorage s c.execute_prepared.new.self.array)
+    (ap (λ (k : KeptState). k.array) c.in-Ok.ensures.same)
+    (leaves_blocks c.prepare.new.self.array c.execute_prepared.new.self.array c.prepare.new.seat.host
+    c.in-Ok.copies.ours.lun c.in-Ok.copies.ours.cdb c.args.payload
     c.execute_prepared.result.reply
-    (begun_does c.prepare.new.self.array c.execute_prepared.new.self.array c.prepare.new.seat.host c.in-Ok.copies.ours.lun c.in-Ok.copies.ours.cdb c.args.payload
+    (begun_does c.prepare.new.self.array c.execute_prepared.new.self.array c.prepare.new.seat.host
+    c.in-Ok.copies.ours.lun c.in-Ok.copies.ours.cdb c.args.payload
     c.execute_prepared.result.reply c.execute_prepared.ensures.begun) is)

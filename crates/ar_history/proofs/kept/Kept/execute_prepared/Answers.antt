@@ -7,7 +7,8 @@ use Rattle.ar_history.specs.declared.entry.Entry.{Entry}
 use Rattle.ar_history.specs.Kept.{KeptState, HistoryAgrees}
 use Rattle.ar_history.specs.Seat.{SeatState}
 use Rattle.ar_history.specs.Serving.{IsUnrecorded, ServesHost, Begins, is_recorded}
-use Rattle.ar_history.proofs.Commands.{IsBusyFor, unrecorded, unrecorded_busy, unrecorded_history, recorded_parts, served_unstored, begins_busy}
+use Rattle.ar_history.proofs.Commands.{IsBusyFor, unrecorded, unrecorded_busy, unrecorded_history, recorded_parts}
+use Rattle.ar_history.proofs.Commands.{served_unstored, begins_busy}
 use Rattle.ar_history.proofs.kept.Kept.execute_prepared.Goals as goal
 
 pub invariant_of-self : goal.invariant_of-self
@@ -15,7 +16,8 @@ invariant_of-self g c =
     let new = c.execute-reply.new.self in
     let none : is_recorded new.array c.execute-reply.result ≡ false = sym c.if-not-has_recorded.ensures in
     let same : new.history ≡ c.self.inside.history.items =
-    unrecorded_history c.self.inside.live.array new.array c.seat.inside.host c.args.copies.ours.lun c.args.copies.ours.cdb c.args.payload
+    unrecorded_history c.self.inside.live.array new.array c.seat.inside.host c.args.copies.ours.lun
+    c.args.copies.ours.cdb c.args.payload
     c.execute-reply.result c.self.inside.live.history new.history c.execute-reply.ensures.serves none
     ∙ c.self.invariant.2 in (
       subst (λ (l : List Entry). HistoryAgrees new.array l) same c.execute-reply.ensures.kept.after,
@@ -31,14 +33,35 @@ returns-then-not-has_recorded-clause-serves g c =
     let reply = c.execute-reply.result in
     let lun = c.args.copies.ours.lun in
     let cdb = c.args.copies.ours.cdb in
-    let old : KeptState = record { array = live.array; history = items; room = vec_capacity c.self.inside.history; counts = live.counts; events = live.events } in
-    let new : KeptState = record { array = now.array; history = items; room = vec_capacity c.self.inside.history; counts = now.counts; events = now.events } in
-    let before : SeatState = record { host = c.seat.inside.host; transcript = c.seat.inside.transcript.items; room = vec_capacity c.seat.inside.transcript } in
+    let old : KeptState =
+    record {
+      array = live.array;
+      history = items;
+      room = vec_capacity c.self.inside.history;
+      counts = live.counts;
+      events = live.events;
+    } in
+    let new : KeptState =
+    record {
+      array = now.array;
+      history = items;
+      room = vec_capacity c.self.inside.history;
+      counts = now.counts;
+      events = now.events;
+    } in
+    let before : SeatState =
+    record {
+      host = c.seat.inside.host;
+      transcript = c.seat.inside.transcript.items;
+      room = vec_capacity c.seat.inside.transcript;
+    } in
     let none : is_recorded now.array reply ≡ false = sym c.if-not-has_recorded.ensures in
-    subst (λ (k : KeptState). IsUnrecorded k c.args.seat.now lun cdb c.args.payload reply new c.args.seat.now) c.self.view_is
+    subst (λ (k : KeptState). IsUnrecorded k c.args.seat.now lun cdb c.args.payload reply new c.args.seat.now)
+    c.self.view_is
     (subst (λ (s : SeatState). IsUnrecorded old s lun cdb c.args.payload reply new s) c.seat.view_is
     (unrecorded old before lun cdb c.args.payload reply new
-    (served_unstored live.array now.array c.seat.inside.host lun cdb c.args.payload reply live.history items now.history c.self.invariant.2 none
+    (served_unstored live.array now.array c.seat.inside.host lun cdb c.args.payload reply live.history items now.history
+    c.self.invariant.2 none
     c.execute-reply.ensures.serves) none))
 
 pub returns-then-not-answer-clause-serves : goal.returns-then-not-answer-clause-serves
@@ -50,17 +73,29 @@ returns-then-not-answer-clause-serves g c =
     let lun = c.args.copies.ours.lun in
     let cdb = c.args.copies.ours.cdb in
     let room = vec_capacity c.self.inside.history in
-    let old : KeptState = record { array = live.array; history = items; room = room; counts = live.counts; events = live.events } in
-    let new : KeptState = record { array = now.array; history = items; room = room; counts = now.counts; events = now.events } in
-    let before : SeatState = record { host = c.seat.inside.host; transcript = c.seat.inside.transcript.items; room = vec_capacity c.seat.inside.transcript } in
+    let old : KeptState =
+    record { array = live.array; history = items; room = room; counts = live.counts; events = live.events } in
+    let new : KeptState =
+    record { array = now.array; history = items; room = room; counts = now.counts; events = now.events } in
+    let before : SeatState =
+    record {
+      host = c.seat.inside.host;
+      transcript = c.seat.inside.transcript.items;
+      room = vec_capacity c.seat.inside.transcript;
+    } in
     let none : IsBusyFor reply = inr (c.if-not-answer.ensures.bytes refl) in
     let is : is_recorded now.array reply ≡ true = sym c.if-not-has_recorded.ensures in
     let sound : is_broken now.array ≡ false = (recorded_parts (is_broken now.array) (is_busy reply.status) is).0 in
-    subst (λ (w : KeptState). ServesHost c.args.self.now c.args.seat.now lun cdb c.args.payload c.busy.result.reply c.busy.result.at
-    (record { array = w.array; history = items; room = room; counts = w.counts; events = w.events }) c.args.seat.now) (sym c.withdraw.ensures)
-    (subst (λ (at : Option ℕ). ServesHost c.args.self.now c.args.seat.now lun cdb c.args.payload c.busy.result.reply at new c.args.seat.now) (sym c.busy.ensures.at)
-    (subst (λ (r : Reply). IsUnrecorded c.args.self.now c.args.seat.now lun cdb c.args.payload r new c.args.seat.now) (sym c.busy.ensures.reply)
-    (subst (λ (k : KeptState). IsUnrecorded k c.args.seat.now lun cdb c.args.payload busy new c.args.seat.now) c.self.view_is
+    subst (λ (w : KeptState). ServesHost c.args.self.now c.args.seat.now lun cdb c.args.payload c.busy.result.reply
+    c.busy.result.at
+    (record { array = w.array; history = items; room = room; counts = w.counts; events = w.events }) c.args.seat.now)
+    (sym c.withdraw.ensures)
+    (subst (λ (at : Option ℕ). ServesHost c.args.self.now c.args.seat.now lun cdb c.args.payload c.busy.result.reply at
+    new c.args.seat.now) (sym c.busy.ensures.at)
+    (subst (λ (r : Reply). IsUnrecorded c.args.self.now c.args.seat.now lun cdb c.args.payload r new c.args.seat.now)
+    (sym c.busy.ensures.reply)
+    (subst (λ (k : KeptState). IsUnrecorded k c.args.seat.now lun cdb c.args.payload busy new c.args.seat.now)
+    c.self.view_is
     (subst (λ (s : SeatState). IsUnrecorded old s lun cdb c.args.payload busy new s) c.seat.view_is
     (unrecorded_busy old before lun cdb c.args.payload reply new c.execute-reply.ensures.steps none sound refl)))))
 
@@ -74,8 +109,11 @@ returns-then-not-answer-clause-begun g c =
     let none : IsBusyFor reply = inr (c.if-not-answer.ensures.bytes refl) in
     let is : is_recorded now.array reply ≡ true = sym c.if-not-has_recorded.ensures in
     let sound : is_broken now.array ≡ false = (recorded_parts (is_broken now.array) (is_busy reply.status) is).0 in
-    subst (λ (w : KeptState). Begins c.args.self.now.array c.args.seat.now.host lun cdb c.args.payload c.busy.result.reply w.array) (sym c.withdraw.ensures)
-    (subst (λ (r : Reply). Begins c.args.self.now.array c.args.seat.now.host lun cdb c.args.payload r now.array) (sym c.busy.ensures.reply)
+    subst (λ (w : KeptState). Begins c.args.self.now.array c.args.seat.now.host lun cdb c.args.payload
+    c.busy.result.reply w.array) (sym c.withdraw.ensures)
+    (subst (λ (r : Reply). Begins c.args.self.now.array c.args.seat.now.host lun cdb c.args.payload r now.array)
+    (sym c.busy.ensures.reply)
     (subst (λ (k : KeptState). Begins k.array c.args.seat.now.host lun cdb c.args.payload busy now.array) c.self.view_is
     (subst (λ (s : SeatState). Begins live.array s.host lun cdb c.args.payload busy now.array) c.seat.view_is
-    (begins_busy live.array now.array c.seat.inside.host lun cdb c.args.payload reply c.execute-reply.ensures.steps none sound))))
+    (begins_busy live.array now.array c.seat.inside.host lun cdb c.args.payload reply c.execute-reply.ensures.steps none
+    sound))))

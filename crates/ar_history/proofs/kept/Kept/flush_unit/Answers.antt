@@ -5,7 +5,8 @@ use Rattle.ar_history.proofs.kept.Kept.flush_unit.Goals as goal
 
 pub invariant_of-self : goal.invariant_of-self
 invariant_of-self g c =
-    let same : c.flush_unit.new.self.history ≡ c.self.inside.history.items = c.flush_unit.ensures.history ∙ c.self.invariant.2 in (
+    let same : c.flush_unit.new.self.history ≡ c.self.inside.history.items =
+    c.flush_unit.ensures.history ∙ c.self.invariant.2 in (
       subst (λ (l : List Entry). HistoryAgrees c.flush_unit.new.self.array l) same c.flush_unit.ensures.kept.after,
       c.self.invariant.1,
       same,

@@ -12,15 +12,18 @@ use Rattle.ar_history.proofs.kept.Kept.unrecorded.Goals as goal
 pub invariant_of-self : goal.invariant_of-self
 invariant_of-self g c =
     let lost : is_broken c.execute-reply.new.self.array ≡ true =
-    stays_lost c.self.inside.live.array c.execute-reply.new.self.array (CmdEvent c.args.host c.args.lun c.args.cdb c.args.payload) (CmdOutcome c.execute-reply.result)
+    stays_lost c.self.inside.live.array c.execute-reply.new.self.array
+    (CmdEvent c.args.host c.args.lun c.args.cdb c.args.payload) (CmdOutcome c.execute-reply.result)
     c.execute-reply.ensures.steps (ap (λ (k : KeptState). is_broken k.array) c.self.view_is ∙ c.requires) in
     let none : is_recorded c.execute-reply.new.self.array c.execute-reply.result ≡ false =
     ap (λ (b : Bool). not b && not (is_busy c.execute-reply.result.status)) lost in
     let same : c.execute-reply.new.self.history ≡ c.self.inside.history.items =
-    unrecorded_history c.self.inside.live.array c.execute-reply.new.self.array c.args.host c.args.lun c.args.cdb c.args.payload c.execute-reply.result
+    unrecorded_history c.self.inside.live.array c.execute-reply.new.self.array c.args.host c.args.lun c.args.cdb
+    c.args.payload c.execute-reply.result
     c.self.inside.live.history c.execute-reply.new.self.history c.execute-reply.ensures.serves none
     ∙ c.self.invariant.2 in (
-      subst (λ (l : List Entry). HistoryAgrees c.execute-reply.new.self.array l) same c.execute-reply.ensures.kept.after,
+      subst (λ (l : List Entry). HistoryAgrees c.execute-reply.new.self.array l) same
+          c.execute-reply.ensures.kept.after,
       c.self.invariant.1,
       same,
     )

@@ -7,7 +7,8 @@ use Rattle.ar_history.proofs.live.LiveArray.change.Goals as goal
 pub invariant_of-self : goal.invariant_of-self
 invariant_of-self g c =
     subst (λ (l : List Entry). HistoryAgrees c.step-outcome.new.self l) (sym c.push.ensures)
-    (done_kept c.self.inside.array c.step-outcome.new.self c.args.event c.step-outcome.result c.self.inside.history.entries c.args.entry.now c.self.invariant
+    (done_kept c.self.inside.array c.step-outcome.new.self c.args.event c.step-outcome.result
+    c.self.inside.history.entries c.args.entry.now c.self.invariant
     c.step-outcome.ensures c.requires (sym c.is_done.ensures ∙ c.if-is_done.true))
 
 pub returns-then-is_done-clause-kept : goal.returns-then-is_done-clause-kept
@@ -15,6 +16,7 @@ returns-then-is_done-clause-kept g c = record {
   before = subst (λ (k : KeptState). HistoryAgrees k.array k.history) c.self.view_is c.self.invariant;
   after =
       subst (λ (l : List Entry). HistoryAgrees c.step-outcome.new.self l) (sym c.push.ensures)
-      (done_kept c.self.inside.array c.step-outcome.new.self c.args.event c.step-outcome.result c.self.inside.history.entries c.args.entry.now c.self.invariant
+      (done_kept c.self.inside.array c.step-outcome.new.self c.args.event c.step-outcome.result
+      c.self.inside.history.entries c.args.entry.now c.self.invariant
       c.step-outcome.ensures c.requires (sym c.is_done.ensures ∙ c.if-is_done.true));
 }

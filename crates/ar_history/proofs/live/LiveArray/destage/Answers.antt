@@ -7,13 +7,15 @@ use Rattle.ar_history.proofs.live.LiveArray.destage.Goals as goal
 
 pub invariant_of-self : goal.invariant_of-self
 invariant_of-self g c =
-    kept_same c.self.inside.array c.flush_unit.new.self (FlushUnitEvent c.args.addr) (FlushUnitOutcome c.flush_unit.result) c.self.inside.history.entries
+    kept_same c.self.inside.array c.flush_unit.new.self (FlushUnitEvent c.args.addr)
+    (FlushUnitOutcome c.flush_unit.result) c.self.inside.history.entries
     c.self.invariant c.flush_unit.ensures (λ a. refl)
 
 pub returns-clause-kept : goal.returns-clause-kept
 returns-clause-kept g c = record {
   before = subst (λ (k : KeptState). HistoryAgrees k.array k.history) c.self.view_is c.self.invariant;
   after =
-      kept_same c.self.inside.array c.flush_unit.new.self (FlushUnitEvent c.args.addr) (FlushUnitOutcome c.flush_unit.result) c.self.inside.history.entries
+      kept_same c.self.inside.array c.flush_unit.new.self (FlushUnitEvent c.args.addr)
+      (FlushUnitOutcome c.flush_unit.result) c.self.inside.history.entries
       c.self.invariant c.flush_unit.ensures (λ a. refl);
 }

@@ -8,5 +8,6 @@ pub returns-clause-busy : goal.returns-clause-busy
 returns-clause-busy g c =
     λ is.
     subst (λ (k : KeptState). LeavesStorage c.args.self.now.array k.array) (sym c.count_command.ensures.counted)
-    (leaves_blocks c.args.self.now.array c.execute-reply.new.self.array c.args.host c.args.lun c.args.cdb c.args.payload c.execute-reply.result
+    (leaves_blocks c.args.self.now.array c.execute-reply.new.self.array c.args.host c.args.lun c.args.cdb c.args.payload
+    c.execute-reply.result
     (inl (inl c.execute-reply.ensures.steps)) is)

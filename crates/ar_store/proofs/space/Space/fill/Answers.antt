@@ -17,7 +17,11 @@ pub assign-requires : goal.assign-requires
 assign-requires g c =
     let same = sym c.write_at.ensures.book in
     let vacant = subst (λ (x : Tables). IsVacant x c.args.to) same c.requires.hole in
-    record { block = subst (λ (x : Tables). HasBlock x c.args.key) same c.requires.block; slot = vacant.there; empty = vacant.empty }
+    record {
+      block = subst (λ (x : Tables). HasBlock x c.args.key) same c.requires.block;
+      slot = vacant.there;
+      empty = vacant.empty;
+    }
 
 pub returns-in-Done : goal.returns-in-Done
 returns-in-Done g c =
@@ -29,7 +33,8 @@ returns-in-Done g c =
     let now = ap (λ (x : Tables). store_of b x) wrote.book in
     let tables = c.assign.ensures.assigned ∙ ap (λ (x : Tables). assigned x c.args.key c.args.to) wrote.book in
     let fills = filled s.disks b s.book c.assign.new.self c.args.key c.args.to c.args.from.now c.requires.ready.space
-    (subst (λ (x : StoreState). IsSpace x) now wrote.stays.ready.space) c.requires.block c.requires.hole c.requires.whole wrote.stays.accessed
+    (subst (λ (x : StoreState). IsSpace x) now wrote.stays.ready.space) c.requires.block c.requires.hole
+    c.requires.whole wrote.stays.accessed
     (subst (λ (x : StoreState). OtherSlotsHold (store_in s) x c.args.to) now wrote.others)
     (subst (λ (x : StoreState). SlotHolds x c.args.to c.args.from.now) now wrote.here) tables in
     record {
@@ -40,7 +45,8 @@ returns-in-Done g c =
       here = λ _. fills.here (done_sound b.health answer);
       holds = subst (λ (x : StoreState). SlotHolds x c.args.to c.args.from.now) now wrote.here;
       others = fills.others;
-      beside = beside_filled s.disks b s.book c.assign.new.self c.args.key c.args.to c.requires.ready.space c.requires.block c.requires.hole
+      beside = beside_filled s.disks b s.book c.assign.new.self c.args.key c.args.to c.requires.ready.space
+          c.requires.block c.requires.hole
           (subst (λ (x : StoreState). OtherSlotsHold (store_in s) x c.args.to) now wrote.others) tables;
       writes = wrote.writes;
       stays = record {

@@ -30,7 +30,11 @@ returns-in-Some g c =
       home = after.homes c.args.key;
       free = λ _. after.free c.requires.free;
       stand = after.stand;
-      search = inl (record { needs = record { way = way_unneeded s.book u c.args.key c.in-Some.way found.way found.opens }; same = refl });
+      search = inl
+          (record {
+            needs = record { way = way_unneeded s.book u c.args.key c.in-Some.way found.way found.opens };
+            same = refl;
+          });
       stays = record {
         ready = record { space = after.space; scratch = c.requires.ready.scratch };
         units = after.units;
@@ -70,14 +74,20 @@ returns-in-Some-squeeze g c =
     let squeezed = c.in-Some-squeeze.ensures in
     let still = squeezed.unplaced c.args.key (ap (λ (x : Tables). home x c.args.key) same ∙ none.unplaced) in
     record {
-      leads = leads_squeezed t u new.book c.args.key c.in-Some-squeeze.slot none.unplaced still none.mirrored none.parity squeezed.squeezed;
+      leads = leads_squeezed t u new.book c.args.key c.in-Some-squeeze.slot none.unplaced still none.mirrored
+          none.parity squeezed.squeezed;
       way = squeezed.squeezed.empty;
-      prepared = inr (inr (no_way t u c.args.key none, subst (λ (x : Tables). HasBegunSqueeze x new.book) same squeezed.begun));
+      prepared = inr
+          (inr (no_way t u c.args.key none, subst (λ (x : Tables). HasBegunSqueeze x new.book) same squeezed.begun));
       zeros = λ _. squeezed.zeros;
       home = still ∙ sym none.unplaced;
       free = λ _. squeezed.free;
       stand = subst (λ (x : Tables). AllStand (store_of s.disks x) (store_in new)) same squeezed.stand;
-      search = inr (no_way t u c.args.key none, subst (λ (x : Tables). CarriesOutSqueeze (store_of s.disks x) (store_in new)) same squeezed.steps);
+      search = inr (
+        no_way t u c.args.key none,
+        subst (λ (x : Tables). CarriesOutSqueeze (store_of s.disks x) (store_in new))
+            same squeezed.steps,
+      );
       stays = record {
         ready = squeezed.stays.ready;
         units = subst (λ (x : Tables). SameUnits x new.book) same squeezed.stays.units;
@@ -99,12 +109,17 @@ returns-in-None-squeeze g c =
     record {
       leads = tt;
       way = squeezed.none;
-      prepared = inr (inr (no_way t u c.args.key none, subst (λ (x : Tables). HasBegunSqueeze x new.book) same squeezed.begun));
+      prepared = inr
+          (inr (no_way t u c.args.key none, subst (λ (x : Tables). HasBegunSqueeze x new.book) same squeezed.begun));
       zeros = tt;
       home = still ∙ sym none.unplaced;
       free = λ sound. absurd (sound squeezed.none);
       stand = subst (λ (x : Tables). AllStand (store_of s.disks x) (store_in new)) same squeezed.stand;
-      search = inr (no_way t u c.args.key none, subst (λ (x : Tables). CarriesOutSqueeze (store_of s.disks x) (store_in new)) same squeezed.steps);
+      search = inr (
+        no_way t u c.args.key none,
+        subst (λ (x : Tables). CarriesOutSqueeze (store_of s.disks x) (store_in new))
+            same squeezed.steps,
+      );
       stays = record {
         ready = squeezed.stays.ready;
         units = subst (λ (x : Tables). SameUnits x new.book) same squeezed.stays.units;

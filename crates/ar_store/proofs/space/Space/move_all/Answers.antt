@@ -29,8 +29,10 @@ pub unreachable-requires : goal.unreachable-requires
 unreachable-requires g c =
     let t = c.args.self.now.book in
     let now = c.loop-slot.invariant.squeezing in
-    let end = slots_end c.rows-slot-end.result c.geometry.result t.geometry c.rows-slot-end.ensures (c.geometry.ensures ∙ sym c.requires.ready.space.geometry) in
-    let names = move_next t c.loop-slot.self.book c.args.from c.args.to c.loop-slot.slot c.requires.can now.moving (omega arith) in
+    let end = slots_end c.rows-slot-end.result c.geometry.result t.geometry c.rows-slot-end.ensures (c.geometry.ensures
+    ∙ sym c.requires.ready.space.geometry) in
+    let names = move_next t c.loop-slot.self.book c.args.from c.args.to c.loop-slot.slot c.requires.can now.moving
+    (omega arith) in
     none_not_some c.key_at.result (subst (λ (o : Option Key). IsSome o) (sym c.key_at.ensures) names) c.in_default.is
 
 pub move_block-requires : goal.move_block-requires
@@ -39,13 +41,16 @@ move_block-requires g c =
     let u = c.loop-slot.self.book in
     let so_far = c.loop-slot.invariant in
     let now = so_far.squeezing in
-    let end = slots_end c.rows-slot-end.result c.geometry.result t.geometry c.rows-slot-end.ensures (c.geometry.ensures ∙ sym c.requires.ready.space.geometry) in
+    let end = slots_end c.rows-slot-end.result c.geometry.result t.geometry c.rows-slot-end.ensures (c.geometry.ensures
+    ∙ sym c.requires.ready.space.geometry) in
     let names = sym c.key_at.ensures ∙ c.in-Some.is in
     let ok = now.stays.ready.space.tables in
     record {
       ready = now.stays.ready;
-      placed = some_is (home u c.in-Some.key) (slot_at c.args.from c.loop-slot.slot) (key_home u ok (slot_at c.args.from c.loop-slot.slot) c.in-Some.key names);
-      hole = move_vacant t u c.args.from c.args.to c.loop-slot.slot c.in-Some.key c.requires.ready.space.tables ok c.requires.can now.moving (omega arith) names;
+      placed = some_is (home u c.in-Some.key) (slot_at c.args.from c.loop-slot.slot)
+          (key_home u ok (slot_at c.args.from c.loop-slot.slot) c.in-Some.key names);
+      hole = move_vacant t u c.args.from c.args.to c.loop-slot.slot c.in-Some.key c.requires.ready.space.tables ok
+          c.requires.can now.moving (omega arith) names;
       whole = so_far.whole ∙ c.requires.whole ∙ ap block_len_of (sym now.stays.accessed.follows.geometry);
     }
 
@@ -55,21 +60,27 @@ loop-slot-preserved g c =
     let so_far = c.loop-slot.invariant in
     let moved = c.move_block.ensures in
     let new = c.move_block.new.self in
-    let end = slots_end c.rows-slot-end.result c.geometry.result t.geometry c.rows-slot-end.ensures (c.geometry.ensures ∙ sym c.requires.ready.space.geometry) in
+    let end = slots_end c.rows-slot-end.result c.geometry.result t.geometry c.rows-slot-end.ensures (c.geometry.ensures
+    ∙ sym c.requires.ready.space.geometry) in
     let names = sym c.key_at.ensures ∙ c.in-Some.is in
-    let next = squeezing_then c.args.self.now c.loop-slot.self new c.args.from c.args.to c.loop-slot.slot c.in-Some.key c.requires.ready c.requires.can
+    let next = squeezing_then c.args.self.now c.loop-slot.self new c.args.from c.args.to c.loop-slot.slot c.in-Some.key
+    c.requires.ready c.requires.can
     so_far.squeezing (omega arith) names (moved.moved c.in-Done.is) moved.stand moved.stays
     (done_sound new.disks.health (sym c.in-Done.is ∙ moved.outcome)) in
     record {
       squeezing = next;
-      copies = copies_then (members_of (store_in c.args.self.now) c.args.from) (members_of (store_in c.args.self.now) c.args.to) c.loop-slot.slot
+      copies = copies_then (members_of (store_in c.args.self.now) c.args.from)
+          (members_of (store_in c.args.self.now) c.args.to) c.loop-slot.slot
           c.args.self.now.disks c.loop-slot.self.disks new.disks so_far.copies
-          (step_copy c.args.self.now c.loop-slot.self new c.args.from c.args.to c.loop-slot.slot c.in-Some.key so_far.squeezing (omega arith)
+          (step_copy c.args.self.now c.loop-slot.self new c.args.from c.args.to c.loop-slot.slot c.in-Some.key
+          so_far.squeezing (omega arith)
           names moved.plan next c.requires.can.to_there (moved.holds c.in-Done.is) moved.beside)
           (done_sound new.disks.health (sym c.in-Done.is ∙ moved.outcome));
       zeros = λ filled.
-          zeros_later (store_in c.loop-slot.self) (store_in new) (slot_at c.args.to c.loop-slot.slot) so_far.squeezing.stays.ready.space
-          (subst (λ n. c.args.to < n) (sym so_far.squeezing.moving.units.groups) c.requires.can.to_there) so_far.squeezing.moving.opened
+          zeros_later (store_in c.loop-slot.self) (store_in new) (slot_at c.args.to c.loop-slot.slot)
+          so_far.squeezing.stays.ready.space
+          (subst (λ n. c.args.to < n) (sym so_far.squeezing.moving.units.groups) c.requires.can.to_there)
+          so_far.squeezing.moving.opened
           moved.stays.accessed.follows moved.beside (so_far.zeros filled);
       whole = moved.len ∙ so_far.whole;
     }
@@ -80,7 +91,8 @@ returns-in-Broken g c =
     let now = so_far.squeezing in
     let moved = c.move_block.ensures in
     let t = c.args.self.now.book in
-    let end = slots_end c.rows-slot-end.result c.geometry.result t.geometry c.rows-slot-end.ensures (c.geometry.ensures ∙ sym c.requires.ready.space.geometry) in
+    let end = slots_end c.rows-slot-end.result c.geometry.result t.geometry c.rows-slot-end.ensures (c.geometry.ensures
+    ∙ sym c.requires.ready.space.geometry) in
     record {
       outcome = sym c.in-Broken.is ∙ moved.outcome;
       moved = λ done. absurd (done_not_broken (sym done));
@@ -102,7 +114,8 @@ returns-in-Broken g c =
               copies = so_far.copies;
               rest = inr (record {
                 below = omega arith;
-                plan = step_plan c.args.self.now c.loop-slot.self c.move_block.new.self c.args.from c.args.to c.loop-slot.slot c.in-Some.key now (omega arith)
+                plan = step_plan c.args.self.now c.loop-slot.self c.move_block.new.self c.args.from c.args.to
+                    c.loop-slot.slot c.in-Some.key now (omega arith)
                     (sym c.key_at.ensures ∙ c.in-Some.is) moved.plan;
                 sound = now.sound;
                 broken = broken;
@@ -119,7 +132,8 @@ returns g c =
     let u = c.loop-slot.self.book in
     let so_far = c.loop-slot.invariant in
     let now = so_far.squeezing in
-    let end = slots_end c.rows-slot-end.result c.geometry.result t.geometry c.rows-slot-end.ensures (c.geometry.ensures ∙ sym c.requires.ready.space.geometry) in
+    let end = slots_end c.rows-slot-end.result c.geometry.result t.geometry c.rows-slot-end.ensures (c.geometry.ensures
+    ∙ sym c.requires.ready.space.geometry) in
     let all : c.loop-slot.slot ≡ slots_of t.geometry Mirrored = omega arith in
     record {
       outcome = sym (sound_done c.loop-slot.self.disks.health now.sound);
@@ -134,7 +148,13 @@ returns g c =
       turns = record {
         moved = c.loop-slot.slot;
         tables = record { within = omega arith; tables = now.moving.tables };
-        copies = record { within = omega arith; whole = λ _. all; counted = c.loop-slot.self.disks; copies = so_far.copies; rest = inl refl };
+        copies = record {
+          within = omega arith;
+          whole = λ _. all;
+          counted = c.loop-slot.self.disks;
+          copies = so_far.copies;
+          rest = inl refl;
+        };
       };
       stays = now.stays;
       len = so_far.whole;

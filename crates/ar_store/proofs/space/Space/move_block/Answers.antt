@@ -59,17 +59,21 @@ returns-in-Done g c =
       moved = λ done. fill.filled done ∙ ap (λ (x : Tables). assigned x c.args.key c.args.to) read.book;
       unmoved = λ broke. fill.unfilled broke ∙ read.book;
       free = subst (λ (x : Tables). free_groups x ≤ free_groups new.book) read.book fill.free;
-      stand = moved_stand (store_in s) (store_in mid) (store_in new) c.args.key c.in-Some.from c.read_at.new.into c.requires.ready.space
-          (sym c.home.ensures ∙ c.in-Some.is) read.stays.accessed.follows fill.stays.accessed.follows read.stand c.in-Done.ensures.given
+      stand = moved_stand (store_in s) (store_in mid) (store_in new) c.args.key c.in-Some.from c.read_at.new.into
+          c.requires.ready.space
+          (sym c.home.ensures ∙ c.in-Some.is) read.stays.accessed.follows fill.stays.accessed.follows read.stand
+          c.in-Done.ensures.given
           (λ sound. fill.here (fill.outcome ∙ sound_done new.disks.health sound)) fill.others;
-      beside = beside_then s.disks mid.disks s.book mid.book (store_in new) c.args.to read.book read.stays.accessed.follows read.keeps fill.beside;
+      beside = beside_then s.disks mid.disks s.book mid.book (store_in new) c.args.to read.book
+          read.stays.accessed.follows read.keeps fill.beside;
       holds = λ _ at held placed has.
           let is = same_Some c.in-Some.from at (sym (sym c.home.ensures ∙ c.in-Some.is) ∙ placed) in
           let P : Slot → Type 0 = λ x. SlotHolds (store_in s) x held in
           let R : Tables → Type 0 = λ x. SlotHolds (store_of new.disks x) c.args.to c.read_at.new.into in
           let S : List ℕ → Type 0 = λ bytes. SlotHolds (store_of new.disks s.book) c.args.to bytes in
           subst S (c.in-Done.ensures.given held (subst P (sym is) has)) (subst R read.book fill.holds);
-      plan = moved_by (store_in s) (store_in mid) new.disks c.args.key c.in-Some.from c.args.to (sym c.home.ensures ∙ c.in-Some.is) read.book
+      plan = moved_by (store_in s) (store_in mid) new.disks c.args.key c.in-Some.from c.args.to (sym c.home.ensures
+          ∙ c.in-Some.is) read.book
           read.stays.accessed.follows.geometry read.plan fill.writes.plan;
       stays = stays_then s mid new read.stays fill.stays;
       len = length-refilled c.args.block.now c.read_at.new.into;
@@ -85,9 +89,11 @@ returns-in-Broken g c =
       unmoved = λ _. read.book;
       free = same_free c.args.self.now.book mid.book read.book;
       stand = read.stand;
-      beside = beside_read c.args.self.now.disks mid.disks c.args.self.now.book mid.book c.args.to read.book read.stays.accessed.follows read.keeps;
+      beside = beside_read c.args.self.now.disks mid.disks c.args.self.now.book mid.book c.args.to read.book
+          read.stays.accessed.follows read.keeps;
       holds = λ done. absurd (done_not_broken (sym done));
-      plan = moved_none (store_in c.args.self.now) (store_in mid) c.args.key c.in-Some.from c.args.to (sym c.home.ensures ∙ c.in-Some.is)
+      plan = moved_none (store_in c.args.self.now) (store_in mid) c.args.key c.in-Some.from c.args.to
+          (sym c.home.ensures ∙ c.in-Some.is)
           (broken_is mid.disks.health (sym c.in-Broken.is ∙ read.outcome)) read.plan;
       stays = read.stays;
       len = length-refilled c.args.block.now c.read_at.new.into;

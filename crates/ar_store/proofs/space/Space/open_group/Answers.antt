@@ -13,7 +13,8 @@ use Rattle.ar_extents.specs.Plans.{stops, CarriesOut}
 use Rattle.ar_book.specs.declared.class.Class.{Class}
 use Rattle.ar_store.specs.Plans.{open_plan}
 use Rattle.ar_store.proofs.Planned.{opened_plan, only_opened}
-use Rattle.ar_store.proofs.Openings.{zeroed, opened_group, opened_there, opened_free, after_opening, class_mirrored, not_many, opened_not_broken, idle_not_broken}
+use Rattle.ar_store.proofs.Openings.{zeroed, opened_group, opened_there, opened_free, after_opening, class_mirrored}
+use Rattle.ar_store.proofs.Openings.{not_many, opened_not_broken, idle_not_broken}
 use Rattle.ar_store.proofs.Fills.{accessed_refl, accessed_work}
 use Rattle.ar_store.proofs.space.Space.open_group.Goals as goal
 
@@ -75,7 +76,8 @@ pub open_zero-requires : goal.open_zero-requires
 open_zero-requires g c =
     let opening = c.in-Some.ensures in
     record {
-      group = opened_group c.args.self.now.disks c.args.self.now.book c.open_group.new.self c.in-Some.group c.args.class c.members-members.result
+      group = opened_group c.args.self.now.disks c.args.self.now.book c.open_group.new.self c.in-Some.group c.args.class
+          c.members-members.result
           c.requires.ready.space opening.lowest opening.opened c.members-members.ensures;
       scratch = c.requires.ready.scratch;
     }
@@ -91,19 +93,29 @@ returns-in-Done g c =
     let answer = sym c.in-Done.is ∙ zero.outcome in
     let tables = opening.opened ∙ ap (λ x. opened s.book c.in-Some.group x) c.in-Parity.is in
     let access : IsAccessed s.disks b = accessed_work (IsMember c.members-members.result) s.disks b told.works in
-    let zeros = zeroed s.disks b s.book u c.in-Some.group c.members-members.result c.requires.ready.space opening.lowest tables c.members-members.ensures
+    let zeros = zeroed s.disks b s.book u c.in-Some.group c.members-members.result c.requires.ready.space opening.lowest
+    tables c.members-members.ensures
     access told.keeps zero.slots in
     record {
       opens = record { many = opening.when.0 refl; lowest = opening.lowest; tables = opening.opened };
-      answer = (λ broke. absurd (opened_not_broken c.in-Some.group broke), λ broken. absurd (done_sound b.health answer broken));
+      answer = (
+        λ broke. absurd (opened_not_broken c.in-Some.group broke),
+        λ broken. absurd (done_sound b.health answer broken),
+      );
       parity = λ _. zeros.zeros_in;
-      free = λ _. opened_free s.book u c.in-Some.group c.args.class c.requires.ready.space.tables opening.lowest (opening.when.0 refl) c.requires.class opening.opened;
+      free = λ _. opened_free s.book u c.in-Some.group c.args.class c.requires.ready.space.tables opening.lowest
+          (opening.when.0 refl) c.requires.class opening.opened;
       stand = zeros.stand;
       plan = λ group many lowest.
           only_opened (store_in s) b c.args.class c.in-Some.group c.in-Parity.is opening.lowest
-          (opened_plan s.disks b s.book u c.in-Some.group c.args.class c.members-members.result opening.opened c.members-members.ensures zero.plan) group lowest;
+          (opened_plan s.disks b s.book u c.in-Some.group c.args.class c.members-members.result opening.opened
+          c.members-members.ensures zero.plan) group lowest;
       stays = record {
-        ready = record { space = zeros.space; scratch = zero.scratch ∙ c.requires.ready.scratch ∙ sym told.works.follows.geometry };
+        ready = record {
+          space = zeros.space;
+          scratch = zero.scratch ∙ c.requires.ready.scratch
+              ∙ sym told.works.follows.geometry;
+        };
         units = zeros.units;
         accessed = access;
       };
@@ -120,22 +132,30 @@ returns-in-Broken g c =
     let broken = broken_is b.health (sym c.in-Broken.is ∙ zero.outcome) in
     let tables = opening.opened ∙ ap (λ x. opened s.book c.in-Some.group x) c.in-Parity.is in
     let access : IsAccessed s.disks b = accessed_work (IsMember c.members-members.result) s.disks b told.works in
-    let zeros = zeroed s.disks b s.book u c.in-Some.group c.members-members.result c.requires.ready.space opening.lowest tables c.members-members.ensures
+    let zeros = zeroed s.disks b s.book u c.in-Some.group c.members-members.result c.requires.ready.space opening.lowest
+    tables c.members-members.ensures
     access told.keeps zero.slots in
     record {
       opens = record {
         broken = broken;
-        tables = inr (c.in-Some.group, record { many = opening.when.0 refl; lowest = opening.lowest; tables = opening.opened });
+        tables = inr
+            (c.in-Some.group, record { many = opening.when.0 refl; lowest = opening.lowest; tables = opening.opened });
       };
       answer = (λ _. broken, λ _. refl);
       parity = λ _. tt;
-      free = λ _. opened_free s.book u c.in-Some.group c.args.class c.requires.ready.space.tables opening.lowest (opening.when.0 refl) c.requires.class opening.opened;
+      free = λ _. opened_free s.book u c.in-Some.group c.args.class c.requires.ready.space.tables opening.lowest
+          (opening.when.0 refl) c.requires.class opening.opened;
       stand = zeros.stand;
       plan = λ group many lowest.
           only_opened (store_in s) b c.args.class c.in-Some.group c.in-Parity.is opening.lowest
-          (opened_plan s.disks b s.book u c.in-Some.group c.args.class c.members-members.result opening.opened c.members-members.ensures zero.plan) group lowest;
+          (opened_plan s.disks b s.book u c.in-Some.group c.args.class c.members-members.result opening.opened
+          c.members-members.ensures zero.plan) group lowest;
       stays = record {
-        ready = record { space = zeros.space; scratch = zero.scratch ∙ c.requires.ready.scratch ∙ sym told.works.follows.geometry };
+        ready = record {
+          space = zeros.space;
+          scratch = zero.scratch ∙ c.requires.ready.scratch
+              ∙ sym told.works.follows.geometry;
+        };
         units = zeros.units;
         accessed = access;
       };

@@ -12,13 +12,15 @@ use Rattle.ar_store.proofs.space.Space.open_last.Goals as goal
 pub members-members-requires : goal.members-members-requires
 members-members-requires g c =
     let opening = c.open_last-group.ensures in
-    opened_there c.args.self.now.book c.open_last-group.new.self c.open_last-group.result Parity opening.lowest opening.opened
+    opened_there c.args.self.now.book c.open_last-group.new.self c.open_last-group.result Parity opening.lowest
+    opening.opened
 
 pub open_zero-requires : goal.open_zero-requires
 open_zero-requires g c =
     let opening = c.open_last-group.ensures in
     record {
-      group = opened_group c.args.self.now.disks c.args.self.now.book c.open_last-group.new.self c.open_last-group.result Parity c.members-members.result
+      group = opened_group c.args.self.now.disks c.args.self.now.book c.open_last-group.new.self
+          c.open_last-group.result Parity c.members-members.result
           c.requires.ready.space opening.lowest opening.opened c.members-members.ensures;
       scratch = c.requires.ready.scratch;
     }
@@ -31,17 +33,23 @@ returns g c =
     let zero = c.open_zero.ensures in
     let told = stripes_told c.members-members.result 0 (rows_of s.disks.geometry) s.disks b zero.plan in
     let access : IsAccessed s.disks b = accessed_work (IsMember c.members-members.result) s.disks b told.works in
-    let zeros = zeroed s.disks b s.book c.open_last-group.new.self c.open_last-group.result c.members-members.result c.requires.ready.space opening.lowest
+    let zeros = zeroed s.disks b s.book c.open_last-group.new.self c.open_last-group.result c.members-members.result
+    c.requires.ready.space opening.lowest
     opening.opened c.members-members.ensures access told.keeps zero.slots in
     record {
       lowest = opening.lowest;
       opened = opening.opened;
       zeros = zeros.zeros_in;
       stand = zeros.stand;
-      plan = opened_plan s.disks b s.book c.open_last-group.new.self c.open_last-group.result Parity c.members-members.result opening.opened
+      plan = opened_plan s.disks b s.book c.open_last-group.new.self c.open_last-group.result Parity
+          c.members-members.result opening.opened
           c.members-members.ensures zero.plan;
       stays = record {
-        ready = record { space = zeros.space; scratch = zero.scratch ∙ c.requires.ready.scratch ∙ sym told.works.follows.geometry };
+        ready = record {
+          space = zeros.space;
+          scratch = zero.scratch ∙ c.requires.ready.scratch
+              ∙ sym told.works.follows.geometry;
+        };
         units = zeros.units;
         accessed = access;
       };

@@ -7,7 +7,8 @@ use Rattle.ar_store.specs.Slots.{OtherSlotsHold, BesideHold, SlotHolds}
 use Rattle.ar_store.specs.Placing.{IsVacant, put_in}
 use Rattle.ar_store.specs.Kept.{IsSpace}
 use Rattle.ar_store.specs.Spaces.{store_in}
-use Rattle.ar_store.proofs.Fills.{filled, beside_filled, beside_same, stamped_then, none_stands, done_not_broken, same_free}
+use Rattle.ar_store.proofs.Fills.{filled, beside_filled, beside_same, stamped_then, none_stands, done_not_broken}
+use Rattle.ar_store.proofs.Fills.{same_free}
 use Rattle.ar_store.proofs.Zeros.{beside_hold_stamped}
 use Rattle.ar_store.proofs.space.Space.put_in.Goals as goal
 
@@ -18,7 +19,11 @@ pub place-requires : goal.place-requires
 place-requires g c =
     let same = sym c.write_at.ensures.book in
     let vacant = subst (λ (x : Tables). IsVacant x c.args.vacant) same c.requires.hole in
-    record { block = subst (λ (x : Tables). HasBlock x c.args.key) same c.requires.block; slot = vacant.there; empty = vacant.empty }
+    record {
+      block = subst (λ (x : Tables). HasBlock x c.args.key) same c.requires.block;
+      slot = vacant.there;
+      empty = vacant.empty;
+    }
 
 pub returns-in-Done : goal.returns-in-Done
 returns-in-Done g c =
@@ -30,10 +35,12 @@ returns-in-Done g c =
     let now = ap (λ (x : Tables). store_of b x) wrote.book in
     let slots = subst (λ (x : StoreState). OtherSlotsHold (store_in s) x c.args.vacant) now wrote.others in
     let fills = filled s.disks b s.book t c.args.key c.args.vacant c.args.from.now c.requires.ready.space
-    (subst (λ (x : StoreState). IsSpace x) now wrote.stays.ready.space) c.requires.block c.requires.hole c.requires.whole wrote.stays.accessed slots
+    (subst (λ (x : StoreState). IsSpace x) now wrote.stays.ready.space) c.requires.block c.requires.hole
+    c.requires.whole wrote.stays.accessed slots
     (subst (λ (x : StoreState). SlotHolds x c.args.vacant c.args.from.now) now wrote.here) refl in
     let tables = c.place.ensures.placed ∙ ap (λ (x : Tables). put_in x c.args.key c.args.vacant) wrote.book in
-    let stamps = stamped_then (store_in s) b s.book t c.place.new.self c.args.key c.args.from.now fills.space c.requires.block
+    let stamps =
+    stamped_then (store_in s) b s.book t c.place.new.self c.args.key c.args.from.now fills.space c.requires.block
     fills.units (fills.here (done_sound b.health answer)) fills.others tables in
     record {
       outcome = answer;
@@ -44,7 +51,8 @@ returns-in-Done g c =
       others = stamps.others;
       beside = subst (λ (x : Tables). BesideHold (store_in s) (store_of b x) c.args.vacant) (sym tables)
           (beside_hold_stamped (store_in s) b t c.args.key c.args.vacant
-          (beside_filled s.disks b s.book t c.args.key c.args.vacant c.requires.ready.space c.requires.block c.requires.hole slots refl));
+          (beside_filled s.disks b s.book t c.args.key c.args.vacant c.requires.ready.space c.requires.block
+          c.requires.hole slots refl));
       writes = wrote.writes;
       stays = record {
         ready = record { space = stamps.space; scratch = wrote.stays.ready.scratch };

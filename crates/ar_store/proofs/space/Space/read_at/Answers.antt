@@ -13,7 +13,8 @@ use Rattle.ar_store.proofs.space.Space.read_at.Goals as goal
 
 pub unreachable-requires : goal.unreachable-requires
 unreachable-requires g c =
-    never_free (store_in c.args.self.now) c.args.slot c.members-members.result c.requires.ready.space c.requires.slot c.members-members.ensures
+    never_free (store_in c.args.self.now) c.args.slot c.members-members.result c.requires.ready.space c.requires.slot
+    c.members-members.ensures
     (sym c.in-Free.is ∙ c.class.ensures)
 
 pub get-requires : goal.get-requires
@@ -34,11 +35,13 @@ returns-in-Mirrored g c =
     let b = c.get.new.set in
     let read = c.get.ensures in
     let told = read_told m c.args.slot.slot s.disks b read.plan in
-    let access : IsAccessed s.disks b = accessed_work (IsInPair s.disks.geometry m c.args.slot.slot) s.disks b told.works in
+    let access : IsAccessed s.disks b =
+    accessed_work (IsInPair s.disks.geometry m c.args.slot.slot) s.disks b told.works in
     let leaves = read_leaves s.disks b s.book c.requires.ready.space access told.keeps in
     record {
       outcome = read.outcome;
-      given = given_in s c.args.slot m c.requires.ready.space c.requires.slot c.members-members.ensures Mirrored c.get.new.into c.get.result (sym c.in-Mirrored.is ∙ c.class.ensures)
+      given = given_in s c.args.slot m c.requires.ready.space c.requires.slot c.members-members.ensures Mirrored
+          c.get.new.into c.get.result (sym c.in-Mirrored.is ∙ c.class.ensures)
           (mirror_given s.disks b m c.args.slot.slot c.get.new.into c.get.result read.gives);
       book = refl;
       plan = read_in s c.args.slot m c.requires.ready.space c.requires.slot c.members-members.ensures Mirrored b
@@ -75,7 +78,8 @@ returns-in-Parity g c =
     let leaves = read_leaves s.disks b s.book c.requires.ready.space access told.keeps in
     record {
       outcome = read.outcome;
-      given = given_in s c.args.slot m c.requires.ready.space c.requires.slot c.members-members.ensures Parity c.get-in-Parity.new.into c.get-in-Parity.result
+      given = given_in s c.args.slot m c.requires.ready.space c.requires.slot c.members-members.ensures Parity
+          c.get-in-Parity.new.into c.get-in-Parity.result
           (sym c.in-Parity.is ∙ c.class.ensures) read.gives;
       book = refl;
       plan = read_in s c.args.slot m c.requires.ready.space c.requires.slot c.members-members.ensures Parity b
@@ -83,7 +87,11 @@ returns-in-Parity g c =
       keeps = told.keeps;
       stand = leaves.stand;
       stays = record {
-        ready = record { space = leaves.space; scratch = read.scratch ∙ c.requires.ready.scratch ∙ sym told.works.follows.geometry };
+        ready = record {
+          space = leaves.space;
+          scratch = read.scratch ∙ c.requires.ready.scratch
+              ∙ sym told.works.follows.geometry;
+        };
         units = units_refl s.book;
         accessed = access;
       };

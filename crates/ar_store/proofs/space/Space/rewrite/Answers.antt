@@ -29,11 +29,14 @@ returns-in-Done g c =
     let answer = sym c.in-Done.is ∙ wrote.outcome in
     let now = ap (λ (x : Tables). store_of b x) wrote.book in
     let space = subst (λ (x : StoreState). IsSpace x) now wrote.stays.ready.space in
-    let writes = rewritten s.disks b s.book c.args.key c.args.slot c.args.from.now c.requires.ready.space space c.requires.home wrote.stays.accessed.follows
+    let writes =
+    rewritten s.disks b s.book c.args.key c.args.slot c.args.from.now c.requires.ready.space space c.requires.home
+    wrote.stays.accessed.follows
     (subst (λ (x : StoreState). OtherSlotsHold (store_in s) x c.args.slot) now wrote.others)
     (subst (λ (x : StoreState). SlotHolds x c.args.slot c.args.from.now) now wrote.here) in
     let tables = c.stamp.ensures.stamped ∙ ap (λ (x : Tables). stamped x c.args.key) wrote.book in
-    let stamps = stamped_then (store_in s) b s.book s.book c.stamp.new.self c.args.key c.args.from.now space c.requires.block
+    let stamps =
+    stamped_then (store_in s) b s.book s.book c.stamp.new.self c.args.key c.args.from.now space c.requires.block
     (units_refl s.book) (writes.here (done_sound b.health answer)) writes.others tables in
     record {
       outcome = answer;

@@ -50,12 +50,14 @@ returns-in-Done g c =
     let moved = c.move_all.ensures in
     let both = stays_then s mid new opening.stays moved.stays in
     record {
-      squeezed = squeezed_is t mid.book new.book from to (2 * c.rows.result) c.full_mirrored-from.ensures.full opening.lowest opening.opened
+      squeezed = squeezed_is t mid.book new.book from to (2 * c.rows.result) c.full_mirrored-from.ensures.full
+          opening.lowest opening.opened
           (moved.moved c.in-Done.is)
           (slots_end c.rows.result c.geometry.result t.geometry c.rows.ensures
           (c.geometry.ensures ∙ both.accessed.follows.geometry ∙ sym c.requires.ready.space.geometry))
           (moved.hole c.in-Done.is);
-      free = free_counted new.book from both.ready.space.tables (subst (λ n. from < n) (sym both.units.groups) c.full_mirrored-from.ensures.full.there)
+      free = free_counted new.book from both.ready.space.tables
+          (subst (λ n. from < n) (sym both.units.groups) c.full_mirrored-from.ensures.full.there)
           (moved.emptied c.in-Done.is);
       zeros =
           (let slot = slots_end c.rows.result c.geometry.result t.geometry c.rows.ensures
@@ -63,17 +65,25 @@ returns-in-Done g c =
           let same : mid.book.geometry ≡ t.geometry = ap (λ (x : Tables). x.geometry) opening.opened in
           record {
             parity = moved.opened c.in-Done.is;
-            zeros = subst (λ n. HoldsZerosFrom (store_in new) to n) (ap (λ (g : Geometry). slots_of g Mirrored) same ∙ sym slot)
+            zeros = subst (λ n. HoldsZerosFrom (store_in new) to n) (ap (λ (g : Geometry). slots_of g Mirrored) same
+                ∙ sym slot)
                 (moved.zeros c.in-Done.is opening.zeros);
           });
       none = tt;
-      begun = begun_squeeze t mid.book new.book from to moved.turns.moved c.full_mirrored-from.ensures.full opening.lowest opening.opened moved.turns.tables;
+      begun = begun_squeeze t mid.book new.book from to moved.turns.moved c.full_mirrored-from.ensures.full
+          opening.lowest opening.opened moved.turns.tables;
       unplaced = λ k is. moved.unplaced k (homes_opened t mid.book to k opening.opened is);
       stand = all_then s mid new moved.stays opening.stand moved.stand;
-      steps = only_squeeze (store_in s) (store_in new) c.full_mirrored-from.result c.open_last-to.result c.full_mirrored-from.ensures.full opening.lowest
-          (squeezes (store_in s) (store_in mid) (store_in new) c.full_mirrored-from.result c.open_last-to.result opening.opened opening.lowest.there
+      steps = only_squeeze (store_in s) (store_in new) c.full_mirrored-from.result c.open_last-to.result
+          c.full_mirrored-from.ensures.full opening.lowest
+          (squeezes (store_in s) (store_in mid) (store_in new) c.full_mirrored-from.result c.open_last-to.result
+          opening.opened opening.lowest.there
           opening.plan opening.zeros moved.turns);
-      stays = record { ready = record { space = both.ready.space; scratch = both.ready.scratch }; units = both.units; accessed = both.accessed };
+      stays = record {
+        ready = record { space = both.ready.space; scratch = both.ready.scratch };
+        units = both.units;
+        accessed = both.accessed;
+      };
       len = moved.len;
     }
 
@@ -89,12 +99,15 @@ returns-in-Broken-move_all g c =
       free = tt;
       zeros = tt;
       none = broken_is new.disks.health (sym c.in-Broken-move_all.is ∙ moved.outcome);
-      begun = begun_squeeze s.book mid.book new.book c.full_mirrored-from.result c.open_last-to.result moved.turns.moved c.full_mirrored-from.ensures.full
+      begun = begun_squeeze s.book mid.book new.book c.full_mirrored-from.result c.open_last-to.result moved.turns.moved
+          c.full_mirrored-from.ensures.full
           opening.lowest opening.opened moved.turns.tables;
       unplaced = λ k is. moved.unplaced k (homes_opened s.book mid.book c.open_last-to.result k opening.opened is);
       stand = all_then s mid new moved.stays opening.stand moved.stand;
-      steps = only_squeeze (store_in s) (store_in new) c.full_mirrored-from.result c.open_last-to.result c.full_mirrored-from.ensures.full opening.lowest
-          (squeezes (store_in s) (store_in mid) (store_in new) c.full_mirrored-from.result c.open_last-to.result opening.opened opening.lowest.there
+      steps = only_squeeze (store_in s) (store_in new) c.full_mirrored-from.result c.open_last-to.result
+          c.full_mirrored-from.ensures.full opening.lowest
+          (squeezes (store_in s) (store_in mid) (store_in new) c.full_mirrored-from.result c.open_last-to.result
+          opening.opened opening.lowest.there
           opening.plan opening.zeros moved.turns);
       stays = stays_then s mid new opening.stays moved.stays;
       len = moved.len;
@@ -116,11 +129,14 @@ returns-in-Broken g c =
         moved = 0;
         moves = record { within = omega arith; tables = opening.opened };
       };
-      unplaced = λ k is. homes_opened c.args.self.now.book c.open_last-to.new.self.book c.open_last-to.result k opening.opened is;
+      unplaced = λ k is. homes_opened c.args.self.now.book c.open_last-to.new.self.book c.open_last-to.result k
+          opening.opened is;
       stand = opening.stand;
-      steps = only_squeeze (store_in c.args.self.now) (store_in c.open_last-to.new.self) c.full_mirrored-from.result c.open_last-to.result
+      steps = only_squeeze (store_in c.args.self.now) (store_in c.open_last-to.new.self) c.full_mirrored-from.result
+          c.open_last-to.result
           c.full_mirrored-from.ensures.full opening.lowest
-          (squeeze_cut (store_in c.args.self.now) (store_in c.open_last-to.new.self) c.full_mirrored-from.result c.open_last-to.result opening.opened
+          (squeeze_cut (store_in c.args.self.now) (store_in c.open_last-to.new.self) c.full_mirrored-from.result
+          c.open_last-to.result opening.opened
           opening.plan (sym c.health.ensures.same ∙ c.in-Broken.is));
       stays = opening.stays;
       len = refl;

@@ -23,13 +23,16 @@ returns-in-Home g c =
     let wrote = c.rewrite.ensures in
     record {
       outcome = wrote.outcome;
-      tables = λ done. wrote.tables done ∙ ap (λ (w : Way). stamped (placed_by c.args.self.now.book c.args.key w) c.args.key) (sym c.in-Home.is);
+      tables = λ done. wrote.tables done
+          ∙ ap (λ (w : Way). stamped (placed_by c.args.self.now.book c.args.key w) c.args.key) (sym c.in-Home.is);
       unwritten = wrote.unwritten;
       free = wrote.free;
       here = wrote.here;
       others = wrote.others;
-      beside = subst (λ (w : Way). BesideWay w (store_in c.args.self.now) (store_in c.rewrite.new.self)) (sym c.in-Home.is) tt;
-      writes = subst (λ (w : Way). WritesWay w (store_in c.args.self.now) (store_in c.rewrite.new.self)) (sym c.in-Home.is) wrote.writes;
+      beside = subst (λ (w : Way). BesideWay w (store_in c.args.self.now) (store_in c.rewrite.new.self))
+          (sym c.in-Home.is) tt;
+      writes = subst (λ (w : Way). WritesWay w (store_in c.args.self.now) (store_in c.rewrite.new.self))
+          (sym c.in-Home.is) wrote.writes;
       stays = wrote.stays;
     }
 
@@ -46,13 +49,16 @@ returns-in-Hole g c =
     let wrote = c.put_in.ensures in
     record {
       outcome = wrote.outcome;
-      tables = λ done. wrote.tables done ∙ ap (λ (w : Way). stamped (placed_by c.args.self.now.book c.args.key w) c.args.key) (sym c.in-Hole.is);
+      tables = λ done. wrote.tables done
+          ∙ ap (λ (w : Way). stamped (placed_by c.args.self.now.book c.args.key w) c.args.key) (sym c.in-Hole.is);
       unwritten = wrote.unwritten;
       free = wrote.free;
       here = wrote.here;
       others = wrote.others;
-      beside = subst (λ (w : Way). BesideWay w (store_in c.args.self.now) (store_in c.put_in.new.self)) (sym c.in-Hole.is) wrote.beside;
-      writes = subst (λ (w : Way). WritesWay w (store_in c.args.self.now) (store_in c.put_in.new.self)) (sym c.in-Hole.is) wrote.writes;
+      beside = subst (λ (w : Way). BesideWay w (store_in c.args.self.now) (store_in c.put_in.new.self))
+          (sym c.in-Hole.is) wrote.beside;
+      writes = subst (λ (w : Way). WritesWay w (store_in c.args.self.now) (store_in c.put_in.new.self))
+          (sym c.in-Hole.is) wrote.writes;
       stays = wrote.stays;
     }
 

@@ -14,7 +14,8 @@ use Rattle.ar_store.proofs.space.Space.write_at.Goals as goal
 
 pub unreachable-requires : goal.unreachable-requires
 unreachable-requires g c =
-    never_free (store_in c.args.self.now) c.args.slot c.members-members.result c.requires.ready.space c.requires.slot c.members-members.ensures
+    never_free (store_in c.args.self.now) c.args.slot c.members-members.result c.requires.ready.space c.requires.slot
+    c.members-members.ensures
     (sym c.in-Free.is ∙ c.class.ensures)
 
 pub put-requires : goal.put-requires
@@ -34,20 +35,26 @@ returns-in-Mirrored g c =
     let b = c.put.new.set in
     let put = c.put.ensures in
     let told = write_told c.members-members.result c.args.slot.slot s.disks b put.plan in
-    let access : IsAccessed s.disks b = accessed_work (IsInPair s.disks.geometry c.members-members.result c.args.slot.slot) s.disks b told.works in
-    let written = written_mirrored s c.args.slot c.members-members.result c.requires.ready.space c.requires.slot c.members-members.ensures b c.args.from.now
+    let access : IsAccessed s.disks b =
+    accessed_work (IsInPair s.disks.geometry c.members-members.result c.args.slot.slot) s.disks b told.works in
+    let written =
+    written_mirrored s c.args.slot c.members-members.result c.requires.ready.space c.requires.slot
+    c.members-members.ensures b c.args.from.now
     (sym c.in-Mirrored.is ∙ c.class.ensures) put.holds put.slots told.keeps in
     record {
       outcome = put.outcome;
       here = written.here;
-      others = slots_written s.disks b s.book c.args.slot c.args.from.now c.requires.ready.space c.requires.slot told.works.follows written;
+      others = slots_written s.disks b s.book c.args.slot c.args.from.now c.requires.ready.space c.requires.slot
+          told.works.follows written;
       book = refl;
-      writes = wrote_in s c.args.slot c.members-members.result c.requires.ready.space c.requires.slot c.members-members.ensures Mirrored b
+      writes = wrote_in s c.args.slot c.members-members.result c.requires.ready.space c.requires.slot
+          c.members-members.ensures Mirrored b
           (sym c.in-Mirrored.is ∙ c.class.ensures)
           (record { plan = put.plan; beside = λ k block inside ne has. put.slots.slots k inside ne block has });
       stays = record {
         ready = record {
-          space = space_written s.disks b s.book c.args.slot c.args.from.now c.requires.ready.space c.requires.slot access c.requires.whole written;
+          space = space_written s.disks b s.book c.args.slot c.args.from.now c.requires.ready.space c.requires.slot
+              access c.requires.whole written;
           scratch = c.requires.ready.scratch ∙ sym told.works.follows.geometry;
         };
         units = units_refl s.book;
@@ -76,18 +83,24 @@ returns-in-Parity g c =
     let told = slot_told m c.args.slot.slot s.disks b put.plan in
     let keeps = slot_keeps m c.args.slot.slot s.disks b told in
     let access : IsAccessed s.disks b = accessed_work (IsMember c.members-members.result) s.disks b told.works in
-    let written = written_parity s c.args.slot c.members-members.result c.requires.ready.space c.requires.slot c.members-members.ensures b c.args.from.now
+    let written =
+    written_parity s c.args.slot c.members-members.result c.requires.ready.space c.requires.slot
+    c.members-members.ensures b c.args.from.now
     (sym c.in-Parity.is ∙ c.class.ensures) put.holds put.slots keeps in
     record {
       outcome = put.outcome;
       here = written.here;
-      others = slots_written s.disks b s.book c.args.slot c.args.from.now c.requires.ready.space c.requires.slot told.works.follows written;
+      others = slots_written s.disks b s.book c.args.slot c.args.from.now c.requires.ready.space c.requires.slot
+          told.works.follows written;
       book = refl;
-      writes = wrote_in s c.args.slot c.members-members.result c.requires.ready.space c.requires.slot c.members-members.ensures Parity b
-          (sym c.in-Parity.is ∙ c.class.ensures) (record { plan = put.plan; beside = λ k block inside ne has. put.slots k ne block has });
+      writes = wrote_in s c.args.slot c.members-members.result c.requires.ready.space c.requires.slot
+          c.members-members.ensures Parity b
+          (sym c.in-Parity.is ∙ c.class.ensures)
+          (record { plan = put.plan; beside = λ k block inside ne has. put.slots k ne block has });
       stays = record {
         ready = record {
-          space = space_written s.disks b s.book c.args.slot c.args.from.now c.requires.ready.space c.requires.slot access c.requires.whole written;
+          space = space_written s.disks b s.book c.args.slot c.args.from.now c.requires.ready.space c.requires.slot
+              access c.requires.whole written;
           scratch = put.scratch ∙ c.requires.ready.scratch ∙ sym told.works.follows.geometry;
         };
         units = units_refl s.book;

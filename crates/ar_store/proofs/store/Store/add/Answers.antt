@@ -14,9 +14,11 @@ invariant_of-self g c =
     let t = c.self.inside.space.book in
     let call = c.add.ensures in
     let disk = g.D.Disk.state c.args.disk in
-    after_failing c.add.result (λ (s : SetState). FieldsAgree (store_of s t) c.self.inside.block c.self.inside.space.scratch.geometry)
+    after_failing c.add.result
+    (λ (s : SetState). FieldsAgree (store_of s t) c.self.inside.block c.self.inside.space.scratch.geometry)
     a c.add.new.self (added a disk) call.added call.unchanged
-    (fields_added a disk t c.self.inside.block c.self.inside.space.scratch.geometry c.health-health.ensures.kept.tables c.self.invariant)
+    (fields_added a disk t c.self.inside.block c.self.inside.space.scratch.geometry c.health-health.ensures.kept.tables
+    c.self.invariant)
     c.self.invariant
 
 pub returns-clause-stands : goal.returns-clause-stands
@@ -26,5 +28,7 @@ returns-clause-stands g c =
     let call = c.add.ensures in
     let disk = g.D.Disk.state c.args.disk in
     subst (λ (s : StoreState). AllStand s (store_of c.add.new.self t)) c.self.view_is
-    (after_failing c.add.result (λ (s : SetState). AllStand (store_of a t) (store_of s t)) a c.add.new.self (added a disk)
-    call.added call.unchanged (all_added a disk t c.self.invariant.kept.space c.health-health.ensures.kept.tables) (record { blocks = λ sound k. refl }))
+    (after_failing c.add.result (λ (s : SetState). AllStand (store_of a t) (store_of s t)) a c.add.new.self
+    (added a disk)
+    call.added call.unchanged (all_added a disk t c.self.invariant.kept.space c.health-health.ensures.kept.tables)
+    (record { blocks = λ sound k. refl }))

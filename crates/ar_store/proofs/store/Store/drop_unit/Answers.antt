@@ -6,7 +6,8 @@ use Rattle.ar_disks.specs.Geometry.{block_len_of}
 use Rattle.ar_store.specs.Store.{StoreState, store_of}
 use Rattle.ar_store.specs.Slots.{stands}
 use Rattle.ar_store.specs.Kept.{FieldsAgree}
-use Rattle.ar_store.proofs.UnitChanges.{fields_same, space_dropped, free_dropped, others_dropped, own_after, after_call, on_ok}
+use Rattle.ar_store.proofs.UnitChanges.{fields_same, space_dropped, free_dropped, others_dropped, own_after, after_call}
+use Rattle.ar_store.proofs.UnitChanges.{on_ok}
 use Rattle.ar_store.proofs.store.Store.drop_unit.Goals as goal
 
 pub invariant_of-self : goal.invariant_of-self
@@ -15,7 +16,8 @@ invariant_of-self g c =
     let t = c.self.inside.space.book in
     let call = c.drop_unit.ensures in
     let space = c.self.invariant.kept.space in
-    after_call c.drop_unit.result (λ (u : Tables). FieldsAgree (store_of a u) c.self.inside.block c.self.inside.space.scratch.geometry)
+    after_call c.drop_unit.result
+    (λ (u : Tables). FieldsAgree (store_of a u) c.self.inside.block c.self.inside.space.scratch.geometry)
     (IsTrue (has_unit t c.args.addr)) t c.drop_unit.new.self (dropped t c.args.addr) call.dropped call.unchanged
     (on_ok c.drop_unit.result (IsTrue (has_unit t c.args.addr)) call.there.0)
     (λ there.
@@ -39,6 +41,7 @@ returns-clause-zeros g c = λ k own.
     let a = c.self.inside.space.disks in
     let t = c.self.inside.space.book in
     let call = c.drop_unit.ensures in
-    subst (λ (s : StoreState). stands (store_of a c.drop_unit.new.self) k ≡ zeros (block_len_of s.disks.geometry)) c.self.view_is
+    subst (λ (s : StoreState). stands (store_of a c.drop_unit.new.self) k ≡ zeros (block_len_of s.disks.geometry))
+    c.self.view_is
     (own_after c.drop_unit.result a t c.drop_unit.new.self c.args.addr c.self.invariant.kept.space
     call.there call.dropped call.unchanged k own)

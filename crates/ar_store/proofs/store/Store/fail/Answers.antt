@@ -12,7 +12,8 @@ invariant_of-self g c =
     let a = c.self.inside.space.disks in
     let t = c.self.inside.space.book in
     let call = c.fail.ensures in
-    after_failing c.fail.result (λ (s : SetState). FieldsAgree (store_of s t) c.self.inside.block c.self.inside.space.scratch.geometry)
+    after_failing c.fail.result
+    (λ (s : SetState). FieldsAgree (store_of s t) c.self.inside.block c.self.inside.space.scratch.geometry)
     a c.fail.new.self (failed a c.args.disk) call.failed call.unchanged
     (fields_failed a t c.args.disk c.self.inside.block c.self.inside.space.scratch.geometry c.self.invariant)
     c.self.invariant
@@ -23,5 +24,7 @@ returns-clause-stands g c =
     let t = c.self.inside.space.book in
     let call = c.fail.ensures in
     subst (λ (s : StoreState). AllStand s (store_of c.fail.new.self t)) c.self.view_is
-    (after_failing c.fail.result (λ (s : SetState). AllStand (store_of a t) (store_of s t)) a c.fail.new.self (failed a c.args.disk)
-    call.failed call.unchanged (all_failed a t c.args.disk c.self.invariant.kept.space) (record { blocks = λ sound k. refl }))
+    (after_failing c.fail.result (λ (s : SetState). AllStand (store_of a t) (store_of s t)) a c.fail.new.self
+    (failed a c.args.disk)
+    call.failed call.unchanged (all_failed a t c.args.disk c.self.invariant.kept.space)
+    (record { blocks = λ sound k. refl }))

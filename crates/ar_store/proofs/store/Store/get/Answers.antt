@@ -24,7 +24,8 @@ read_at-requires g c =
     let a = c.self.inside.space in
     record {
       ready = ready_in a c.self.inside.block c.self.invariant;
-      slot = home_slot a.book c.self.invariant.kept.space.tables c.args.key c.in-Some.slot (sym c.home.ensures ∙ c.in-Some.is);
+      slot = home_slot a.book c.self.invariant.kept.space.tables c.args.key c.in-Some.slot (sym c.home.ensures
+          ∙ c.in-Some.is);
       whole = c.requires.whole ∙ ap (λ (s : StoreState). block_len_of s.disks.geometry) (sym c.self.view_is);
     }
 
@@ -46,8 +47,10 @@ returns-in-Some g c =
     record {
       outcome = read.outcome;
       given = λ done.
-          given_stands c.args.self.now a.disks b.disks a.book c.args.key c.in-Some.slot c.read_at.new.into view c.self.invariant.kept.space is
-          read.stays.accessed.follows (done_sound b.disks.health (sym done ∙ read.outcome)) (given_done c.read_at.result _ done read.given);
+          given_stands c.args.self.now a.disks b.disks a.book c.args.key c.in-Some.slot c.read_at.new.into view
+          c.self.invariant.kept.space is
+          read.stays.accessed.follows (done_sound b.disks.health (sym done ∙ read.outcome))
+          (given_done c.read_at.result _ done read.given);
       plan = subst (λ (s : StoreState). CarriesOut (get_plan s c.args.key) s.disks b.disks) view
           (home_plan (store_in a) c.args.key c.in-Some.slot b.disks is read.plan);
       stands = subst (λ (s : StoreState). AllStand s (store_in b)) view read.stand;
@@ -58,12 +61,15 @@ pub returns-in-None : goal.returns-in-None
 returns-in-None g c =
     let s = c.args.self.now in
     let view = c.self.view_is in
-    let none : home s.book c.args.key ≡ None = ap (λ (x : StoreState). home x.book c.args.key) (sym view) ∙ sym c.home.ensures ∙ c.in-None.is in
-    let sound = λ (broken : s.disks.health ≡ Broken). c.in_default.not-Broken (c.health.ensures.same ∙ ap (λ (x : StoreState). x.disks.health) view ∙ broken) in
+    let none : home s.book c.args.key ≡ None =
+    ap (λ (x : StoreState). home x.book c.args.key) (sym view) ∙ sym c.home.ensures ∙ c.in-None.is in
+    let sound = λ (broken : s.disks.health ≡ Broken). c.in_default.not-Broken (c.health.ensures.same
+    ∙ ap (λ (x : StoreState). x.disks.health) view ∙ broken) in
     record {
       outcome = sym (sound_done s.disks.health sound);
       given = λ _. c.zero.ensures ∙ ap zeros c.requires.whole ∙ sym (stands_nowhere s c.args.key none);
-      plan = (let P : Option Slot → Type 0 = λ h. CarriesOut (home_read s h) s.disks s.disks in subst P (sym none) (stops s.disks));
+      plan = (let P : Option Slot → Type 0 = λ h. CarriesOut (home_read s h) s.disks s.disks in
+          subst P (sym none) (stops s.disks));
       stands = record { blocks = λ _ k. refl };
       book = refl;
     }
@@ -71,7 +77,8 @@ returns-in-None g c =
 pub returns-in-Broken : goal.returns-in-Broken
 returns-in-Broken g c =
     let s = c.args.self.now in
-    let broken = ap (λ (x : StoreState). x.disks.health) (sym c.self.view_is) ∙ sym c.health.ensures.same ∙ c.in-Broken.is in
+    let broken =
+    ap (λ (x : StoreState). x.disks.health) (sym c.self.view_is) ∙ sym c.health.ensures.same ∙ c.in-Broken.is in
     record {
       outcome = sym (ap outcome_of broken);
       given = λ done. absurd (done_not_broken (sym done));

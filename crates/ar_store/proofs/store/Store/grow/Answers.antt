@@ -13,11 +13,13 @@ invariant_of-self g c =
     let a = c.self.inside.space.disks in
     let t = c.self.inside.space.book in
     let call = c.grow.ensures in
-    after_call c.grow.result (λ (u : Tables). FieldsAgree (store_of a u) c.self.inside.block c.self.inside.space.scratch.geometry)
+    after_call c.grow.result
+    (λ (u : Tables). FieldsAgree (store_of a u) c.self.inside.block c.self.inside.space.scratch.geometry)
     (unit_grow_refusal t c.args.addr c.args.sectors ≡ None) t c.grow.new.self (grown t c.args.addr c.args.sectors)
     call.grown call.unchanged call.granted
     (λ granted.
-    fields_same a t (grown t c.args.addr c.args.sectors) c.self.inside.block c.self.inside.space.scratch.geometry c.self.invariant
+    fields_same a t (grown t c.args.addr c.args.sectors) c.self.inside.block c.self.inside.space.scratch.geometry
+    c.self.invariant
     (space_grown a t c.args.addr c.args.sectors c.self.invariant.kept.space granted) (omega arith))
     c.self.invariant
 

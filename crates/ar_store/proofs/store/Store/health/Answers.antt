@@ -14,4 +14,5 @@ returns-clause-redundant g c = λ whole d.
 pub returns-clause-whole : goal.returns-clause-whole
 returns-clause-whole g c = λ sound k.
     subst (λ (s : StoreState). length (stands s k) ≡ block_len_of s.disks.geometry) c.self.view_is
-    (stands_whole (store_in c.self.inside.space) k c.self.invariant.kept.space (λ broken. sound (c.health.ensures.same ∙ broken)))
+    (stands_whole (store_in c.self.inside.space) k c.self.invariant.kept.space
+    (λ broken. sound (c.health.ensures.same ∙ broken)))

@@ -13,11 +13,13 @@ invariant_of-self g c =
     let a = c.self.inside.space.disks in
     let t = c.self.inside.space.book in
     let call = c.make.ensures in
-    after_call c.make.result (λ (u : Tables). FieldsAgree (store_of a u) c.self.inside.block c.self.inside.space.scratch.geometry)
+    after_call c.make.result
+    (λ (u : Tables). FieldsAgree (store_of a u) c.self.inside.block c.self.inside.space.scratch.geometry)
     (unit_make_refusal t c.args.addr c.args.sectors ≡ None) t c.make.new.self (made t c.args.addr c.args.sectors)
     call.made call.unchanged call.granted
     (λ granted.
-    fields_same a t (made t c.args.addr c.args.sectors) c.self.inside.block c.self.inside.space.scratch.geometry c.self.invariant
+    fields_same a t (made t c.args.addr c.args.sectors) c.self.inside.block c.self.inside.space.scratch.geometry
+    c.self.invariant
     (space_made a t c.args.addr c.args.sectors c.self.invariant.kept.space granted) (omega arith))
     c.self.invariant
 

@@ -24,17 +24,20 @@ invariant_of-self g c =
     let a = c.self.inside.space in
     let b = c.move_block.new.self in
     let moved = c.move_block.ensures in
-    fields_stay a b c.self.inside.block c.move_block.new.block c.self.invariant moved.stays (free_then a b c.self.invariant.kept.free moved.stays moved.free) moved.len
+    fields_stay a b c.self.inside.block c.move_block.new.block c.self.invariant moved.stays
+    (free_then a b c.self.invariant.kept.free moved.stays moved.free) moved.len
 
 pub returns-clause-plan : goal.returns-clause-plan
 returns-clause-plan g c =
-    subst (λ (s : StoreState). CarriesOut (move_plan s c.args.key c.args.slot) s.disks c.move_block.new.self.disks) c.self.view_is
+    subst (λ (s : StoreState). CarriesOut (move_plan s c.args.key c.args.slot) s.disks c.move_block.new.self.disks)
+    c.self.view_is
     c.move_block.ensures.plan
 
 pub returns-in-Broken : goal.returns-in-Broken
 returns-in-Broken g c =
     let s = c.args.self.now in
-    let broken = ap (λ (x : StoreState). x.disks.health) (sym c.self.view_is) ∙ sym c.health.ensures.same ∙ c.in-Broken.is in
+    let broken =
+    ap (λ (x : StoreState). x.disks.health) (sym c.self.view_is) ∙ sym c.health.ensures.same ∙ c.in-Broken.is in
     record {
       outcome = sym (ap outcome_of broken);
       moved = λ done. absurd (done_not_broken (sym done));

@@ -20,18 +20,21 @@ invariant_of-self g c =
     let b = c.open_group.new.self in
     let opening = c.open_group.ensures in
     fields_stay a b c.self.inside.block c.self.inside.block c.self.invariant opening.stays
-    (λ sound. opening.free (c.self.invariant.kept.free (was_sound a.disks b.disks opening.stays.accessed.follows sound))) refl
+    (λ sound. opening.free
+    (c.self.invariant.kept.free (was_sound a.disks b.disks opening.stays.accessed.follows sound))) refl
 
 pub returns-in-Broken : goal.returns-in-Broken
 returns-in-Broken g c =
     let s = c.args.self.now in
-    let broken = ap (λ (x : StoreState). x.disks.health) (sym c.self.view_is) ∙ sym c.health.ensures.same ∙ c.in-Broken.is in
+    let broken =
+    ap (λ (x : StoreState). x.disks.health) (sym c.self.view_is) ∙ sym c.health.ensures.same ∙ c.in-Broken.is in
     record {
       opens = record { broken = broken; tables = inl (record { was = broken; same = refl }) };
       answer = (λ _. broken, λ _. refl);
       parity = λ _. tt;
       stands = record { blocks = λ _ k. refl };
       units = units_refl s.book;
-      plan = λ group many lowest. carries_broken (open_plan c.args.class s.disks.geometry (members_of s group)) s.disks broken;
+      plan = λ group many lowest. carries_broken (open_plan c.args.class s.disks.geometry (members_of s group)) s.disks
+          broken;
       broken = λ _. refl;
     }

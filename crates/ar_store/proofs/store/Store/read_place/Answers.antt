@@ -22,7 +22,8 @@ returns-clause-stands g c =
     let b = c.get.new.self in
     let read = c.get.ensures in
     subst (λ (s : StoreState). AllStand s (store_of b a.book)) c.self.view_is
-    (read_leaves a.disks b a.book c.self.invariant.kept.space (accessed_read c.args.place c.args.row _ a.disks b read.made)
+    (read_leaves a.disks b a.book c.self.invariant.kept.space
+    (accessed_read c.args.place c.args.row _ a.disks b read.made)
     (read_changes_none c.args.place c.args.row _ a.disks b read.made)).stand
 
 pub returns-clause-accessed : goal.returns-clause-accessed
@@ -30,4 +31,5 @@ returns-clause-accessed g c =
     let a = c.self.inside.space in
     let b = c.get.new.self in
     let read = c.get.ensures in
-    subst (λ (s : StoreState). IsAccessed s.disks b) c.self.view_is (accessed_read c.args.place c.args.row _ a.disks b read.made)
+    subst (λ (s : StoreState). IsAccessed s.disks b) c.self.view_is
+    (accessed_read c.args.place c.args.row _ a.disks b read.made)

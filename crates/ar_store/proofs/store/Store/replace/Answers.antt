@@ -13,9 +13,12 @@ invariant_of-self g c =
     let t = c.self.inside.space.book in
     let disk = g.D.Disk.state c.args.disk in
     let call = c.replace.ensures in
-    after_replacing c.replace.result (λ (s : SetState). FieldsAgree (store_of s t) c.self.inside.block c.self.inside.space.scratch.geometry)
-    (replace_refusal a c.args.number disk ≡ None) a c.replace.new.self (replaced a c.args.number disk) call.taken call.replaced call.unchanged
-    (λ taken. fields_replaced a t c.args.number disk taken c.self.inside.block c.self.inside.space.scratch.geometry c.self.invariant)
+    after_replacing c.replace.result
+    (λ (s : SetState). FieldsAgree (store_of s t) c.self.inside.block c.self.inside.space.scratch.geometry)
+    (replace_refusal a c.args.number disk ≡ None) a c.replace.new.self (replaced a c.args.number disk) call.taken
+    call.replaced call.unchanged
+    (λ taken. fields_replaced a t c.args.number disk taken c.self.inside.block c.self.inside.space.scratch.geometry
+    c.self.invariant)
     c.self.invariant
 
 pub returns-clause-stands : goal.returns-clause-stands
@@ -26,8 +29,10 @@ returns-clause-stands g c =
     let call = c.replace.ensures in
     subst (λ (s : StoreState). AllStand s (store_of c.replace.new.self t)) c.self.view_is
     (after_replacing c.replace.result (λ (s : SetState). AllStand (store_of a t) (store_of s t))
-    (replace_refusal a c.args.number disk ≡ None) a c.replace.new.self (replaced a c.args.number disk) call.taken call.replaced call.unchanged
-    (λ taken. all_replaced a t c.args.number disk taken c.self.invariant.kept.space) (record { blocks = λ sound k. refl }))
+    (replace_refusal a c.args.number disk ≡ None) a c.replace.new.self (replaced a c.args.number disk) call.taken
+    call.replaced call.unchanged
+    (λ taken. all_replaced a t c.args.number disk taken c.self.invariant.kept.space)
+    (record { blocks = λ sound k. refl }))
 
 pub returns-clause-slots : goal.returns-clause-slots
 returns-clause-slots g c =
@@ -37,5 +42,6 @@ returns-clause-slots g c =
     let call = c.replace.ensures in
     subst (λ (s : StoreState). SlotsHold s (store_of c.replace.new.self t)) c.self.view_is
     (after_replacing c.replace.result (λ (s : SetState). SlotsHold (store_of a t) (store_of s t))
-    (replace_refusal a c.args.number disk ≡ None) a c.replace.new.self (replaced a c.args.number disk) call.taken call.replaced call.unchanged
+    (replace_refusal a c.args.number disk ≡ None) a c.replace.new.self (replaced a c.args.number disk) call.taken
+    call.replaced call.unchanged
     (λ taken. slots_replaced a t c.args.number disk taken) (record { slots = λ slot bytes has holds. holds }))

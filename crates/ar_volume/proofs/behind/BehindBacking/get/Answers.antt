@@ -14,14 +14,18 @@ returns g c =
     let new = c.get.new.self in
     let got = c.get.ensures in
     let answer : c.get.result ≡ stored (is_broken_set new.disks.health) = got.outcome ∙ heard new.disks.health in
-    let sound = λ (done : c.get.result ≡ Done). not_broken new.disks.health (done_told (is_broken_set new.disks.health) (sym done ∙ answer)) in
+    let sound = λ (done : c.get.result ≡ Done). not_broken new.disks.health
+    (done_told (is_broken_set new.disks.health) (sym done ∙ answer)) in
     record {
       answer = answer;
       content = got.given;
       blocks = λ done. record { same = λ k. got.stands.blocks (sound done) k };
       keeps =
           keeps_store (λ (b : Behind g.row.D.Denot). b.store) c.args.self.now _
-          (record { units = units_same old.book new.book got.book; accessed = get_accessed old c.args.key new.disks got.plan });
+          (record {
+            units = units_same old.book new.book got.book;
+            accessed = get_accessed old c.args.key new.disks got.plan;
+          });
       gets = record {
         reads = record { tables = got.book; rows = get_keeps old c.args.key new.disks got.plan };
         plan = got.plan;

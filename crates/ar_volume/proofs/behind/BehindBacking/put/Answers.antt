@@ -12,7 +12,8 @@ returns-clause-breaks g c = λ lost.
     record {
       breaks = put.breaks lost;
       plan = put.plan;
-      broken = broken_is new.disks.health (lost_told (is_broken_set new.disks.health) (sym lost ∙ put.outcome ∙ heard new.disks.health));
+      broken = broken_is new.disks.health
+          (lost_told (is_broken_set new.disks.health) (sym lost ∙ put.outcome ∙ heard new.disks.health));
     }
 
 pub returns-clause-keeps : goal.returns-clause-keeps

@@ -8,7 +8,9 @@ use Rattle.ar_volume.proofs.Breaking.{broken_is}
 use Rattle.ar_volume.proofs.blocks.Blocks.balance_one.Goals as goal
 
 pub invariant_of-self : goal.invariant_of-self
-invariant_of-self g c = balance_joined c.self.inside.behind.store c.balance_one.new.store c.self.inside.cache c.balance_one.ensures.leaves c.self.invariant
+invariant_of-self g c =
+    balance_joined c.self.inside.behind.store c.balance_one.new.store c.self.inside.cache c.balance_one.ensures.leaves
+    c.self.invariant
 
 pub returns-clause-balances : goal.returns-clause-balances
 returns-clause-balances g c =
@@ -20,7 +22,10 @@ returns-clause-balances g c =
       leaves = call.leaves;
       more_room = call.room;
       less = call.less;
-      broken = (λ is. ap is_broken_set (call.broken.0 is), λ lost. call.broken.1 (broken_is new.store.disks.health lost));
+      broken = (
+        λ is. ap is_broken_set (call.broken.0 is),
+        λ lost. call.broken.1 (broken_is new.store.disks.health lost),
+      );
       cache = refl;
     })
 
@@ -28,4 +33,5 @@ pub returns-clause-seen : goal.returns-clause-seen
 returns-clause-seen g c = λ sound.
     let new : ArrayState = record { store = c.balance_one.new.store; cache = c.self.inside.cache } in
     subst (λ (s : ArrayState). SameSeen s new) c.self.view_is
-    (balance_seen c.self.inside.behind.store c.balance_one.new.store c.self.inside.cache c.balance_one.ensures.leaves sound)
+    (balance_seen c.self.inside.behind.store c.balance_one.new.store c.self.inside.cache c.balance_one.ensures.leaves
+    sound)

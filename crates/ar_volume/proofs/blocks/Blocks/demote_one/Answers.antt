@@ -7,14 +7,26 @@ use Rattle.ar_volume.proofs.Moving.{moves_block, moves_seen, moves_follow, moves
 use Rattle.ar_volume.proofs.blocks.Blocks.demote_one.Goals as goal
 
 pub invariant_of-self : goal.invariant_of-self
-invariant_of-self g c = moves_joined c.self.inside.behind.store c.demote_one.new.store c.self.inside.cache c.demote_one.ensures.leaves c.self.invariant
+invariant_of-self g c =
+    moves_joined c.self.inside.behind.store c.demote_one.new.store c.self.inside.cache c.demote_one.ensures.leaves
+    c.self.invariant
 
 pub returns-clause-demotes : goal.returns-clause-demotes
 returns-clause-demotes g c =
     let call = c.demote_one.ensures in
     let new : ArrayState = record { store = c.demote_one.new.store; cache = c.self.inside.cache } in
     subst (λ (s : ArrayState). DemotesOne s c.demote_one.result new) c.self.view_is
-    (record { moves = moves_block c.self.inside.behind.store c.demote_one.new.store c.self.inside.cache c.demote_one.result call.leaves call.broken; moved = call.moved; idle = call.idle; nothing = call.nothing; opened = call.opened; ready = call.ready; plan = call.plan })
+    (record {
+      moves = moves_block c.self.inside.behind.store c.demote_one.new.store c.self.inside.cache
+          c.demote_one.result call.leaves call.broken;
+      moved = call.moved;
+      idle = call.idle;
+      nothing =
+          call.nothing;
+      opened = call.opened;
+      ready = call.ready;
+      plan = call.plan;
+    })
 
 pub returns-clause-seen : goal.returns-clause-seen
 returns-clause-seen g c = λ sound.
@@ -25,4 +37,5 @@ returns-clause-seen g c = λ sound.
 pub returns-clause-follows : goal.returns-clause-follows
 returns-clause-follows g c =
     let new : ArrayState = record { store = c.demote_one.new.store; cache = c.self.inside.cache } in
-    subst (λ (s : ArrayState). ArrayFollows s new) c.self.view_is (moves_follow c.self.inside.behind.store c.demote_one.new.store c.self.inside.cache c.demote_one.ensures.leaves)
+    subst (λ (s : ArrayState). ArrayFollows s new) c.self.view_is
+    (moves_follow c.self.inside.behind.store c.demote_one.new.store c.self.inside.cache c.demote_one.ensures.leaves)

@@ -43,9 +43,12 @@ returns-clause-stopped g c = λ lost.
       as_many = stopped.as_many;
       entries = stopped.entries;
       reached = stopped.reached.store;
-      put = in_turn_seen store puts PutsStored (λ o m k h. h) (reverse (keys_of (drop stopped.left c.self.inside.cache.entries))) c.self.inside.behind stopped.reached stopped.put;
+      put = in_turn_seen store puts PutsStored (λ o m k h. h)
+          (reverse (keys_of (drop stopped.left c.self.inside.cache.entries))) c.self.inside.behind stopped.reached
+          stopped.put;
       sound = stopped.same_broken ∙ sound;
-      broke = stops_seen store puts breaks PutsStored BreaksStored (λ o m k h. h) (λ o m k h. h) (last_keys c.flush_all.new.self.entries) stopped.reached c.flush_all.new.backing stopped.broke;
+      broke = stops_seen store puts breaks PutsStored BreaksStored (λ o m k h. h) (λ o m k h. h)
+          (last_keys c.flush_all.new.self.entries) stopped.reached c.flush_all.new.backing stopped.broke;
     })
 
 pub returns-clause-quiet : goal.returns-clause-quiet
@@ -57,7 +60,8 @@ returns-clause-quiet g c =
     subst (λ (s : ArrayState). s.cache.entries ≡ [] → new ≡ s) c.self.view_is
     (λ none.
     let store = ap (λ (b : Behind g.row.D.Denot). b.store) (call.emptied.quiet none) in
-    let cache = emptied_same c.flush_all.result (is_broken old) (is_broken new) c.self.inside.cache c.flush_all.new.self call.answer sound
+    let cache = emptied_same c.flush_all.result (is_broken old) (is_broken new) c.self.inside.cache c.flush_all.new.self
+    call.answer sound
     (ap (λ s. is_broken (record { store = s; cache = c.flush_all.new.self })) store) call.emptied.entries none in
     ap (λ s. (let made : ArrayState = record { store = s; cache = c.flush_all.new.self } in made)) store
     ∙ ap (λ e. (let made : ArrayState = record { store = old.store; cache = e } in made)) cache)

@@ -17,5 +17,6 @@ returns-clause-breaks g c = λ lost.
     let call = c.flush_key.ensures in
     let new : ArrayState = record { store = c.flush_key.new.backing.store; cache = c.flush_key.new.self } in
     subst (λ (s : ArrayState). BreaksForced s c.args.key new) c.self.view_is
-    (breaks_forced c.self.inside.behind.store c.flush_key.new.backing.store c.self.inside.cache c.flush_key.new.self c.args.key c.flush_key.result lost
+    (breaks_forced c.self.inside.behind.store c.flush_key.new.backing.store c.self.inside.cache c.flush_key.new.self
+    c.args.key c.flush_key.result lost
     (call.broken lost) (λ none. (call.behind.absent none).0) (call.behind.broke lost))

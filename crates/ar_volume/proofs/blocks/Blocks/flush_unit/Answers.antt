@@ -22,7 +22,8 @@ returns-in-Done-clause-flushes g c =
     unit_flushed old new c.args.addr c.in-Some.sectors last c.health.ensures.joined c.in-Some.ensures
     (ap (λ n. (c.in-Some.sectors - 1) / n) (c.sectors-2.ensures ∙ ap sectors_of c.geometry.ensures))
     (sound_is old.store.disks.health (λ lost. c.in_default.not-Broken (c.health.ensures.health ∙ lost)))
-    (kept_sound (is_broken new) (sym done ∙ call.answer)) (call.forced done) (call.spared done) (call.in_turn done) call.follows
+    (kept_sound (is_broken new) (sym done ∙ call.answer)) (call.forced done) (call.spared done) (call.in_turn done)
+    call.follows
 
 pub returns-in-Broken-force-clause-flushes : goal.returns-in-Broken-force-clause-flushes
 returns-in-Broken-force-clause-flushes g c =

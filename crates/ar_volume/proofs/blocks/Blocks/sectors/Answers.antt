@@ -9,4 +9,6 @@ use Rattle.ar_volume.proofs.blocks.Blocks.sectors.Goals as goal
 pub returns : goal.returns
 returns g c =
     unit_found c.args.self.now c.args.addr c.sectors.result c.book.ensures.kept.space
-    (c.sectors.ensures ∙ ap (λ (t : Tables). option_map (λ (u : UnitTableState). u.sectors) (lookup (same_addr c.args.addr) t.units)) c.book.ensures.book)
+    (c.sectors.ensures
+    ∙ ap (λ (t : Tables). option_map (λ (u : UnitTableState). u.sectors) (lookup (same_addr c.args.addr) t.units))
+    c.book.ensures.book)

@@ -8,11 +8,13 @@ invariant_of-result g c =
     let made = c.in_ok-store.ensures in
     let new : ArrayState = record { store = c.in_ok-store.store; cache = c.in-Ok.cache } in
     joined_begun (map g.D.Disk.state c.args.disks.items) c.args.cache new
-    (begun g.D.Disk.state c.args.disks.items c.index.result.now c.in_ok-store.store c.in-Ok.cache c.geometry.result c.args.cache
+    (begun g.D.Disk.state c.args.disks.items c.index.result.now c.in_ok-store.store c.in-Ok.cache c.geometry.result
+    c.args.cache
     made.taken c.index.ensures c.geometry.ensures c.in-Ok.ensures made.started)
 
 pub returns-clause-started : goal.returns-clause-started
 returns-clause-started g c =
     let made = c.in_ok-store.ensures in
-    begun g.D.Disk.state c.args.disks.items c.index.result.now c.in_ok-store.store c.in-Ok.cache c.geometry.result c.args.cache
+    begun g.D.Disk.state c.args.disks.items c.index.result.now c.in_ok-store.store c.in-Ok.cache c.geometry.result
+    c.args.cache
     made.taken c.index.ensures c.geometry.ensures c.in-Ok.ensures made.started

@@ -8,14 +8,17 @@ use Rattle.ar_volume.proofs.blocks.BlocksBacking.get.Goals as goal
 pub returns-clause-content : goal.returns-clause-content
 returns-clause-content g c = λ done.
     let old : ArrayState = record { store = c.self.inside.behind.store; cache = c.self.inside.cache } in
-    subst (λ (s : ArrayState). c.get.new.into ≡ seen_at s c.args.key) c.self.view_is (c.get.ensures.content done ∙ sym (seen_by old c.args.key))
+    subst (λ (s : ArrayState). c.get.new.into ≡ seen_at s c.args.key) c.self.view_is (c.get.ensures.content done
+    ∙ sym (seen_by old c.args.key))
 
 pub returns-clause-blocks : goal.returns-clause-blocks
 returns-clause-blocks g c = λ done.
     let old : ArrayState = record { store = c.self.inside.behind.store; cache = c.self.inside.cache } in
     let new : ArrayState = record { store = c.get.new.backing.store; cache = c.self.inside.cache } in
-    subst (λ (s : ArrayState). SameBlocks (seen_at s) (seen_at new)) c.self.view_is (seen_read old new refl (c.get.ensures.blocks done))
+    subst (λ (s : ArrayState). SameBlocks (seen_at s) (seen_at new)) c.self.view_is
+    (seen_read old new refl (c.get.ensures.blocks done))
 
 pub returns-then-is_broken-clause-gets : goal.returns-then-is_broken-clause-gets
 returns-then-is_broken-clause-gets g c =
-    read_lost c.args.self.now c.args.key (broken_is c.args.self.now.store.disks.health (sym c.is_broken.ensures.broken ∙ c.if-is_broken.true))
+    read_lost c.args.self.now c.args.key
+    (broken_is c.args.self.now.store.disks.health (sym c.is_broken.ensures.broken ∙ c.if-is_broken.true))

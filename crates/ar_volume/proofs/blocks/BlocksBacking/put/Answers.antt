@@ -18,17 +18,22 @@ pub returns-clause-puts : goal.returns-clause-puts
 returns-clause-puts g c = λ done.
     let new : ArrayState = record { store = c.put.new.backing.store; cache = c.put.new.self } in
     subst (λ (s : ArrayState). PutsBlock s c.args.key new) c.self.view_is
-    (put_stored (λ (b : Behind g.row.D.Denot). b.store) c.self.inside.behind c.put.new.backing c.self.inside.cache c.put.new.self c.args.key c.args.from.now
-    (c.put.ensures.seen done).sees c.put.ensures.entries.present (λ none. c.put.ensures.entries.absent none done) c.put.ensures.entries.fits
+    (put_stored (λ (b : Behind g.row.D.Denot). b.store) c.self.inside.behind c.put.new.backing c.self.inside.cache
+    c.put.new.self c.args.key c.args.from.now
+    (c.put.ensures.seen done).sees c.put.ensures.entries.present (λ none. c.put.ensures.entries.absent none done)
+    c.put.ensures.entries.fits
     (c.put.ensures.behind.put done))
 
 pub returns-then-is_broken-clause-breaks : goal.returns-then-is_broken-clause-breaks
-returns-then-is_broken-clause-breaks g c = λ lost. breaks_lost c.args.self.now c.args.key (sym c.is_broken.ensures.broken ∙ c.if-is_broken.true)
+returns-then-is_broken-clause-breaks g c =
+    λ lost. breaks_lost c.args.self.now c.args.key (sym c.is_broken.ensures.broken ∙ c.if-is_broken.true)
 
 pub returns-clause-breaks : goal.returns-clause-breaks
 returns-clause-breaks g c = λ lost.
     let new : ArrayState = record { store = c.put.new.backing.store; cache = c.put.new.self } in
     let sound = ap is_broken c.self.view_is ∙ sym c.is_broken.ensures.broken ∙ c.if-is_broken.false in
     subst (λ (s : ArrayState). BreaksBlock s c.args.key new) c.self.view_is
-    (breaks_block (λ (b : Behind g.row.D.Denot). b.store) c.self.inside.behind c.put.new.backing c.self.inside.cache c.put.new.self c.args.key c.put.result lost sound
-    (c.put.ensures.entries.broken lost) (λ some. (c.put.ensures.behind.present some).0) (c.put.ensures.behind.stopped lost))
+    (breaks_block (λ (b : Behind g.row.D.Denot). b.store) c.self.inside.behind c.put.new.backing c.self.inside.cache
+    c.put.new.self c.args.key c.put.result lost sound
+    (c.put.ensures.entries.broken lost) (λ some. (c.put.ensures.behind.present some).0)
+    (c.put.ensures.behind.stopped lost))
