@@ -1,5 +1,5 @@
--- A store whose groups' extents were copied or left alone, and whose units stay, keeps what it kept, and every block
--- stands as it did.
+-- A store whose groups' extents were copied or left alone, and whose units stay, keeps its invariant, and every block
+-- its contents.
 use Rattle.std.proofs.Common.{◌≡◌, ◌≢◌, ℕ, ◌*◌, ◌<◌, List, length, Option, None, Some, refl, sym, ap, subst, ◌∙◌, arith}
 use Rattle.ar_disks.specs.Block.{zeros}
 use Rattle.ar_disks.specs.Geometry.{rows_of, block_len_of}

@@ -125,8 +125,7 @@ quiet_tables old new tables seen capacity = record {
   capacity = capacity;
 }
 
--- An event that is quiet, and no unit's entry, is a step: each unit is what its entries, of which there are none, make
--- of it. This is all that an event has to show that is nothing to any unit.
+-- A maintenance event is a step: it has no entry of a unit, so each unit stays what its entries make of it.
 pub steps_quiet : (old new : ArrayState) (event : Event) (outcome : Outcome) → Answers old event outcome new
     → ((a : Address) → entry_at a event outcome ≡ []) → IsQuiet old new → HasCause event old.store.disks new.store.disks
     → Steps old event outcome new

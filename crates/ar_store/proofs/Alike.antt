@@ -1,5 +1,5 @@
--- Disks of which no extent is used that wasn't, and each has the content that it had: what slots held they hold, and
--- what stood stands.
+-- Disks of which no extent is usable that wasn't, and each has the content that it had: slots and blocks keep their
+-- contents.
 use Rattle.std.proofs.Common.{◌≡◌, ◌≢◌, ℕ, List, sym, ap, subst, ◌∙◌}
 use Rattle.ar_disks.specs.declared.address.Place.{Place}
 use Rattle.ar_disks.specs.declared.address.Members.{Members}

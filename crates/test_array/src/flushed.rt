@@ -161,7 +161,7 @@ fn mirrored_blocks_are_flushed_past_a_lost_disk(rt: HostRuntime) {
 }
 
 /// Block 8, the parity of its row, and blocks 3 and 9 beside it. Block 8 is written once more and its disk is taken
-/// out: while it waits, the parity is the old one. Flushed, it stands in the parity alone, from which it is read.
+/// out: while it is cached, the parity is the old one. Flushed, it is in the parity alone, from which it is read.
 const INTO_PARITY: [Step; 15] = [
     (Ask::FlushAll, DONE),
     (Ask::Shows(2, 2, 1), Answer::Byte(0x09)),

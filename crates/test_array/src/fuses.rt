@@ -82,7 +82,7 @@ pub const READS_AGAIN: [Row; 12] = [
 ];
 
 /// What needs no block: INQUIRY for five bytes, READ CAPACITY, a READ past the end; and TEST UNIT READY, which fails
-/// where the data are lost.
+/// after data loss.
 const QUESTIONS: [Row; 4] = [
     (
         Call::Command(0, 0, [0x12, 0, 0, 0, 5, 0, 0, 0, 0, 0]),
@@ -215,8 +215,7 @@ impl Breaks {
     }
 }
 
-// The calls by which the data were lost, where a second disk had a fuse: one for each fuse that is too short for the
-// run.
+// The calls at which data loss came, where a second disk had a fuse: one for each fuse that is too short for the run.
 fn breaks_in<R: Abort + AllocGlobal>(rt: &R, shape: Shape) -> Breaks {
     let mut breaks = Breaks {
         by_taking_out: false,

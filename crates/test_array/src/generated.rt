@@ -77,7 +77,7 @@ const TWO_DISKS: [Row; 2] = [
 
 // A run of drawn events on an array, a third of the way through which a disk is taken out; after the second third
 // another is put in its place, and one more is added, so that a rebuild and then balancing go on between the rest. Says
-// whether blocks stood in groups with parity when the disk was lost.
+// whether parity groups stored blocks when the disk failed.
 fn with_a_loss<R: Abort + AllocGlobal>(
     rt: &R,
     shape: Shape,

@@ -267,8 +267,8 @@ fn answers_are_written_before_more_is_read(rt: HostRuntime) {
     ends_within(&rt, SMALL, reader, 0, at(1, FaultKind::WriteFault));
 }
 
-// They come before the first read, before the one that finds the end, and last of all. One that fails is told, though
-// the next would not fail.
+// A flush comes before the first read, before the one that finds the end, and last of all. One that fails is reported,
+// though the next would succeed.
 #[test]
 fn flushes_that_fail(rt: HostRuntime) {
     for (fails, end) in [
@@ -286,7 +286,7 @@ fn flushes_that_fail(rt: HostRuntime) {
 }
 
 // The answer to the second line is longer than the buffer, so that the first write comes within it, and the second at
-// the end. One that fails is told, though the next would not fail.
+// the end. One that fails is reported, though the next would succeed.
 #[test]
 fn single_writes_that_fail(rt: HostRuntime) {
     for (fails, end) in [

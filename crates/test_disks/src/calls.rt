@@ -81,11 +81,11 @@ pub enum Answer {
     Unfit,
 }
 
-/// A call, and what it is to be answered with.
+/// A call, and what it has to return.
 pub type Step = (Call, Answer);
 
-/// Compares what a call met with what it was to be answered with. The fuses of the disks and the number of the call say
-/// which one it is.
+/// Compares what a call returned with what it has to return. The fuses of the disks and the number of the call say which
+/// one it is.
 pub fn compare(rt: &impl Abort, fuses: &[u64], number: u32, step: Step, met: Answer) {
     let (_, wanted) = step;
     assert!(rt;

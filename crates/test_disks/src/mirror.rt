@@ -133,8 +133,8 @@ fn a_loss_in_the_other_pair_breaks_the_set(rt: HostRuntime) -> Result<(), Fail> 
     run(&rt, rt.alloc(), small([WHOLE, WHOLE, 0, WHOLE]), &steps)
 }
 
-// Makes calls once slots 0 and 1 hold 10 and 11 and disk 1 is replaced by one that passes so many calls. Disk 0 passes
-// as many as are told.
+// Makes calls once slots 0 and 1 hold 10 and 11 and disk 1 is replaced. The new disk faults after `new` calls, disk 0
+// after `first`.
 fn rebuilds(
     rt: &impl Abort,
     alloc: Global,

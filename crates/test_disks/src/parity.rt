@@ -173,8 +173,8 @@ fn a_disk_is_lost_at_every_access(rt: HostRuntime) -> Result<(), Fail> {
 // What the slots hold while a disk is rebuilt.
 const HELD: [u8; 6] = [0x01, 0x02, 0x04, 0x08, 0x10, 0x20];
 
-// Makes calls on a group without disk 0 that holds six blocks, once disk 0 is replaced by one that passes so many
-// calls, and then reads every slot.
+// Makes calls on a group of six blocks, once its failed disk 0 is replaced by one that faults after `new` calls, and
+// then reads every slot.
 fn rebuilds(rt: &impl Abort, alloc: Global, new: u64, steps: &[Step]) -> Result<(), Fail> {
     let mut rig = Rig::new(alloc, one_extent(Geometry::SMALL, 0, WHOLE))?;
     replaces(rt, &mut rig, new, steps)

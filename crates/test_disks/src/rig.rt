@@ -93,8 +93,8 @@ impl Rig {
         Ok(())
     }
 
-    /// Writes each slot of a table, looks for its bytes in every row of every extent, and writes what stood there
-    /// before.
+    /// Writes each slot of a table, looks for its bytes in every row of every extent, and writes back what was
+    /// there.
     pub fn slots_lie(&mut self, rt: &impl Abort, table: &[Lies], before: u8) -> Result<(), Fail> {
         for (slot, pair, row) in table {
             self.meets(rt, Call::Write(*slot, 0xA5), Answer::Done)?;

@@ -9,8 +9,8 @@ use Call::{Add, AddOf, Balance, Get, Group, Loose, Make, Put, PutEach, Room, Row
 use ar_book::Class;
 use ar_extents::{DiskRefusal, Health};
 
-/// Three of the four groups get an extent of the disk that is added, and a fifth is formed of the extents that are
-/// loose then.
+/// Three of the four groups get an extent of the disk that is added, and a fifth is formed of the extents that are then
+/// unassigned.
 const EVENED_OUT: [Step; 14] = [
     (Room, Count(18)),
     (Balance, Idle),
@@ -28,8 +28,8 @@ const EVENED_OUT: [Step; 14] = [
     (Group(4), Used(Class::Free, 0)),
 ];
 
-// The block's first copy moves to the new disk, and the second stays where it is. What the old extent held it holds,
-// loose, and what no slot names is copied too.
+// The block's first copy moves to the new disk, and the second stays where it is. The old extent, now unassigned, keeps
+// its rows, and rows of empty slots are copied too.
 const MIRRORED_GROUP_SHIFTED: [Step; 12] = [
     (Make(4), Is(true)),
     (Put(0, 0xAA), Done),

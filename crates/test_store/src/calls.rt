@@ -116,7 +116,7 @@ pub enum Answer {
     Unfit,
 }
 
-/// A call, and what it is to be answered with.
+/// A call, and what it has to return.
 pub type Step = (Call, Answer);
 
 /// Starts a store, and makes calls in turn: of each part, each step. Answers the health after them.
@@ -150,8 +150,7 @@ fn go_on(
     }
 }
 
-// Compares what a call met with what it was to be answered with. The shape and the row of its table say which one it
-// is.
+// Compares what a call returned with what it has to return. The shape and the row of its table say which one it is.
 fn compare(rt: &impl Abort, shape: Shape, row: usize, step: Step, met: Answer) {
     let (_, wanted) = step;
     assert!(rt;

@@ -69,7 +69,8 @@ fn is_health(rt: &impl Abort, met: Health, wanted: Health, calls: u64) {
     );
 }
 
-// Each disk is lost at each of its calls, of which it gets exactly so many. Every call is answered as on sound disks.
+// Each disk fails at each of its calls in turn; how many it gets is exact. Every call returns what it does on healthy
+// disks.
 fn are_lost_at_each_call(
     rt: &impl Abort,
     alloc: Global,

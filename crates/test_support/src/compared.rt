@@ -4,8 +4,7 @@ use crate::kinds::Kind;
 use ar_core::{Balance, Flush, Move, OutcomeOf, Rebuild, Refusal, UnitFlush, UnitRefusal};
 use ar_scsi::{Reply, Status};
 
-/// Whether an array answered as plain lists did. What its work did is its own affair, but no loss and no want of memory
-/// may be met.
+/// Whether an array returned what plain lists did. Maintenance may do anything but lose data or run out of memory.
 pub fn agrees<N>(outcome: &OutcomeOf<N>, wanted: &Answer) -> bool {
     match (outcome, wanted) {
         (OutcomeOf::Make(done) | OutcomeOf::Grow(done) | OutcomeOf::Remove(done), Answer::Done) =>

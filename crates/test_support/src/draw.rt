@@ -61,8 +61,8 @@ const WRITE_16: u8 = 0x8A;
 /// The LUNs that are drawn: those that can be made, and one more.
 const LUNS: u8 = 9;
 
-/// What comes next: a command mostly, and every other one of these a good one to a unit that is there. Where a host is
-/// given, each command is its own, and so are the units that more is asked of.
+/// Draws the next event: mostly a command, and every second one of these valid and to a unit that is present. With a
+/// host, each command is that host's, and so is each unit that another event is about.
 pub(crate) fn draw(alloc: Global, rng: &mut SmallRng, host: Option<u8>) -> Result<Ask, AllocError> {
     let luns = if rng.random_ratio(3, 4) { 2 } else { LUNS };
     let mut place = draw_place(rng, luns);

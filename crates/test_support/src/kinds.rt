@@ -159,8 +159,8 @@ impl Tally {
         self.counts.get(kind as usize).copied().unwrap_or(0)
     }
 
-    /// What makes a run show too little, or a wrong answer, with its count: a kind that sound disks and any cache give,
-    /// if fewer than `wanted` came; `Flushed`, if as many came without a cache or fewer with one; and any `Other`.
+    /// The kind, with its count, that makes a run wrong or show too little: one that healthy disks return with any
+    /// cache, if fewer than `wanted` came; `Flushed`, if as many came without a cache or fewer with one; any `Other`.
     pub fn flaw(&self, wanted: u32, is_cached: bool) -> Option<(Kind, u32)> {
         let kind = match self.lacks(wanted) {
             Some(kind) => kind,

@@ -13,8 +13,7 @@ pub struct Run {
     alloc: Global,
     rng: SmallRng,
     pub lists: PlainArray,
-    /// How often an answer of each kind came, but to a flush of a unit. Who asks an array for work in the background
-    /// counts what it did.
+    /// The number of outcomes of each kind, but for flushes of a unit. A caller of maintenance counts what it did.
     pub tally: Tally,
 }
 
