@@ -22,8 +22,8 @@ const LOOKS: u32 = 64;
 
 const PAUSES: u32 = 16;
 
-/// The least sectors of a READ for which memory is lent, 16 KiB, and the most, 1 MiB, which each session may
-/// hold while it waits for the array.
+/// The least sectors of a READ for which memory is lent, 16 KiB, and the most, 1 MiB, which each session may hold while
+/// it waits for the array.
 const LEAST_LENT: u16 = 32;
 
 const MOST_LENT: u16 = 2_048;
