@@ -40,7 +40,7 @@ impl Age {
     ghost use Rattle.ar_index.specs.Choices.{place_in, is_no_newer};
 
     // Whether the block is older than `other`, or as old.
-    fn is_no_newer<V>(&self, other: &Age, units: &IndexMap<Addr, V>) -> bool
+    pub(crate) fn is_no_newer<V>(&self, other: &Age, units: &IndexMap<Addr, V>) -> bool
         ensures { result ≡ is_no_newer (place_in units.now.entries) self.now other.now }
     {
         if self.stamp == other.stamp {

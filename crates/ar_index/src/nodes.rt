@@ -5,7 +5,7 @@
 //            2       3              1 is the root
 //          4   5   6   7            size to 2 * size - 1 are the leaves of groups 0, 1, ..
 ghost use Rattle.std.specs.Prelude.{◌≡◌, ℕ, ◌+◌, ◌-◌, ◌*◌, ◌/◌, ◌^◌, ◌<◌, ◌≤◌, length, drop, slice_set, IfOk, OnErr};
-ghost use Rattle.ar_index.specs.Choices.{place_in, nothing, IsChangedTo};
+ghost use Rattle.ar_index.specs.Choices.{place_in, nothing, older, IsChangedTo};
 ghost use Rattle.ar_index.specs.Tree as spec;
 ghost use Rattle.ar_index.specs.declared.choices.Change.{Change};
 ghost use Rattle.ar_index.specs.Tree.{HasJoinedNumbers, IsJoinedAt, AreJoinedAfter, HaveChanged, HaveStayed, IsTree, IsGrown, leaves_in};
@@ -54,6 +54,22 @@ fn join_all_at<V>(nodes: &mut Vec<Choices>, node: usize, units: &IndexMap<Addr, 
     change
 }
 
+// Which child of an inner node has the older block: 0 is the left one. The block is then loaded by this number, since
+// a branch on the stamps would be mispredicted in every second node.
+fn older_child<V>(nodes: &[Choices], node: usize, units: &IndexMap<Addr, V>) -> usize
+    requires { 2 * node + 1 < length nodes.now }
+    ensures one { result ≤ 1 }
+    ensures older { (spec.node_at nodes.now (2 * node + result)).oldest
+        ≡ older (place_in units.now.entries) (spec.node_at nodes.now (2 * node)).oldest
+        (spec.node_at nodes.now (2 * node + 1)).oldest }
+{
+    match (nodes[2 * node].oldest, nodes[2 * node + 1].oldest) {
+        (Some(left), Some(right)) => usize::from(!left.is_no_newer(&right, units)),
+        (Some(_), None) => 0,
+        (None, _) => 1,
+    }
+}
+
 // The same if the node's group numbers are those of its children already: half of the instructions.
 fn join_oldest_at<V>(nodes: &mut Vec<Choices>, node: usize, units: &IndexMap<Addr, V>) -> Change
     requires there { 2 * node + 1 < length nodes.old.items }
@@ -61,7 +77,7 @@ fn join_oldest_at<V>(nodes: &mut Vec<Choices>, node: usize, units: &IndexMap<Add
     ensures joined { IsJoinedAt (place_in units.now.entries) nodes.old.items node nodes.new.items }
     ensures changed { IsChangedTo (spec.node_at nodes.old.items node) (spec.node_at nodes.new.items node) result }
 {
-    let oldest = Age::older(nodes[2 * node].oldest, nodes[2 * node + 1].oldest, units);
+    let oldest = nodes[2 * node + older_child(nodes, node, units)].oldest;
     let change = Change::of_oldest(oldest, nodes[node].oldest);
     nodes[node].oldest = oldest;
     change
