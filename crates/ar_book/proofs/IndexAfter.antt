@@ -16,7 +16,7 @@ use Rattle.ar_disks.specs.declared.address.Place.{Place}
 use Rattle.ar_disks.specs.declared.address.Members.{Members}
 use Rattle.ar_disks.specs.declared.geometry.Geometry.{Geometry}
 use Rattle.ar_index.specs.declared.choices.Choices.{Choices}
-use Rattle.ar_index.specs.Choices.{place_in, nothing}
+use Rattle.ar_index.specs.Choices.{place_in, nothing, with_oldest}
 use Rattle.ar_index.specs.Tree.{TreeState, leaves}
 use Rattle.ar_book.specs.declared.class.Class.{Class}
 use Rattle.ar_book.specs.declared.class.Class.TheVariants.{Free, Mirrored, Parity}
@@ -29,7 +29,7 @@ use Rattle.ar_book.specs.Changes.{with_key, with_hole, named, vacated, homed, re
 use Rattle.ar_book.specs.Changes.{free_group, formed, shifted}
 use Rattle.ar_book.specs.Book.{TablesAgree}
 use Rattle.ar_book.specs.Index.{age_of, choices_by, choices_in, choices_of, leaves_from, leaves_of, free_leaf}
-use Rattle.ar_book.specs.Index.{oldest_by, oldest_in, KeepsOldest, NeedsNoScan}
+use Rattle.ar_book.specs.Index.{oldest_by, oldest_in, oldest_of, KeepsOldest, HasNoOldest}
 use Rattle.ar_disks.proofs.Addresses.{addr_tells, make_key}
 use Rattle.ar_book.proofs.UnitLemmas.{has_by_block, unit_same, unit_other}
 use Rattle.ar_book.proofs.GroupLemmas.{there_group, named_shape, vacated_size, vacated_shape}
@@ -144,30 +144,41 @@ kept_still t k n ok index o (Some q) former same needed before keeps =
     absurd (needed
     (subst (λ x. KeepsOldest x k n) (sym (ap (λ c. c.oldest) leaf ∙ oldest_chosen t q.group q.group)) (keeps q at)))
 
--- the choices of a group that isn't mirrored have nothing to do with the units
-pub unlooked_choices : (g : Geometry) (units new : List (Addr × UnitTableState)) (n : ℕ) (x : GroupState)
-    → x.class ≢ Mirrored → choices_of g units n x ≡ choices_of g new n x
-unlooked_choices g units new n x other = by x.class other
+-- a group that isn't mirrored has no oldest block among its choices
+no_oldest : (g : Geometry) (units : List (Addr × UnitTableState)) (n : ℕ) (x : GroupState)
+    → x.class ≢ Mirrored → (choices_of g units n x).oldest ≡ None
+no_oldest g units n x other = by x.class other
   where
-    by : (c : Class) → c ≢ Mirrored → choices_by c g (place_in units) (age_of units) n x
-        ≡ choices_by c g (place_in new) (age_of new) n x
+    by : (c : Class) → c ≢ Mirrored → (choices_by c g (place_in units) (age_of units) n x).oldest ≡ None
     by Free ne = refl
     by Mirrored ne = absurd (ne refl)
     by Parity ne = refl
 
+-- of a group's choices no other than the oldest block has to do with the units
+oldest_alone : (g : Geometry) (units new : List (Addr × UnitTableState)) (n : ℕ) (x : GroupState)
+    → with_oldest (choices_of g units n x) (oldest_of new x) ≡ choices_of g new n x
+oldest_alone g units new n x = by x.class
+  where
+    by : (c : Class) → with_oldest (choices_by c g (place_in units) (age_of units) n x) (oldest_by c (place_in new) (age_of new) x)
+        ≡ choices_by c g (place_in new) (age_of new) n x
+    by Free = refl
+    by Mirrored = refl
+    by Parity = refl
+
 -- a block that isn't at the mirrored level gets a stamp: no slot of the group of its home is looked at for that
-pub unlooked_still : (t : Tables) (k : Key) (units : List (Addr × UnitTableState)) (ok : TablesAgree t)
+pub unlooked_still : (t : Tables) (k : Key) (ok : TablesAgree t)
     (index : TreeState) (o changed : Option Slot) → o ≡ home t k → IfSome changed (λ q. o ≡ Some q)
     → leaves index ≡ leaves_of t.geometry t.units t.groups → level t k ≢ MirroredLevel
-    → ForSome changed (λ q. NeedsNoScan t.geometry units t.groups index q.group)
-unlooked_still t k units ok index o changed former same before low q e =
+    → ForSome changed (λ q. HasNoOldest t.groups index q.group)
+unlooked_still t k ok index o changed former same before low q e =
     let at : home t k ≡ Some q = sym former ∙ changed_home o changed same q e in
     let inside : q.group < length t.groups = there_group t.groups q k (ok.agree.to_slot k q at) in
     let other : (group_in t.groups q.group).class ≢ Mirrored = λ is. low (ap (level_in t.groups) at ∙ ap level_of is) in
     record {
       class = other;
-      same = ap (λ l. get_or l q.group nothing) before ∙ leaf_of t.geometry t.units t.groups q.group inside
-          ∙ unlooked_choices t.geometry t.units units q.group (group_in t.groups q.group) other;
+      none = ap (λ l. (get_or l q.group nothing).oldest) before
+          ∙ ap (λ c. c.oldest) (leaf_of t.geometry t.units t.groups q.group inside)
+          ∙ no_oldest t.geometry t.units q.group (group_in t.groups q.group) other;
     }
 
 -- a block has another stamp
@@ -265,10 +276,15 @@ module _ (t : Tables) (k : Key) (n : ℕ) (ok : TablesAgree t) (block : HasBlock
       → IfNone changed (ForSome o (λ q. KeepsOldest (get_or index q.group nothing).oldest k n))
       → index ≡ leaves_of t.geometry t.units t.groups
       → MatchOption changed (now ≡ index) (λ q. now
-      ≡ set index q.group (choices_of t.geometry units q.group (group_in t.groups q.group)))
+      ≡ set index q.group (with_oldest (get_or index q.group nothing) (oldest_of units (group_in t.groups q.group))))
       → now ≡ leaves_of t.geometry units t.groups
   restamped_leaves index now o (Some q) former same stays before e =
-      stamped_leaves index now (Some q) (sym same ∙ former) before e
+      let inside : q.group < length t.groups = there_group t.groups q k (ok.agree.to_slot k q (sym former ∙ same)) in
+      let leaf : get_or index q.group nothing ≡ choices_of t.geometry t.units q.group (group_in t.groups q.group) =
+      ap (λ l. get_or l q.group nothing) before ∙ leaf_of t.geometry t.units t.groups q.group inside in
+      stamped_leaves index now (Some q) (sym same ∙ former) before
+      (e ∙ ap (λ c. set index q.group (with_oldest c (oldest_of units (group_in t.groups q.group)))) leaf
+      ∙ ap (set index q.group) (oldest_alone t.geometry t.units units q.group (group_in t.groups q.group)))
   restamped_leaves index now None None former same stays before e = stamped_leaves index now None former before e
   restamped_leaves index now (Some q) None former same stays before e =
       let inside : q.group < length t.groups = there_group t.groups q k (ok.agree.to_slot k q (sym former)) in

@@ -68,9 +68,13 @@ oldest_by Free place age x = None
 oldest_by Mirrored place age x = oldest_named place age x.slots
 oldest_by Parity place age x = None
 
+-- the same, with these units
+abbrev pub oldest_of : List (Addr × UnitTableState) → GroupState → Option Age
+oldest_of units x = oldest_by x.class (place_in units) (age_of units) x
+
 -- the oldest block of the group with a number, if that is mirrored
 abbrev pub oldest_in : Tables → ℕ → Option Age
-oldest_in t g = oldest_by (group_in t.groups g).class (place_in t.units) (age_of t.units) (group_in t.groups g)
+oldest_in t g = oldest_of t.units (group_in t.groups g)
 
 -- the whole invariant of the book: that of its tables, and the tree has the choices of each group for its leaves,
 -- joined in the units' order
@@ -90,11 +94,10 @@ pub record KeepsOldest (chosen : Option Age) (key : Key) (stamp : ℕ) : Type 0 
   pub other : oldest.key ≢ key
   pub older : oldest.stamp < stamp
 
--- the group isn't mirrored, so no slot is scanned for its choices, and its leaf has them already
-pub record NeedsNoScan (g : Geometry) (units : List (Addr × UnitTableState)) (groups : List GroupState)
-    (index : TreeState) (i : ℕ) : Type 0 where
+-- the group isn't mirrored, so no slot is scanned for its oldest block, and its leaf has none
+pub record HasNoOldest (groups : List GroupState) (index : TreeState) (i : ℕ) : Type 0 where
   pub class : (group_in groups i).class ≢ Mirrored
-  pub same : leaf index i ≡ choices_of g units i (group_in groups i)
+  pub none : (leaf index i).oldest ≡ None
 
 -- none of the first n of these homes is in the group
 abbrev pub AreOutside : List (Option Slot) → ℕ → ℕ → Type 0

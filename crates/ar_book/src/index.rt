@@ -5,11 +5,11 @@ ghost use Rattle.std.specs.Prelude.{Some, None, IfSome, IfNone};
 ghost use Rattle.std.specs.Option.{ForSome, MatchOption};
 ghost use Rattle.std.specs.Map.{lookup};
 ghost use Rattle.ar_disks.specs.Addresses.{same_addr};
-ghost use Rattle.ar_index.specs.Choices.{place_in};
+ghost use Rattle.ar_index.specs.Choices.{place_in, with_oldest};
 ghost use Rattle.ar_index.specs.Tree.{leaves, IsRight};
 ghost use Rattle.ar_book.specs.Tables.{group_in};
 ghost use Rattle.ar_book.specs.Index as spec;
-ghost use Rattle.ar_book.specs.Index.{oldest_named, leaves_of, leaf, blanks, KeepsOldest, NeedsNoScan, AreInside};
+ghost use Rattle.ar_book.specs.Index.{oldest_named, leaves_of, leaf, blanks, KeepsOldest, AreInside, HasNoOldest};
 ghost use Rattle.ar_book.specs.Index.{IsBlanked, IsLeafOrBlank, HaveChoices};
 
 use crate::group::slots_of;
@@ -141,8 +141,6 @@ pub(crate) fn refresh(
         ≡ slice_set (leaves index.old) number
         (spec.choices_of geometry units.now.entries number (group_in groups.now.items number)) }
     ensures right { IsRight (place_in units.now.entries) index.new }
-    ensures unlooked { NeedsNoScan geometry units.now.entries groups.now.items index.old number
-        → steps.new.count ≡ steps.old.count }
     ensures few { length groups.now.items ≤ 4096
         → steps.new.count ≤ steps.old.count + (length (group_in groups.now.items number).slots + 12) }
     ensures on { steps.old.count ≤ steps.new.count }
@@ -171,13 +169,54 @@ pub(crate) fn refresh_home(
         → MatchOption home (steps.new.count ≡ steps.old.count)
         (λ slot. steps.new.count ≤ steps.old.count + (length (group_in groups.now.items slot.group).slots + 12)) }
     ensures still { home ≡ None → steps.new.count ≡ steps.old.count }
-    ensures unlooked { ForSome home
-        (λ slot. NeedsNoScan geometry units.now.entries groups.now.items index.old slot.group)
-        → steps.new.count ≡ steps.old.count }
     ensures on { steps.old.count ≤ steps.new.count }
 {
     if let Some(slot) = home {
         refresh(index, groups, units, geometry, slot.group, steps);
+    }
+}
+
+// The oldest block of a group, if that is mirrored. Counts a step for each slot that it looks at.
+fn oldest_of(group: &Group, units: &Units, steps: &mut Steps) -> Option<Age>
+    ensures oldest { result ≡ spec.oldest_of units.now.entries group.now }
+    ensures still { group.now.class ≢ Class.Mirrored → steps.new.count ≡ steps.old.count }
+    ensures few { steps.new.count ≤ steps.old.count + length group.now.slots }
+    ensures on { steps.old.count ≤ steps.new.count }
+{
+    match group.class() {
+        Class::Mirrored => oldest_in(group.slots(), units, steps),
+        Class::Free | Class::Parity => None,
+    }
+}
+
+/// Updates the tree after a change of stamps in the group of `home`, if there is one: of its choices no other than the
+/// oldest block can change. A step is a slot or a node.
+pub(crate) fn refresh_oldest(
+    index: &mut Tree,
+    groups: &Vec<Group>,
+    units: &Units,
+    home: Option<Slot>,
+    steps: &mut Steps,
+)
+    requires there { ForSome home (λ slot. slot.group < length groups.now.items) }
+    requires leaves { length (leaves index.old) ≡ length groups.now.items }
+    requires right { IsRight (place_in units.now.entries) index.old }
+    ensures set { MatchOption home (leaves index.new ≡ leaves index.old) (λ slot. leaves index.new
+        ≡ slice_set (leaves index.old) slot.group (with_oldest (leaf index.old slot.group)
+        (spec.oldest_of units.now.entries (group_in groups.now.items slot.group)))) }
+    ensures right { IsRight (place_in units.now.entries) index.new }
+    ensures few { length groups.now.items ≤ 4096
+        → MatchOption home (steps.new.count ≡ steps.old.count)
+        (λ slot. steps.new.count ≤ steps.old.count + (length (group_in groups.now.items slot.group).slots + 12)) }
+    ensures still { home ≡ None → steps.new.count ≡ steps.old.count }
+    ensures unlooked { ForSome home (λ slot. HasNoOldest groups.now.items index.old slot.group)
+        → steps.new.count ≡ steps.old.count }
+    ensures on { steps.old.count ≤ steps.new.count }
+{
+    if let Some(slot) = home {
+        let number = slot.group as usize;
+        let oldest = oldest_of(&groups[number], units, steps);
+        index.set_oldest(number, oldest, units.map(), steps);
     }
 }
 

@@ -7,7 +7,7 @@ ghost use Rattle.ar_book.specs.declared.class.Level.TheVariants.{Mirrored};
 ghost use Rattle.ar_book.specs.Index.{oldest_in, KeepsOldest};
 ghost use Rattle.ar_book.specs.Changes.{assigned, released, stamped};
 
-use crate::index::{home_to_refresh, refresh, refresh_home};
+use crate::index::{home_to_refresh, refresh, refresh_home, refresh_oldest};
 use crate::tables::{home_in, name_slot, restamp, set_home, vacate_slot};
 use crate::{Book, Slot};
 use ar_disks::Key;
@@ -106,13 +106,6 @@ impl Book {
         self.puts = self.puts.saturating_add(1);
         let home = restamp(&mut self.units, key, self.puts);
         let changed = home_to_refresh(&self.index, home, key, self.puts);
-        refresh_home(
-            &mut self.index,
-            &self.groups,
-            &self.units,
-            self.geometry,
-            changed,
-            steps,
-        );
+        refresh_oldest(&mut self.index, &self.groups, &self.units, changed, steps);
     }
 }

@@ -38,6 +38,10 @@ oldest place (o ∷ os) = older place o (oldest place os)
 abbrev pub nothing : Choices
 nothing = record { mirrored = None; parity = None; free = None; oldest = None }
 
+-- these choices but for the oldest block
+abbrev pub with_oldest : Choices → Option Age → Choices
+with_oldest c oldest = record c { oldest = oldest }
+
 -- the choices differ in nothing but the oldest block
 abbrev pub HaveSameNumbers : Choices → Choices → Type 0
 HaveSameNumbers c d = c ≡ record d { oldest = c.oldest }

@@ -5,7 +5,7 @@
 //            2       3              1 is the root
 //          4   5   6   7            size to 2 * size - 1 are the leaves of groups 0, 1, ..
 ghost use Rattle.std.specs.Prelude.{◌≡◌, ℕ, ◌+◌, ◌-◌, ◌*◌, ◌/◌, ◌^◌, ◌<◌, ◌≤◌, length, drop, slice_set, IfOk, OnErr};
-ghost use Rattle.ar_index.specs.Choices.{place_in, nothing, older, IsChangedTo};
+ghost use Rattle.ar_index.specs.Choices.{place_in, nothing, older, with_oldest, IsChangedTo};
 ghost use Rattle.ar_index.specs.Tree as spec;
 ghost use Rattle.ar_index.specs.declared.choices.Change.{Change};
 ghost use Rattle.ar_index.specs.Tree.{HasJoinedNumbers, IsJoinedAt, AreJoinedAfter, HaveChanged, HaveStayed, IsTree, IsGrown, leaves_in};
@@ -143,6 +143,42 @@ pub(crate) fn put<V>(
 {
     let change = change_at(nodes, size + leaf, &choices);
     nodes[size + leaf] = choices;
+    climb(nodes, size, leaf, change, units, steps);
+}
+
+// Sets the oldest block of a node. Returns in what the node changes.
+fn set_oldest_at(nodes: &mut Vec<Choices>, node: usize, oldest: Option<Age>) -> Change
+    requires { node < length nodes.old.items }
+    ensures set { nodes.new.items
+        ≡ slice_set nodes.old.items node (with_oldest (spec.node_at nodes.old.items node) oldest) }
+    ensures changed { IsChangedTo (spec.node_at nodes.old.items node)
+        (with_oldest (spec.node_at nodes.old.items node) oldest) result }
+{
+    let change = Change::of_oldest(oldest, nodes[node].oldest);
+    nodes[node].oldest = oldest;
+    change
+}
+
+/// Sets the oldest block of a leaf of a tree of `size` leaves, and joins the nodes above it, as `put` does.
+pub(crate) fn put_oldest<V>(
+    nodes: &mut Vec<Choices>,
+    size: usize,
+    leaf: usize,
+    oldest: Option<Age>,
+    units: &IndexMap<Addr, V>,
+    steps: &mut Steps,
+)
+    requires tree { IsTree (place_in units.now.entries) size nodes.old.items }
+    requires there { leaf < size }
+    ensures tree { IsTree (place_in units.now.entries) size nodes.new.items }
+    ensures leaves { drop size nodes.new.items
+        ≡ slice_set (drop size nodes.old.items) leaf (with_oldest (spec.node_at nodes.old.items (size + leaf)) oldest) }
+    ensures still { with_oldest (spec.node_at nodes.old.items (size + leaf)) oldest
+        ≡ spec.node_at nodes.old.items (size + leaf) → steps.new.count ≡ steps.old.count }
+    ensures few { 2 ^ (steps.new.count - steps.old.count) ≤ size + leaf }
+    ensures on { steps.old.count ≤ steps.new.count }
+{
+    let change = set_oldest_at(nodes, size + leaf, oldest);
     climb(nodes, size, leaf, change, units, steps);
 }
 

@@ -2,10 +2,10 @@
 // fewer than twice as many leaves as groups; those past the last group are blank.
 ghost use Rattle.std.specs.Prelude.{◌≡◌, ℕ, ◌+◌, ◌-◌, ◌^◌, ◌<◌, ◌≤◌, true, cond, length, [], ◌∷◌, ◌++◌, slice_index_or, slice_set, OnOk, OnErr};
 ghost use Rattle.ar_disks.specs.declared.address.Addr.{Addr};
-ghost use Rattle.ar_index.specs.Choices.{place_in, nothing, is_nothing, search_all};
+ghost use Rattle.ar_index.specs.Choices.{place_in, nothing, is_nothing, search_all, with_oldest};
 ghost use Rattle.ar_index.specs.Tree.{leaves, free_in, HaveChanged, HaveStayed, IsRight};
 
-use crate::nodes::{make_room, node_at, put};
+use crate::nodes::{make_room, node_at, put, put_oldest};
 use crate::{Age, Choices, Steps};
 use ar_disks::Addr;
 use indexmap::IndexMap;
@@ -138,6 +138,27 @@ impl Tree {
         let former = node_at(&self.nodes, self.size + leaf);
         self.free = recount(self.free, former.free.is_some(), choices.free.is_some());
         put(&mut self.nodes, self.size, leaf, choices, units, steps);
+    }
+
+    /// Sets the oldest mirrored block of one group; its other choices stay. Steps are counted as `set` counts them.
+    pub fn set_oldest<V>(
+        &mut self,
+        leaf: usize,
+        oldest: Option<Age>,
+        units: &IndexMap<Addr, V>,
+        steps: &mut Steps,
+    )
+        requires there { leaf < length (leaves self.old) }
+        requires right { IsRight (place_in units.now.entries) self.old }
+        ensures set { leaves self.new ≡ slice_set (leaves self.old) leaf
+            (with_oldest (slice_index_or (leaves self.old) leaf nothing) oldest) }
+        ensures right { IsRight (place_in units.now.entries) self.new }
+        ensures still { (slice_index_or (leaves self.old) leaf nothing).oldest ≡ oldest
+            → steps.new.count ≡ steps.old.count }
+        ensures few { length (leaves self.old) ≤ 4096 → steps.new.count ≤ steps.old.count + 12 }
+        ensures on { steps.old.count ≤ steps.new.count }
+    {
+        put_oldest(&mut self.nodes, self.size, leaf, oldest, units, steps);
     }
 
     /// Adds the choices of a group after the others. Fails only if all leaves are in use; nothing changes then.

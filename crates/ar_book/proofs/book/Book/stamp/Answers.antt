@@ -26,16 +26,16 @@ home_to_refresh-changed-requires c = λ q e.
     (c.self.invariant.kept.tables.agree.to_slot c.args.key q (sym c.restamp-home.ensures.home ∙ e)) in
     omega (arith, size, here)
 
-pub refresh_home-requires-clause-there : goal.refresh_home-requires-clause-there
-refresh_home-requires-clause-there c =
+pub refresh_oldest-requires-clause-there : goal.refresh_oldest-requires-clause-there
+refresh_oldest-requires-clause-there c =
     changed_group (the_view c.self.inside) c.args.key c.self.invariant.kept.tables c.restamp-home.result
     c.home_to_refresh-changed.result c.restamp-home.ensures.home c.home_to_refresh-changed.ensures.same
 
-pub refresh_home-requires-clause-leaves : goal.refresh_home-requires-clause-leaves
-refresh_home-requires-clause-leaves c = index_length (the_view c.self.inside) _ _ c.self.invariant
+pub refresh_oldest-requires-clause-leaves : goal.refresh_oldest-requires-clause-leaves
+refresh_oldest-requires-clause-leaves c = index_length (the_view c.self.inside) _ _ c.self.invariant
 
-pub refresh_home-requires-clause-right : goal.refresh_home-requires-clause-right
-refresh_home-requires-clause-right c =
+pub refresh_oldest-requires-clause-right : goal.refresh_oldest-requires-clause-right
+refresh_oldest-requires-clause-right c =
     let t : Tables = the_view c.self.inside in
     same_order t.units c.restamp-home.new.units.entries _ (ap keys_of c.restamp-home.ensures.stamp
     ∙ keys-set_value (same_addr c.args.key.addr) t.units _) c.self.invariant.right
@@ -51,8 +51,8 @@ invariant_of-self c =
       leaves = restamped_leaves t c.args.key c.saturating_add-self-inside.result c.self.invariant.kept.tables block _ _
           c.restamp-home.result c.home_to_refresh-changed.result c.restamp-home.ensures.home
           c.home_to_refresh-changed.ensures.same c.home_to_refresh-changed.ensures.stays c.self.invariant.leaves
-          (rw c.restamp-home.ensures.stamp at c.refresh_home.ensures.set);
-      right = rw c.restamp-home.ensures.stamp at c.refresh_home.ensures.right;
+          (rw c.restamp-home.ensures.stamp at c.refresh_oldest.ensures.set);
+      right = rw c.restamp-home.ensures.stamp at c.refresh_oldest.ensures.right;
     })
 
 pub returns-clause-few : goal.returns-clause-few
@@ -63,14 +63,14 @@ returns-clause-few c most =
     changed_group t c.args.key c.self.invariant.kept.tables c.restamp-home.result c.home_to_refresh-changed.result
     c.restamp-home.ensures.home c.home_to_refresh-changed.ensures.same in
     let few = few_home t.geometry t.groups _ _ c.home_to_refresh-changed.result
-    (λ q e. c.self.invariant.kept.tables.groups.long q.group (here q e)) (c.refresh_home.ensures.few groups) in
+    (λ q e. c.self.invariant.kept.tables.groups.long q.group (here q e)) (c.refresh_oldest.ensures.few groups) in
     let rows = ap (λ (x : Tables). rows_of x.geometry) c.self.view_is in
     omega (arith, few)
 
 pub returns-clause-still : goal.returns-clause-still
 returns-clause-still c = λ keeps.
     let t : Tables = the_view c.self.inside in
-    c.refresh_home.ensures.still
+    c.refresh_oldest.ensures.still
     (kept_still t c.args.key c.saturating_add-self-inside.result c.self.invariant.kept.tables _
     c.restamp-home.result c.home_to_refresh-changed.result c.restamp-home.ensures.home
     c.home_to_refresh-changed.ensures.same c.home_to_refresh-changed.ensures.needed c.self.invariant.leaves
@@ -81,8 +81,8 @@ returns-clause-still c = λ keeps.
 pub returns-clause-unlooked : goal.returns-clause-unlooked
 returns-clause-unlooked c = λ low.
     let t : Tables = the_view c.self.inside in
-    c.refresh_home.ensures.unlooked
-    (unlooked_still t c.args.key c.restamp-home.new.units.entries c.self.invariant.kept.tables c.self.inside.index
+    c.refresh_oldest.ensures.unlooked
+    (unlooked_still t c.args.key c.self.invariant.kept.tables c.self.inside.index
     c.restamp-home.result c.home_to_refresh-changed.result
     c.restamp-home.ensures.home c.home_to_refresh-changed.ensures.same c.self.invariant.leaves
     (subst (λ (x : Tables). level x c.args.key ≢ Mirrored) (sym c.self.view_is) low))
