@@ -1,6 +1,7 @@
 -- Addresses and keys are equal where their numbers are.
 use std.HLevel.{prop→path_p}
-use Rattle.std.proofs.Common.{◌≡◌, ◌≢◌, ◌⊎◌, Bool, true, false, eqb, ◌<◌, refl, sym, ap, subst, inl, inr, true≢false, ◌∙◌, eq-eqb}
+use Rattle.std.proofs.Common.{◌≡◌, ◌≢◌, ◌⊎◌, Bool, true, false, eqb, ◌<◌, refl, sym, ap, subst, inl, inr, true≢false}
+use Rattle.std.proofs.Common.{◌∙◌, eq-eqb}
 use Rattle.std.proofs.lemmas.Bool.{eqb-true, and_parts, and_from}
 use Rattle.std.proofs.lemmas.Bool.Decides.{eqb_tells}
 use Rattle.std.proofs.Math.Bridge.{le_prop}
@@ -62,6 +63,7 @@ addr_laws = record {
 pub key_tells : (k j : Key) → (k ≡ j) ⊎ (k ≢ j)
 key_tells k j =
     elim (addr_tells k.addr j.addr) [
-      | inl y ↦ elim (eqb_tells k.rb j.rb) [ inl e ↦ inl (make_key k j y.1 e.1) | inr n ↦ inr (λ e. n.1 (ap (λ x. x.rb) e)) ]
+      | inl y ↦
+          elim (eqb_tells k.rb j.rb) [ inl e ↦ inl (make_key k j y.1 e.1) | inr n ↦ inr (λ e. n.1 (ap (λ x. x.rb) e)) ]
       | inr n ↦ inr (λ e. n.1 (ap (λ x. x.addr) e))
     ]

@@ -7,7 +7,8 @@ use Rattle.ar_disks.specs.Fuse.{FuseState, blown}
 abbrev pub fused : DiskState → Bool → ℕ → DiskState
 fused disk gone faults = record disk { gone = gone; faults = faults }
 
-pub block_at-fused : (disk : DiskState) (gone : Bool) (faults e r : ℕ) → block_at (fused disk gone faults) e r ≡ block_at disk e r
+pub block_at-fused : (disk : DiskState) (gone : Bool) (faults e r : ℕ)
+    → block_at (fused disk gone faults) e r ≡ block_at disk e r
 unfolding block_at
 block_at-fused disk gone faults e r = refl
 
@@ -16,10 +17,12 @@ unfolding block_at
 block_at-blown old e r = refl
 
 blown_answers : (old : FuseState) → AccessesDisk old.disk (blown old).disk false
-blown_answers old = record { geometry = refl; extents = refl; gone = refl; stays_gone = λ _. refl; faults = refl; accesses = refl }
+blown_answers old =
+    record { geometry = refl; extents = refl; gone = refl; stays_gone = λ _. refl; faults = refl; accesses = refl }
 
 -- a read that the fuse doesn't pass
-pub blown_reads : (old : FuseState) (answer : Bool) (e r : ℕ) (into : List ℕ) → answer ≡ false → Reads old.disk (blown old).disk e r answer into
+pub blown_reads : (old : FuseState) (answer : Bool) (e r : ℕ) (into : List ℕ) → answer ≡ false
+    → Reads old.disk (blown old).disk e r answer into
 blown_reads old false e r into h = record {
   answers = blown_answers old;
   blocks = λ f s. block_at-blown old f s;
@@ -28,7 +31,8 @@ blown_reads old false e r into h = record {
 blown_reads old true e r into h = absurd (cc)
 
 -- a write that the fuse doesn't pass
-pub blown_writes : (old : FuseState) (answer : Bool) (e r : ℕ) (from : List ℕ) → answer ≡ false → Writes old.disk (blown old).disk e r answer from
+pub blown_writes : (old : FuseState) (answer : Bool) (e r : ℕ) (from : List ℕ) → answer ≡ false
+    → Writes old.disk (blown old).disk e r answer from
 blown_writes old false e r from h = record {
   answers = blown_answers old;
   written = λ done. absurd (cc);
@@ -37,12 +41,21 @@ blown_writes old false e r from h = record {
 }
 blown_writes old true e r from h = absurd (cc)
 
-passed_answers : (old new : DiskState) (faults : ℕ) → AccessesDisk old new true → AccessesDisk (fused old false faults) (fused new false faults) true
+passed_answers : (old new : DiskState) (faults : ℕ) → AccessesDisk old new true
+    → AccessesDisk (fused old false faults) (fused new false faults) true
 passed_answers old new faults a =
-    record { geometry = a.geometry; extents = a.extents; gone = refl; stays_gone = λ gone. gone; faults = refl; accesses = a.accesses }
+    record {
+      geometry = a.geometry;
+      extents = a.extents;
+      gone = refl;
+      stays_gone = λ gone. gone;
+      faults = refl;
+      accesses = a.accesses;
+    }
 
 -- a read that the fuse passes
-pub passed_reads : (old new : DiskState) (gone : Bool) (faults e r : ℕ) (answer : Bool) (into : List ℕ) → gone ≡ false → IsTrue answer
+pub passed_reads : (old new : DiskState) (gone : Bool) (faults e r : ℕ) (answer : Bool) (into : List ℕ)
+    → gone ≡ false → IsTrue answer
     → Reads old new e r answer into → Reads (fused old gone faults) (fused new gone faults) e r answer into
 passed_reads old new false faults e r true into there done reads = record {
   answers = passed_answers old new faults reads.answers;
@@ -53,7 +66,8 @@ passed_reads old new true faults e r answer into there done reads = absurd (cc)
 passed_reads old new gone faults e r false into there done reads = absurd (cc)
 
 -- a write that the fuse passes
-pub passed_writes : (old new : DiskState) (gone : Bool) (faults e r : ℕ) (answer : Bool) (from : List ℕ) → gone ≡ false → IsTrue answer
+pub passed_writes : (old new : DiskState) (gone : Bool) (faults e r : ℕ) (answer : Bool) (from : List ℕ)
+    → gone ≡ false → IsTrue answer
     → Writes old new e r answer from → Writes (fused old gone faults) (fused new gone faults) e r answer from
 passed_writes old new false faults e r true from there done writes = record {
   answers = passed_answers old new faults writes.answers;

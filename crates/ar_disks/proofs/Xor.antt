@@ -71,7 +71,8 @@ length-xor_first (suc n) (x ∷ xs) (y ∷ ys) = ap suc (length-xor_first n xs y
 pub xor_first-more : (i : ℕ) (xs ys : List ℕ) → i < length xs → i < length ys
     → set (xor_first i xs ys) i (bit_xor (get_or (xor_first i xs ys) i 0) (get_or ys i 0)) ≡ xor_first (suc i) xs ys
 xor_first-more zero (x ∷ xs) (y ∷ ys) lx ly = refl
-xor_first-more (suc i) (x ∷ xs) (y ∷ ys) lx ly = ap (λ l. bit_xor x y ∷ l) (xor_first-more i xs ys (omega arith) (omega arith))
+xor_first-more (suc i) (x ∷ xs) (y ∷ ys) lx ly =
+    ap (λ l. bit_xor x y ∷ l) (xor_first-more i xs ys (omega arith) (omega arith))
 xor_first-more i [] ys lx ly = absurd (omega arith)
 xor_first-more i xs [] lx ly = absurd (omega arith)
 

@@ -6,7 +6,8 @@ use Rattle.ar_disks.proofs.bytes.add_both_into.Goals as goal
 pub loop-i-preserved : goal.loop-i-preserved
 loop-i-preserved c =
     rw (c.loop-i.invariant, add-one)
-    (xor_both-more c.loop-i.i c.args.target.now c.args.one.now c.args.other.now (omega arith) (omega arith) (omega arith))
+    (xor_both-more c.loop-i.i c.args.target.now c.args.one.now c.args.other.now
+    (omega arith) (omega arith) (omega arith))
 
 pub returns : goal.returns
 returns c =

@@ -10,9 +10,12 @@ returns-then-passes-clause-read c =
     ap (λ (f : FuseState). f.disk) (c.self.view_is ∙ c.if-passes.ensures.used) in
     let there : c.self.inside.gone ≡ false = ap (λ (d : DiskState). d.gone) was ∙ c.if-passes.ensures.there refl in
     subst
-    (λ (d : DiskState). Reads d (fused c.read.new.self c.self.inside.gone c.self.inside.faults) c.args.ext c.args.row c.read.result c.read.new.into)
+    (λ (d : DiskState).
+    Reads d (fused c.read.new.self c.self.inside.gone c.self.inside.faults) c.args.ext c.args.row c.read.result
+    c.read.new.into)
     was
-    (passed_reads c.self.inside.disk c.read.new.self c.self.inside.gone c.self.inside.faults c.args.ext c.args.row c.read.result c.read.new.into
+    (passed_reads c.self.inside.disk c.read.new.self c.self.inside.gone c.self.inside.faults c.args.ext c.args.row
+    c.read.result c.read.new.into
     there c.read.ensures.sound c.read.ensures.read)
 
 pub returns-else-passes-clause-read : goal.returns-else-passes-clause-read

@@ -10,9 +10,12 @@ returns-then-passes-clause-written c =
     ap (λ (f : FuseState). f.disk) (c.self.view_is ∙ c.if-passes.ensures.used) in
     let there : c.self.inside.gone ≡ false = ap (λ (d : DiskState). d.gone) was ∙ c.if-passes.ensures.there refl in
     subst
-    (λ (d : DiskState). Writes d (fused c.write.new.self c.self.inside.gone c.self.inside.faults) c.args.ext c.args.row c.write.result c.args.from.now)
+    (λ (d : DiskState).
+    Writes d (fused c.write.new.self c.self.inside.gone c.self.inside.faults) c.args.ext c.args.row c.write.result
+    c.args.from.now)
     was
-    (passed_writes c.self.inside.disk c.write.new.self c.self.inside.gone c.self.inside.faults c.args.ext c.args.row c.write.result c.args.from.now
+    (passed_writes c.self.inside.disk c.write.new.self c.self.inside.gone c.self.inside.faults c.args.ext c.args.row
+    c.write.result c.args.from.now
     there c.write.ensures.sound c.write.ensures.written)
 
 pub returns-else-passes-clause-written : goal.returns-else-passes-clause-written

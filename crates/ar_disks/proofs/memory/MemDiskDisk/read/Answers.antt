@@ -7,13 +7,23 @@ use Rattle.ar_disks.proofs.memory.MemDiskDisk.read.Goals as goal
 pub returns-clause-read : goal.returns-clause-read
 returns-clause-read c =
     let old : DiskState =
-    accessed (sound_disk c.self.inside.geometry c.self.inside.extents c.self.inside.bytes.items) c.self.inside.accesses.count in
+    accessed (sound_disk c.self.inside.geometry c.self.inside.extents c.self.inside.bytes.items)
+    c.self.inside.accesses.count in
     let place = subst (λ (d : DiskState). HasPlace d c.args.ext c.args.row) (sym c.self.view_is) c.requires.place in
     let content : c.copy_from_slice.new.self ≡ block_at old c.args.ext c.args.row =
     rw (block_at_row old c.args.ext c.args.row place.row_exists) (cc) in
-    subst (λ (d : DiskState). Reads d (accessed old c.tick.new.self.count) c.args.ext c.args.row true c.copy_from_slice.new.self) c.self.view_is
+    subst (λ (d : DiskState).
+    Reads d (accessed old c.tick.new.self.count) c.args.ext c.args.row true c.copy_from_slice.new.self)
+    c.self.view_is
     (record {
-      answers = record { geometry = refl; extents = refl; gone = refl; stays_gone = λ gone. gone; faults = refl; accesses = c.tick.ensures };
+      answers = record {
+        geometry = refl;
+        extents = refl;
+        gone = refl;
+        stays_gone = λ gone. gone;
+        faults = refl;
+        accesses = c.tick.ensures;
+      };
       blocks = λ e r. block_at-accessed old c.tick.new.self.count e r;
       content = λ _. content;
     })
