@@ -1,5 +1,6 @@
 -- From a connection's clauses to what it has served.
-use Rattle.std.proofs.Common.{◌≡◌, ◌∙◌, ℕ, Bool, List, [], ◌∷◌, ◌++◌, Option, Result, Ok, Err, OnOk, refl, sym, ap, subst}
+use Rattle.std.proofs.Common.{◌≡◌, ◌∙◌, ℕ, Bool, List, [], ◌∷◌, ◌++◌, Option, Result, Ok, Err, OnOk, refl, sym, ap}
+use Rattle.std.proofs.Common.{subst}
 use Rattle.std.specs.declared.alloc.AllocError.{AllocError}
 use Rattle.std.specs.List.{AllByRecursion}
 use Rattle.std.specs.Io.KnownBytes.{Appends, Consumes}
@@ -19,23 +20,29 @@ use Rattle.ar_status.specs.Answers.{IsBodyOf, answer_for, code_of, fields_in, ne
 use Rattle.ar_status.specs.Serving.{RespondsByLook, RespondsTo, ServesConnection}
 
 -- a request was answered by a look
-pub by_look : {V S : Type 0} (shows : V → Bool → ArrayStatus → List ℕ → Type 0) (watched : V) (s : S) (request : Request (List ℕ))
-    (result : Result (Unit {0}) AllocError) (method path : List ℕ) (status : ArrayStatus) (picture : List ℕ) (r : Response) (draws : Bool)
-    → method ≡ (head_of request).method → path ≡ uri_path (head_of request).uri → draws ≡ needs_picture (answer_for method path) → shows watched draws status picture
+pub by_look : {V S : Type 0} (shows : V → Bool → ArrayStatus → List ℕ → Type 0) (watched : V) (s : S)
+    (request : Request (List ℕ))
+    (result : Result (Unit {0}) AllocError) (method path : List ℕ) (status : ArrayStatus) (picture : List ℕ)
+    (r : Response) (draws : Bool)
+    → method ≡ (head_of request).method → path ≡ uri_path (head_of request).uri
+    → draws ≡ needs_picture (answer_for method path) → shows watched draws status picture
     → OnOk result (r.status ≡ code_of (answer_for method path) status.health)
     → OnOk result (fields_of r ≡ fields_in (answer_for method path))
     → OnOk result (IsBodyOf (answer_for method path) status picture r.body.items)
     → OnOk result (RespondsByLook shows watched request r × (s ≡ s))
 by_look shows watched s request (Ok done) method path status picture r draws asked at drawn shown code fields body =
-    let P : List ℕ → List ℕ → Type 0 = λ m p. shows watched (needs_picture (answer_for m p)) status picture × RespondsTo m p status picture r in
+    let P : List ℕ → List ℕ → Type 0 =
+    λ m p. shows watched (needs_picture (answer_for m p)) status picture × RespondsTo m p status picture r in
     let looked = subst (λ d. shows watched d status picture) drawn shown in
     let both : P method path = (looked, record { code = code; fields = fields; body = body }) in
     let all = subst (λ m. P m (uri_path (head_of request).uri)) asked (subst (P method) at both) in
     (record { status = status; picture = picture; shown = all.0; responds = all.1 }, refl)
-by_look shows watched s request (Err fault) method path status picture r draws asked at drawn shown code fields body = tt
+by_look shows watched s request (Err fault) method path status picture r draws asked at drawn shown code fields body =
+    tt
 
 -- each call of a chain was answered by a look at the array of the first state
-answered_all : {V S : Type 0} (shows : V → Bool → ArrayStatus → List ℕ → Type 0) (watched : S → V) (calls : List Call) (old new : S)
+answered_all : {V S : Type 0} (shows : V → Bool → ArrayStatus → List ℕ → Type 0) (watched : S → V)
+    (calls : List Call) (old new : S)
     → Chain (λ s request r next. RespondsByLook shows (watched s) request r × (next ≡ s)) old calls new
     → AllByRecursion (λ call. RespondsByLook shows (watched old) call.0 call.1) calls
 answered_all shows watched [] old new chain = tt
@@ -44,10 +51,12 @@ answered_all {S} shows watched (call ∷ calls) old new chain =
     (chain.1.0, subst P chain.1.1 (answered_all shows watched calls chain.0 new chain.2))
 
 -- a new connection that is done has served
-pub served_by_looks : {V S : Type 0} (shows : V → Bool → ArrayStatus → List ℕ → Type 0) (watched : S → V) (s t : S) (before after : Connection)
+pub served_by_looks : {V S : Type 0} (shows : V → Bool → ArrayStatus → List ℕ → Type 0) (watched : S → V) (s t : S)
+    (before after : Connection)
     (left left' held held' : Option (List ℕ))
     → config_of before ≡ CONFIG → history before ≡ new_history → config_of after ≡ config_of before
-    → Calls (λ s request r next. RespondsByLook shows (watched s) request r × (next ≡ s)) s t (history before).calls (history after).calls
+    → Calls (λ s request r next. RespondsByLook shows (watched s) request r × (next ≡ s)) s t (history before).calls
+    (history after).calls
     → ((more : List ℕ) × Consumes left left' more × ((history after).received ≡ (history before).received ++ more))
     → ((more : List ℕ) × Appends held held' more × ((history after).sent ≡ (history before).sent ++ more))
     → IsDone (history after) → ServesConnection shows (watched s) left left' held held'
@@ -57,7 +66,9 @@ served_by_looks shows watched s t before after left left' held held' config new 
       history = history after;
       served = subst (λ limits. ∥ IsServed limits (history after) ∥₁) (same ∙ config) (always_served after);
       done = done;
-      answered = subst All (sym (calls.1 ∙ ap (λ (h : History). h.calls ++ calls.0) new)) (answered_all shows watched calls.0 s t calls.2);
+      answered =
+          subst All (sym (calls.1 ∙ ap (λ (h : History). h.calls ++ calls.0) new))
+          (answered_all shows watched calls.0 s t calls.2);
       read = subst (Consumes left left') (sym (read.2 ∙ ap (λ (h : History). h.received ++ read.0) new)) read.1;
       written = subst (Appends held held') (sym (written.2 ∙ ap (λ (h : History). h.sent ++ written.0) new)) written.1;
     }

@@ -1,10 +1,12 @@
 -- A list of 50 places, of which the first `count` are used: all are moved by one, and the first is written.
-use Rattle.std.proofs.Common.{◌≡◌, ◌∙◌, ℕ, zero, suc, ◌+◌, ◌<◌, ◌≤◌, ◌⊎◌, inl, inr, min, List, [], ◌∷◌, ◌++◌, length, set, take, drop, sym, ap, arith, length-take}
+use Rattle.std.proofs.Common.{◌≡◌, ◌∙◌, ℕ, zero, suc, ◌+◌, ◌<◌, ◌≤◌, ◌⊎◌, inl, inr, min, List, [], ◌∷◌, ◌++◌, length}
+use Rattle.std.proofs.Common.{set, take, drop, sym, ap, arith, length-take}
 use Rattle.std.proofs.Math.Seq.{paste}
 use Rattle.std.proofs.lemmas.Bool.{cases_lt}
 use Rattle.std.proofs.lemmas.List.{take-take, take-append-le, take_all}
 
-used_at : {X : Type 0} (xs : List X) (count m : ℕ) → m ≡ min count 49 → (count < 49) ⊎ (49 ≤ count) → take m xs ≡ take 49 (take count xs)
+used_at : {X : Type 0} (xs : List X) (count m : ℕ) → m ≡ min count 49 → (count < 49) ⊎ (49 ≤ count)
+    → take m xs ≡ take 49 (take count xs)
 used_at xs count m is (inl few) =
     let same : m ≡ count = omega arith in
     let short : length (take count xs) ≤ 49 = omega (arith, length-take count xs) in

@@ -1,5 +1,6 @@
 -- What is answered to a method and a path.
-use Rattle.std.specs.Prelude.{◌≡◌, ℕ, Bool, true, false, ◌||◌, if◌then◌else◌, List, [], ◌∷◌, ◌++◌, codes, bytes_eq, decimal}
+use Rattle.std.specs.Prelude.{◌≡◌, ℕ, Bool, true, false, ◌||◌, if◌then◌else◌, List, [], ◌∷◌, ◌++◌, codes, bytes_eq}
+use Rattle.std.specs.Prelude.{decimal}
 use Rattle.std.specs.List.{join_with_byte}
 use Rattle.http1.specs.Fields.{Header}
 use Rattle.ar_status.specs.declared.answer.Answer.{Answer}
@@ -56,14 +57,16 @@ allowed_in answer = []
 -- the header fields
 abbrev pub fields_in : Answer → List Header
 fields_in answer =
-    (codes "content-type", media_type_of answer) ∷ (codes "cache-control", codes "no-store") ∷ (codes "connection", codes "close")
+    (codes "content-type", media_type_of answer) ∷ (codes "cache-control", codes "no-store")
+    ∷ (codes "connection", codes "close")
     ∷ allowed_in answer
 
 -- the health as a line, in the words of a script
 abbrev pub health_words : ArrayHealth → List ℕ
 health_words Whole = codes "whole\n"
 health_words (Out disk) = codes "out " ++ decimal disk ++ 10 ∷ []
-health_words (Rebuilding disk done) = join_with_byte 32 (codes "rebuilding" ∷ decimal disk ∷ decimal done ∷ []) ++ 10 ∷ []
+health_words (Rebuilding disk done) =
+    join_with_byte 32 (codes "rebuilding" ∷ decimal disk ∷ decimal done ∷ []) ++ 10 ∷ []
 health_words Broken = codes "broken\n"
 
 -- The body. The texts of metrics and of JSON are not specified.

@@ -14,7 +14,8 @@ events_in recent = take recent.count recent.list
 -- the events after these have happened, one after another: the newest comes first, and 50 are kept
 abbrev pub listed_with : ℕ → List EventKind → List RecentEvent → List RecentEvent
 listed_with seconds [] events = events
-listed_with seconds (kind ∷ kinds) events = listed_with seconds kinds (take 50 ((record { seconds = seconds; kind = kind }) ∷ events))
+listed_with seconds (kind ∷ kinds) events =
+    listed_with seconds kinds (take 50 ((record { seconds = seconds; kind = kind }) ∷ events))
 
 -- what leads to a health from that of an array with all disks
 abbrev pub falls_to : ArrayHealth → List EventKind
@@ -30,8 +31,8 @@ recovers_from (Out disk) = DiskReplaced disk ∷ DiskRebuilt disk ∷ []
 recovers_from (Rebuilding disk done) = DiskRebuilt disk ∷ []
 recovers_from Broken = []
 
--- The fewest events that lead from a health to another. A failed array stays failed. While one disk is replaced and rebuilt,
--- only its own steps have happened; fewer extents are done if it has failed and was replaced again.
+-- The fewest events that lead from a health to another. A failed array stays failed. While one disk is replaced and
+-- rebuilt, only its own steps have happened; fewer extents are done if it has failed and was replaced again.
 abbrev pub between : ArrayHealth → ArrayHealth → List EventKind
 between Broken new = []
 between old Broken = ArrayFailed ∷ []

@@ -23,7 +23,8 @@ pub record RespondsByLook {V : Type 0} (shows : V → Bool → ArrayStatus → L
     (request : Request (List ℕ)) (r : Response) : Type 0 where
   pub status : ArrayStatus
   pub picture : List ℕ
-  pub shown : shows watched (needs_picture (answer_for (head_of request).method (uri_path (head_of request).uri))) status picture
+  pub shown : shows watched (needs_picture (answer_for (head_of request).method (uri_path (head_of request).uri)))
+      status picture
   pub responds : RespondsTo (head_of request).method (uri_path (head_of request).uri) status picture r
 
 -- What was read was answered by what was written, as `http_server` says, and each request that was whole by a look.

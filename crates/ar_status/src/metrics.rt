@@ -1,5 +1,5 @@
-// The metrics, in Prometheus' text format 0.0.4: of each the lines HELP and TYPE, and then its samples. A counter's name
-// ends in `_total`, and a unit is a part of the name.
+// The metrics, in Prometheus' text format 0.0.4: of each the lines HELP and TYPE, and then its samples. A counter's
+// name ends in `_total`, and a unit is a part of the name.
 use crate::{
     ArrayCounters, ArrayHealth, ArrayStatus, HostCounters, MaintenanceSteps, OperationCounters,
     ReplyCounters,

@@ -64,9 +64,9 @@ impl<V: Watched> Service for Watcher<'_, V> {
     }
 }
 
-/// Reads the request of a connection, and answers it by a look at the array. One that isn't HTTP, has a head of more than
-/// `HEAD_MAX` bytes, or a body, is answered with a status that says so; out of memory, it isn't answered. The keys are
-/// those of the maps of header fields, whose names the peer chooses. If it fails, a read or a write has failed.
+/// Reads the request of a connection, and answers it by a look at the array. One that isn't HTTP, has a head of more
+/// than `HEAD_MAX` bytes, or a body, is answered with a status that says so; out of memory, it isn't answered. The keys
+/// are those of the maps of header fields, whose names the peer chooses. If it fails, a read or a write has failed.
 pub fn serve_connection<V: Watched, R: Read, W: Write>(
     alloc: Global,
     keys: RandomState,

@@ -6,6 +6,7 @@ use Rattle.ar_status.proofs.serve.WatcherService.call.Goals as goal
 
 pub returns-clause-ok : goal.returns-clause-ok
 returns-clause-ok g c =
-    by_look g.V.Watched.shows _ _ _ _ _ _ _ _ _ _ (c.as_str-method.ensures.value ∙ c.method.ensures) (c.path-path.ensures.value ∙ ap uri_path c.uri.ensures)
+    by_look g.V.Watched.shows _ _ _ _ _ _ _ _ _ _ (c.as_str-method.ensures.value ∙ c.method.ensures)
+    (c.path-path.ensures.value ∙ ap uri_path c.uri.ensures)
     (c.needs_picture-draws.ensures ∙ ap needs_picture c.answer_to.ensures)
     c.in_ok-look.ensures c.respond.ensures.code c.respond.ensures.fields c.respond.ensures.body
