@@ -84,8 +84,8 @@ pub enum Answer {
 /// A call, and what it has to return.
 pub type Step = (Call, Answer);
 
-/// Compares what a call returned with what it has to return. The fuses of the disks and the number of the call say which
-/// one it is.
+/// Compares what a call returned with what it has to return. The fuses of the disks and the number of the call say
+/// which one it is.
 pub fn compare(rt: &impl Abort, fuses: &[u64], number: u32, step: Step, met: Answer) {
     let (_, wanted) = step;
     assert!(rt;
