@@ -1,5 +1,5 @@
-// Each field of an initiator's PDUs at its extremes. What a target does with them is in the tables of RFC 7143, 11; where a
-// field is reserved or needs no look, the answer is as without the change.
+// Each field of an initiator's PDUs at its extremes. What a target does with them is in the tables of RFC 7143, 11;
+// where a field is reserved or needs no look, the answer is as without the change.
 use crate::fake::Fake;
 use crate::pdus;
 use crate::sessions::{ends, joined, wrote};
@@ -23,8 +23,8 @@ enum Answer<'a> {
 /// A field, where it begins in the header, its bytes, how the session then ends, and the answer.
 type Row<'a> = (&'a str, usize, &'a [u8], IscsiEnd, Answer<'a>);
 
-/// A request: what comes before it, its PDU without and with what is sent behind it, what is answered before it, and the
-/// headers of its answer, each with the data behind it.
+/// A request: what comes before it, its PDU without and with what is sent behind it, what is answered before it, and
+/// the headers of its answer, each with the data behind it.
 struct Request<'a> {
     before: &'a [&'a [u8]],
     pdu: &'a [u8],

@@ -1,5 +1,6 @@
-// Input that is no conversation: one in which bytes were overwritten, and bytes that are none at all. Each session ends,
-// for a reason of its input; no command is given to the port but one that came whole; and what is written are PDUs.
+// Input that is no conversation: one in which bytes were overwritten, and bytes that are none at all. Each session
+// ends, for a reason of its input; no command is given to the port but one that came whole; and what is written are
+// PDUs.
 use crate::fake::Fake;
 use crate::pdus;
 use crate::sessions::joined;

@@ -1,5 +1,5 @@
-// Sessions in which any one allocation may be refused. The gate refuses each in turn, by `.ci/scarce`; with ample memory
-// they are the sessions themselves.
+// Sessions in which any one allocation may be refused. The gate refuses each in turn, by `.ci/scarce`; with ample
+// memory they are the sessions themselves.
 use crate::fake::Fake;
 use crate::garbage::split_pdu;
 use crate::pdus;
