@@ -1,8 +1,9 @@
 //! What several test crates share. Nothing of the product stands on it.
 //!
-//!     answer block draw kinds lists run unit    a reference model of an array, and drawn events: units are lists of bytes, and
-//!                                               command blocks are read by the field tables of SPC-3 and SBC-2. These files
-//!                                               name no crate of the array, and share no code with it
+//!     answer block draw kinds lists run unit    a reference model of an array, and drawn events: units are lists of
+//!                                               bytes, and command blocks are read by the field tables of SPC-3 and
+//!                                               SBC-2. These files name no crate of the array, and share no code with
+//!                                               it
 //!     asked compared                            the model's events and answers in the array's types
 //!     shape calls                               arrays of small disks, of which one may fault, and tables of calls
 #![tactic(auto)]
