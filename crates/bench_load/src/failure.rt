@@ -6,7 +6,9 @@ use thiserror::Error;
 #[derive(Clone, Copy, Debug, Error)]
 pub enum Failure {
     /// The words are not the program's options and their values.
-    #[error("bad command line: bench_load --port PORT [--echo] [--echo-port PORT] [--hosts 1..4] [--bytes 512|4096|65536] [--seconds 1..10] or bench_load --verify --port PORT [--hosts 1..4] [--units 1..8] [--sectors 1..1048576] [--requests 1..900000] [--seed N] [--may-break] [--until-closed]")]
+    #[error("bad command line: bench_load --port PORT [--echo] [--echo-port PORT] [--hosts 1..4] \
+        [--bytes 512|4096|65536] [--seconds 1..10] or bench_load --verify --port PORT [--hosts 1..4] [--units 1..8] \
+        [--sectors 1..1048576] [--requests 1..900000] [--seed N] [--may-break] [--until-closed]")]
     CommandLine,
     /// Nothing listens at the port.
     #[error("connect fault")]
