@@ -10,7 +10,9 @@ pub enum Failure {
     #[error("bad command line: bench_array [--workload NAME] [--seconds 1..600] [--seed N] [--progress] [--check]")]
     CommandLine,
     /// There is no workload of this name.
-    #[error("no such workload; there are: fill overwrite overwrite-cached small-write read small-read parity-read parity-write degraded-read degraded-write demote clean balance rebuild many-groups-64 many-groups-1024 many-groups-3072 script-overwrite script-fill script-read")]
+    #[error("no such workload; there are: fill overwrite overwrite-cached small-write read small-read parity-read \
+        parity-write degraded-read degraded-write demote clean balance rebuild many-groups-64 many-groups-1024 \
+        many-groups-3072 script-overwrite script-fill script-read")]
     NoSuchWorkload,
     /// Memory was refused.
     #[error("no memory")]

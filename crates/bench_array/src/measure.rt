@@ -21,8 +21,8 @@ pub struct Budget {
     pub seed: u64,
 }
 
-/// How large the array of a workload is: 256 MiB of disks with large blocks, half a MiB with small ones, and up to 24 MiB of
-/// these for many groups.
+/// How large the array of a workload is: 256 MiB of disks with large blocks, half a MiB with small ones, and up to
+/// 24 MiB of these for many groups.
 pub fn size_of(workload: Workload, geometry: Geometry) -> Size
     ensures some { 0 < result.disks * result.extents * rows_of result.geometry }
     ensures few { result.disks * result.extents * rows_of result.geometry ≤ 65536 }
