@@ -37,11 +37,18 @@ fn faulty_lines(rt: HostRuntime) {
             // A host's words, with arguments or without.
             (
                 b"read 0 0 0 1\nread\nwrite\ncdb\n",
-                b"fault: not an operator's word\nfault: not an operator's word\nfault: not an operator's word\nfault: not an operator's word\n",
+                b"fault: not an operator's word\n\
+                fault: not an operator's word\n\
+                fault: not an operator's word\n\
+                fault: not an operator's word\n",
             ),
             (
                 b"tur 0 0\ninquiry\ncapacity\nread16\nwrite16\n",
-                b"fault: not an operator's word\nfault: not an operator's word\nfault: not an operator's word\nfault: not an operator's word\nfault: not an operator's word\n",
+                b"fault: not an operator's word\n\
+                fault: not an operator's word\n\
+                fault: not an operator's word\n\
+                fault: not an operator's word\n\
+                fault: not an operator's word\n",
             ),
             (b"block 0 0 0\n", b"fault: not an operator's word\n"),
             // A line cut at the end of input.
