@@ -216,8 +216,9 @@ fn flood<R: Abort + Net<Listener = TcpListener, Stream = TcpStream>>(rt: &R, por
         .set_nonblocking(true)
         .expect(rt, "a socket that doesn't wait");
     let mut to = &stream;
-    let request =
-        *b"\x00\x00\x00\x19\x00\x00\x00\x00\x00\x00\x00\x01\x00\x28\x00\x00\x00\x00\x00\x00\x00\x04\x00\x00\x00\x00\x00\x00\x00";
+    let request = *b"\
+        \x00\x00\x00\x19\x00\x00\x00\x00\x00\x00\x00\x01\x00\
+        \x28\x00\x00\x00\x00\x00\x00\x00\x04\x00\x00\x00\x00\x00\x00\x00";
     let _ = to.write(LOGINS[3]);
     for _ in 0..1000 {
         let _ = to.write(&request);
