@@ -1,5 +1,6 @@
 -- The text of an SVG, piece by piece.
-use Rattle.std.proofs.Common.{◌≡◌, ◌∙◌, ℕ, ◌+◌, List, [], ◌∷◌, ◌++◌, Option, Result, OnOk, length, suc, refl, sym, ap, add-zero, append_assoc, append-nil, arith}
+use Rattle.std.proofs.Common.{◌≡◌, ◌∙◌, ℕ, ◌+◌, List, [], ◌∷◌, ◌++◌, Option, Result, OnOk, length, suc, refl, sym, ap}
+use Rattle.std.proofs.Common.{add-zero, append_assoc, append-nil, arith}
 use Rattle.std.specs.Io.KnownBytes.{Appends}
 use Rattle.std.specs.List.{flat_map, range_with_len}
 use Rattle.ar_picture.specs.declared.picture.Unit.{Unit as PictureUnit}

@@ -1,5 +1,7 @@
 -- The lowest group of an extent, found by a walk over the groups.
-use Rattle.std.proofs.Common.{◌≡◌, ◌≢◌, ◌∙◌, ℕ, ◌+◌, ◌≤◌, Bool, true, false, not, cond, eqb, nat_lt, List, [], ◌∷◌, ◌++◌, length, length-append, Option, None, Some, get_or, length-take, slice_get, subst, suc, take, ◌<◌, refl, sym, ap, arith}
+use Rattle.std.proofs.Common.{◌≡◌, ◌≢◌, ◌∙◌, ℕ, ◌+◌, ◌≤◌, Bool, true, false, not, cond, eqb, nat_lt, List, [], ◌∷◌}
+use Rattle.std.proofs.Common.{◌++◌, length, length-append, Option, None, Some, get_or, length-take, slice_get, subst}
+use Rattle.std.proofs.Common.{suc, take, ◌<◌, refl, sym, ap, arith}
 use Rattle.std.proofs.Math.Seq.{take-suc}
 use Rattle.std.specs.Option.{option_map}
 use Rattle.std.specs.List.{position_or_len}

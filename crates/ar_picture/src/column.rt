@@ -3,8 +3,8 @@ ghost use Rattle.std.specs.Prelude.{◌≡◌, ℕ, ◌*◌, ◌<◌, ◌≤◌,
 ghost use Rattle.std.specs.Io.KnownBytes.{Appends};
 ghost use Rattle.std.specs.List.{flat_map, range_with_len};
 ghost use Rattle.ar_picture.specs.Cells.{group_at};
-ghost use Rattle.ar_picture.specs.Drawings.{bar_at, bar_svg, cell_svg, extent_svg, hatch_svg, label_svg, piece_svg, pieces_svg};
-ghost use Rattle.ar_picture.specs.Drawings.{row_svg, slots_svg, style_of, use_svg, words_at, words_svg};
+ghost use Rattle.ar_picture.specs.Drawings.{bar_at, bar_svg, cell_svg, extent_svg, hatch_svg, label_svg, piece_svg};
+ghost use Rattle.ar_picture.specs.Drawings.{pieces_svg, row_svg, slots_svg, style_of, use_svg, words_at, words_svg};
 
 use crate::layout::{Scale, WIDTH, left_of};
 use crate::palette::colour_at;

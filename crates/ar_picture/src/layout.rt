@@ -9,7 +9,8 @@
 //        |    1 : extent   : extent    |                  |
 //        +------+----------+-----------+------------------+
 ghost use Rattle.std.specs.Prelude.{◌≡◌, ◌==◌, ◌+◌, ◌*◌, ◌%◌, ◌/◌, ◌<◌, ◌≤◌, ◌^◌, nat_lt};
-ghost use Rattle.ar_picture.specs.Layouts.{IsLegible, height_of, left_at, legend_at, line_top_at, outline_of, scale_of, top_at, width_of};
+ghost use Rattle.ar_picture.specs.Layouts.{IsLegible, height_of, left_at, legend_at, line_top_at, outline_of, scale_of};
+ghost use Rattle.ar_picture.specs.Layouts.{top_at, width_of};
 
 use crate::{Picture, UNITS_MAX};
 

@@ -2,8 +2,8 @@
 ghost use Rattle.std.specs.Prelude.{◌≡◌, OnOk, codes};
 ghost use Rattle.std.specs.Io.KnownBytes.{Appends};
 ghost use Rattle.std.specs.List.{flat_map, range_with_len};
-ghost use Rattle.ar_picture.specs.Drawings.{disk_svg, disks_svg, frame_svg, ground_svg, health_svg, name_svg, number_svg};
-ghost use Rattle.ar_picture.specs.Drawings.{opening_svg, picture_svg, state_svg, styles_svg, svg_text};
+ghost use Rattle.ar_picture.specs.Drawings.{disk_svg, disks_svg, frame_svg, ground_svg, health_svg, name_svg};
+ghost use Rattle.ar_picture.specs.Drawings.{number_svg, opening_svg, picture_svg, state_svg, styles_svg, svg_text};
 ghost use Rattle.ar_picture.specs.Layouts.{height_of, width_of};
 
 use crate::column::write_extents;

@@ -9,7 +9,8 @@ ghost use Rattle.std.specs.Prelude.{◌≡◌, All, OnOk};
 ghost use Rattle.std.specs.Io.KnownBytes.{Appends};
 ghost use Rattle.std.specs.List.{flat_map, range_with_len};
 ghost use Rattle.ar_picture.specs.Folds.{IsFold, extents_of};
-ghost use Rattle.ar_picture.specs.Maps.{below_text, cell_text, disks_text, down_text, extents_text, fold_text, heads_text, map_text, missing_mark, unit_text};
+ghost use Rattle.ar_picture.specs.Maps.{below_text, cell_text, disks_text, down_text, extents_text, fold_text};
+ghost use Rattle.ar_picture.specs.Maps.{heads_text, map_text, missing_mark, unit_text};
 ghost use Rattle.ar_picture.specs.Writing.{AddsSome};
 
 use crate::{Cell, Content, Fold, Health, Picture, Unit};
