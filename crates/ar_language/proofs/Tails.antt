@@ -70,16 +70,19 @@ module _ (name : List ℕ) (xs ys : Words) (r : Result Order FaultKind) (some : 
     number : (bits : ℕ) (A B : Order → Type 0) → ParsesAs (HasUnitAndNumber bits xs) A r
         → ParsesAs (HasUnitAndNumber bits ys) B r
     number bits A B =
-        bad (HasUnitAndNumber bits xs) (HasUnitAndNumber bits ys) A B r (no_number bits xs some) (no_number bits ys more)
+        bad (HasUnitAndNumber bits xs) (HasUnitAndNumber bits ys) A B r (no_number bits xs some)
+        (no_number bits ys more)
 
     sectors : (Lba : List ℕ → Type 0) (A B : Order → Type 0) → ParsesAs (HasSectors Lba xs) A r
         → ParsesAs (HasSectors Lba ys) B r
-    sectors Lba A B = bad (HasSectors Lba xs) (HasSectors Lba ys) A B r (no_sectors Lba xs some) (no_sectors Lba ys more)
+    sectors Lba A B =
+        bad (HasSectors Lba xs) (HasSectors Lba ys) A B r (no_sectors Lba xs some) (no_sectors Lba ys more)
 
     written : (Lba : List ℕ → Type 0) (A B : Order → Type 0) → ParsesAs (HasSectorsAndByte Lba xs) A r
         → ParsesAs (HasSectorsAndByte Lba ys) B r
     written Lba A B =
-        bad (HasSectorsAndByte Lba xs) (HasSectorsAndByte Lba ys) A B r (no_written Lba xs some) (no_written Lba ys more)
+        bad (HasSectorsAndByte Lba xs) (HasSectorsAndByte Lba ys) A B r (no_written Lba xs some)
+        (no_written Lba ys more)
 
     block : (A B : Order → Type 0) → ParsesAs (HasCommandBlock xs) A r → ParsesAs (HasCommandBlock ys) B r
     block A B = bad (HasCommandBlock xs) (HasCommandBlock ys) A B r (no_block xs some) (no_block ys more)
@@ -95,7 +98,8 @@ module _ (name : List ℕ) (xs ys : Words) (r : Result Order FaultKind) (some : 
         row (bytes_eq name (codes "flush")) _ _ _ _ (alone _) (row (bytes_eq name (codes "demote")) _ _ _ _ (alone _)
         (row (bytes_eq name (codes "clean")) _ _ _ _ (alone _) (row (bytes_eq name (codes "balance")) _ _ _ _ (alone _)
         (row (bytes_eq name (codes "add")) _ _ _ _ (alone _) (row (bytes_eq name (codes "out")) _ _ _ _ (disk _ _)
-        (row (bytes_eq name (codes "replace")) _ _ _ _ (disk _ _) (row (bytes_eq name (codes "rebuild")) _ _ _ _ (alone _)
+        (row (bytes_eq name (codes "replace")) _ _ _ _ (disk _ _)
+        (row (bytes_eq name (codes "rebuild")) _ _ _ _ (alone _)
         (row (bytes_eq name (codes "levels")) _ _ _ _ (unit _ _)
         (row (bytes_eq name (codes "home")) _ _ _ _ (number 32 _ _)
         (row (bytes_eq name (codes "groups")) _ _ _ _ (alone _) (row (bytes_eq name (codes "room")) _ _ _ _ (alone _)

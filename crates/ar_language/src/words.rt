@@ -15,8 +15,10 @@ pub const MOST_WORDS: usize = 8;
 /// Stores the first words of a line in `words`, up to 8, and returns their number. None: one of the line's words is
 /// empty. Each space separates two words, so that doubled, leading and trailing spaces make empty ones.
 pub fn first_words<'a>(line: &'a str, words: &mut [&'a str; MOST_WORDS]) -> Option<usize>
-    ensures none { IfNone result (list_any (λ word. length word == 0) (slice_split (λ byte. byte == 32) line.now) ≡ true) }
-    ensures some { OnSome result (list_any (λ word. length word == 0) (slice_split (λ byte. byte == 32) line.now) ≡ false) }
+    ensures none { IfNone result
+        (list_any (λ word. length word == 0) (slice_split (λ byte. byte == 32) line.now) ≡ true) }
+    ensures some { OnSome result
+        (list_any (λ word. length word == 0) (slice_split (λ byte. byte == 32) line.now) ≡ false) }
     ensures count { IfSome result (λ count. count ≡ min 8 (length (slice_split (λ byte. byte == 32) line.now))) }
     ensures words { IfSome result (λ count. take count (map (λ word. word.now) words.new)
         ≡ take 8 (slice_split (λ byte. byte == 32) line.now)) }
