@@ -44,9 +44,10 @@ struct Rotation {
 }
 
 /// Runs background maintenance until `stop` is set: one task a step, in the rotation Flush, Rebuild, Clean, Balance,
-/// Demote. Each step takes the lock once, and after one that may have copied an extent it sleeps for 4 ms. After a round
-/// in which there was nothing to do it sleeps for 1 ms, so that it costs the sessions little, and twice as long after
-/// each further one, up to 16 ms; until something happens to the array, such rounds are skipped, for 64 pauses at most.
+/// Demote. Each step takes the lock once, and after one that may have copied an extent it sleeps for 4 ms. After a
+/// round in which there was nothing to do it sleeps for 1 ms, so that it costs the sessions little, and twice as long
+/// after each further one, up to 16 ms; until something happens to the array, such rounds are skipped, for 64 pauses at
+/// most.
 pub fn run_background<R: Wait + Clock, A: MaintainedArray + Drop>(
     rt: &R,
     array: &Mutex<A>,
