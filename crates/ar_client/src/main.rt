@@ -1,5 +1,5 @@
-//! A host or an operator of a served array. As a host, `ar_client` sends the commands of a script on standard input to the
-//! server over TCP, and prints the answers as `autoraid run` does; as an operator it sends the lines as they are.
+//! A host or an operator of a served array. As a host, `ar_client` sends the commands of a script on standard input to
+//! the server over TCP, and prints the answers as `autoraid run` does; as an operator it sends the lines as they are.
 #![tactic(auto)]
 
 mod client;

@@ -42,7 +42,8 @@ struct Answers {
 }
 
 /// Sends the input, and writes the answers, until the server closes the connection. A faulty line ends nothing, but is
-/// reported at the end. A server that closes before it has answered all lines is a session fault, unless it was stopped.
+/// reported at the end. A server that closes before it has answered all lines is a session fault, unless it was
+/// stopped.
 pub fn operate<R: Threads, I: Read + Send + Drop + 'static, O: Write + Drop>(
     rt: &R,
     alloc: Global,
