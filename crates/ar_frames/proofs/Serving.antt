@@ -81,9 +81,11 @@ conversation_more commands old mid new read answers frame reply_frame count requ
           conversation.replied answer;
       read_is = frames_more conversation.requests read request frame conversation.read_is is_frame;
       answers_are =
-          replies_more conversation.requests conversation.replies answers request reply reply_frame conversation.answers_are
+          replies_more conversation.requests conversation.replies answers request reply reply_frame
+          conversation.answers_are
           is_reply;
-      frames_is = ap (λ (n : ℕ). n + 1) conversation.frames_is ∙ sym (length-append conversation.requests (request ∷ []));
+      frames_is =
+          ap (λ (n : ℕ). n + 1) conversation.frames_is ∙ sym (length-append conversation.requests (request ∷ []));
     }
 
 -- nothing was served yet
