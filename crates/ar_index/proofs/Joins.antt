@@ -1,5 +1,6 @@
 -- The join of two neighbours is associative, and nothing is its unit.
-use Rattle.std.proofs.Common.{◌≡◌, ℕ, Bool, true, false, cond, List, [], ◌∷◌, ◌++◌, Option, None, Some, true≢false, refl, sym, ap, ◌∙◌, arith}
+use Rattle.std.proofs.Common.{◌≡◌, ℕ, Bool, true, false, cond, List, [], ◌∷◌, ◌++◌, Option, None, Some, true≢false}
+use Rattle.std.proofs.Common.{refl, sym, ap, ◌∙◌, arith}
 use Rattle.std.specs.Option.{option_or}
 use Rattle.std.proofs.lemmas.Bool.Decides.{nat_tests}
 use Rattle.ar_disks.specs.declared.address.Addr.{Addr}
@@ -15,7 +16,8 @@ or_none : {A : Type 0} (x : Option A) → option_or x None ≡ x
 or_none None = refl
 or_none (Some a) = refl
 
-pub same_choices : (a b : Choices) → a.mirrored ≡ b.mirrored → a.parity ≡ b.parity → a.free ≡ b.free → a.oldest ≡ b.oldest → a ≡ b
+pub same_choices : (a b : Choices) → a.mirrored ≡ b.mirrored → a.parity ≡ b.parity → a.free ≡ b.free
+    → a.oldest ≡ b.oldest → a ≡ b
 same_choices a b m p f o = λ i. record { mirrored = m i; parity = p i; free = f i; oldest = o i }
 
 pub same_age : (a b : Age) → a.stamp ≡ b.stamp → a.key ≡ b.key → a ≡ b
@@ -27,7 +29,8 @@ module _ (place : Addr → ℕ) where
   ages_total a b h = grind (arith, nat_tests)
 
   -- and transitive
-  pub ages_trans : (a b c : Age) → is_no_newer place a b ≡ true → is_no_newer place b c ≡ true → is_no_newer place a c ≡ true
+  pub ages_trans : (a b c : Age) → is_no_newer place a b ≡ true → is_no_newer place b c ≡ true
+      → is_no_newer place a c ≡ true
   ages_trans a b c h i = grind (arith, nat_tests)
 
   pub ages_self : (a : Age) → is_no_newer place a a ≡ true
@@ -38,13 +41,16 @@ module _ (place : Addr → ℕ) where
   older_none (Some a) = refl
 
   -- of three, whichever two are compared first
-  pick_assoc : (a b c : Age) → older place (older place (Some a) (Some b)) (Some c) ≡ older place (Some a) (older place (Some b) (Some c))
+  pick_assoc : (a b c : Age)
+      → older place (older place (Some a) (Some b)) (Some c) ≡ older place (Some a) (older place (Some b) (Some c))
   pick_assoc a b c = by (is_no_newer place a b) (is_no_newer place b c) refl refl
     where
-      first : (p : Bool) → is_no_newer place a b ≡ p → older place (older place (Some a) (Some b)) (Some c) ≡ older place (Some (cond p a b)) (Some c)
+      first : (p : Bool) → is_no_newer place a b ≡ p
+          → older place (older place (Some a) (Some b)) (Some c) ≡ older place (Some (cond p a b)) (Some c)
       first p e = ap (λ r. older place (Some (cond r a b)) (Some c)) e
 
-      second : (q : Bool) → is_no_newer place b c ≡ q → older place (Some a) (older place (Some b) (Some c)) ≡ older place (Some a) (Some (cond q b c))
+      second : (q : Bool) → is_no_newer place b c ≡ q
+          → older place (Some a) (older place (Some b) (Some c)) ≡ older place (Some a) (Some (cond q b c))
       second q f = ap (λ r. older place (Some a) (Some (cond r b c))) f
 
       not_first : is_no_newer place a b ≡ false → is_no_newer place b c ≡ false → is_no_newer place a c ≡ false
@@ -54,12 +60,14 @@ module _ (place : Addr → ℕ) where
           at false g = g
           at true g = let h = ages_total b c f in let i = ages_trans a c b g h in absurd (true≢false (sym i ∙ e))
 
-      by : (p q : Bool) → is_no_newer place a b ≡ p → is_no_newer place b c ≡ q → older place (older place (Some a) (Some b)) (Some c) ≡ older place (Some a) (older place (Some b) (Some c))
+      by : (p q : Bool) → is_no_newer place a b ≡ p → is_no_newer place b c ≡ q
+          → older place (older place (Some a) (Some b)) (Some c) ≡ older place (Some a) (older place (Some b) (Some c))
       by true true e f =
           let g = ages_trans a b c e f in
           first true e ∙ ap (λ r. Some (cond r a c)) g ∙ sym (ap (λ r. Some (cond r a b)) e) ∙ sym (second true f)
       by true false e f = first true e ∙ sym (second false f)
-      by false true e f = first false e ∙ ap (λ r. Some (cond r b c)) f ∙ sym (ap (λ r. Some (cond r a b)) e) ∙ sym (second true f)
+      by false true e f =
+          first false e ∙ ap (λ r. Some (cond r b c)) f ∙ sym (ap (λ r. Some (cond r a b)) e) ∙ sym (second true f)
       by false false e f =
           let no : is_no_newer place a c ≡ false = not_first e f in
           first false e ∙ ap (λ r. Some (cond r b c)) f ∙ sym (ap (λ r. Some (cond r a c)) no) ∙ sym (second false f)
@@ -71,15 +79,22 @@ module _ (place : Addr → ℕ) where
   older_assoc (Some a) (Some b) (Some c) = pick_assoc a b c
 
   pub join_assoc : (x y z : Choices) → join place (join place x y) z ≡ join place x (join place y z)
-  join_assoc x y z = same_choices (join place (join place x y) z) (join place x (join place y z)) (or_assoc x.mirrored y.mirrored z.mirrored) (or_assoc x.parity y.parity z.parity) (or_assoc x.free y.free z.free) (older_assoc x.oldest y.oldest z.oldest)
+  join_assoc x y z =
+      same_choices (join place (join place x y) z) (join place x (join place y z))
+      (or_assoc x.mirrored y.mirrored z.mirrored) (or_assoc x.parity y.parity z.parity) (or_assoc x.free y.free z.free)
+      (older_assoc x.oldest y.oldest z.oldest)
 
   pub join_nothing : (x : Choices) → join place x nothing ≡ x
-  join_nothing x = same_choices (join place x nothing) x (or_none x.mirrored) (or_none x.parity) (or_none x.free) (older_none x.oldest)
+  join_nothing x =
+      same_choices (join place x nothing) x (or_none x.mirrored) (or_none x.parity) (or_none x.free)
+      (older_none x.oldest)
 
   pub nothing_join : (x : Choices) → join place nothing x ≡ x
   nothing_join x = refl
 
   -- a search over two lists is the join of the searches
-  pub search_both : (xs ys : List Choices) → search_all place (xs ++ ys) ≡ join place (search_all place xs) (search_all place ys)
+  pub search_both : (xs ys : List Choices)
+      → search_all place (xs ++ ys) ≡ join place (search_all place xs) (search_all place ys)
   search_both [] ys = sym (nothing_join (search_all place ys))
-  search_both (x ∷ xs) ys = ap (join place x) (search_both xs ys) ∙ sym (join_assoc x (search_all place xs) (search_all place ys))
+  search_both (x ∷ xs) ys =
+      ap (join place x) (search_both xs ys) ∙ sym (join_assoc x (search_all place xs) (search_all place ys))

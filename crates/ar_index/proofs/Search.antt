@@ -1,5 +1,6 @@
 -- The root of a tree is the plain search over its leaves.
-use Rattle.std.proofs.Common.{◌≡◌, ℕ, zero, suc, ◌+◌, ◌*◌, ◌<◌, ◌≤◌, List, [], ◌∷◌, ◌++◌, length, take, drop, get_or, refl, sym, ap, ◌∙◌, arith}
+use Rattle.std.proofs.Common.{◌≡◌, ℕ, zero, suc, ◌+◌, ◌*◌, ◌<◌, ◌≤◌, List, [], ◌∷◌, ◌++◌, length, take, drop, get_or}
+use Rattle.std.proofs.Common.{refl, sym, ap, ◌∙◌, arith}
 use Rattle.std.proofs.Math.Nat.{mul-le-mul_left}
 use Rattle.std.proofs.Math.Seq.{take-add}
 use Rattle.std.proofs.lemmas.List.{drop_more, take_all, length-drop}
@@ -17,7 +18,8 @@ further (suc a) b [] = nil b ∙ sym (nil (suc a + b))
     nil : (n : ℕ) → drop n (let e : List Choices = [] in e) ≡ []
     nil zero = refl
     nil (suc n) = refl
-further (suc a) b (x ∷ xs) = further a b xs ∙ ap (λ n. drop n (x ∷ xs)) (let e : suc (a + b) ≡ suc a + b = omega arith in e)
+further (suc a) b (x ∷ xs) =
+    further a b xs ∙ ap (λ n. drop n (x ∷ xs)) (let e : suc (a + b) ≡ suc a + b = omega arith in e)
 
 some_leaf : (h : ℕ) → 0 < leaves_under h
 some_leaf zero = omega arith
@@ -31,10 +33,12 @@ inner i w size some h =
 
 module _ (place : Addr → ℕ) (size : ℕ) (nodes : List Choices) (tree : IsTree place size nodes) where
   -- a node is the search over the leaves under it
-  subtree : (h i : ℕ) → 0 < i → i * leaves_under h + leaves_under h ≤ 2 * size → node_at nodes i ≡ search_all place (take (leaves_under h) (drop (i * leaves_under h) nodes))
+  subtree : (h i : ℕ) → 0 < i → i * leaves_under h + leaves_under h ≤ 2 * size
+      → node_at nodes i ≡ search_all place (take (leaves_under h) (drop (i * leaves_under h) nodes))
   subtree zero i some inside =
       let one : i * 1 ≡ i = omega arith in
-      let here : drop (i * 1) nodes ≡ node_at nodes i ∷ drop (i + 1) nodes = ap (λ n. drop n nodes) one ∙ drop_more nodes i nothing (omega (arith, tree.twice)) in
+      let here : drop (i * 1) nodes ≡ node_at nodes i ∷ drop (i + 1) nodes =
+      ap (λ n. drop n nodes) one ∙ drop_more nodes i nothing (omega (arith, tree.twice)) in
       sym (ap (λ xs. search_all place (take 1 xs)) here ∙ join_nothing place (node_at nodes i))
   subtree (suc h) i some inside =
       let w : ℕ = leaves_under h in
@@ -44,12 +48,19 @@ module _ (place : Addr → ℕ) (size : ℕ) (nodes : List Choices) (tree : IsTr
       let right : (2 * i + 1) * w ≡ i * (2 * w) + w = omega arith in
       let a = subtree h (2 * i) (omega arith) (omega arith) in
       let b = subtree h (2 * i + 1) (omega arith) (omega arith) in
-      let apart : take (2 * w) (drop (i * (2 * w)) nodes) ≡ take w (drop (i * (2 * w)) nodes) ++ take w (drop (i * (2 * w) + w) nodes) =
-      ap (λ n. take n (drop (i * (2 * w)) nodes)) (let e : 2 * w ≡ w + w = omega arith in e) ∙ take-add w w (drop (i * (2 * w)) nodes) ∙ ap (λ xs. take w (drop (i * (2 * w)) nodes) ++ take w xs) (further (i * (2 * w)) w nodes) in
-      let one : node_at nodes (2 * i) ≡ search_all place (take w (drop (i * (2 * w)) nodes)) = a ∙ ap (λ n. search_all place (take w (drop n nodes))) left in
-      let other : node_at nodes (2 * i + 1) ≡ search_all place (take w (drop (i * (2 * w) + w) nodes)) = b ∙ ap (λ n. search_all place (take w (drop n nodes))) right in
-      tree.joined i some low (omega arith) ∙ ap (λ x. join place x (node_at nodes (2 * i + 1))) one ∙ ap (join place (search_all place (take w (drop (i * (2 * w)) nodes)))) other
-      ∙ sym (search_both place (take w (drop (i * (2 * w)) nodes)) (take w (drop (i * (2 * w) + w) nodes))) ∙ ap (search_all place) (sym apart)
+      let apart : take (2 * w) (drop (i * (2 * w)) nodes)
+      ≡ take w (drop (i * (2 * w)) nodes) ++ take w (drop (i * (2 * w) + w) nodes) =
+      ap (λ n. take n (drop (i * (2 * w)) nodes)) (let e : 2 * w ≡ w + w = omega arith in e)
+      ∙ take-add w w (drop (i * (2 * w)) nodes)
+      ∙ ap (λ xs. take w (drop (i * (2 * w)) nodes) ++ take w xs) (further (i * (2 * w)) w nodes) in
+      let one : node_at nodes (2 * i) ≡ search_all place (take w (drop (i * (2 * w)) nodes)) =
+      a ∙ ap (λ n. search_all place (take w (drop n nodes))) left in
+      let other : node_at nodes (2 * i + 1) ≡ search_all place (take w (drop (i * (2 * w) + w) nodes)) =
+      b ∙ ap (λ n. search_all place (take w (drop n nodes))) right in
+      tree.joined i some low (omega arith) ∙ ap (λ x. join place x (node_at nodes (2 * i + 1))) one
+      ∙ ap (join place (search_all place (take w (drop (i * (2 * w)) nodes)))) other
+      ∙ sym (search_both place (take w (drop (i * (2 * w)) nodes)) (take w (drop (i * (2 * w) + w) nodes)))
+      ∙ ap (search_all place) (sym apart)
 
   -- the root is the search over all leaves
   pub root : (h : ℕ) → leaves_under h ≡ size → node_at nodes 1 ≡ search_all place (drop size nodes)
@@ -57,15 +68,20 @@ module _ (place : Addr → ℕ) (size : ℕ) (nodes : List Choices) (tree : IsTr
       let w : ℕ = leaves_under h in
       let one : 1 * w ≡ size = omega (arith, e) in
       let all : length (drop size nodes) ≤ w = omega (arith, length-drop size nodes, tree.twice, e) in
-      subtree h 1 (omega arith) (omega (arith, e)) ∙ ap (λ n. search_all place (take w (drop n nodes))) one ∙ ap (search_all place) (take_all w (drop size nodes) all)
+      subtree h 1 (omega arith) (omega (arith, e)) ∙ ap (λ n. search_all place (take w (drop n nodes))) one
+      ∙ ap (search_all place) (take_all w (drop size nodes) all)
 
 -- leaves that have nothing don't change a search
-pub search_behind : (place : Addr → ℕ) (xs : List Choices) (n : ℕ) → ((i : ℕ) → n ≤ i → get_or xs i nothing ≡ nothing) → search_all place xs ≡ search_all place (take n xs)
+pub search_behind : (place : Addr → ℕ) (xs : List Choices) (n : ℕ)
+    → ((i : ℕ) → n ≤ i → get_or xs i nothing ≡ nothing) → search_all place xs ≡ search_all place (take n xs)
 search_behind place [] zero empty = refl
 search_behind place [] (suc n) empty = refl
-search_behind place (x ∷ xs) zero empty = ap (λ c. join place c (search_all place xs)) (empty 0 (omega arith)) ∙ search_behind place xs 0 (λ i h. empty (suc i) (omega arith)) ∙ none xs
+search_behind place (x ∷ xs) zero empty =
+    ap (λ c. join place c (search_all place xs)) (empty 0 (omega arith))
+    ∙ search_behind place xs 0 (λ i h. empty (suc i) (omega arith)) ∙ none xs
   where
     none : (ys : List Choices) → search_all place (take 0 ys) ≡ nothing
     none [] = refl
     none (y ∷ ys) = refl
-search_behind place (x ∷ xs) (suc n) empty = ap (join place x) (search_behind place xs n (λ i h. empty (suc i) (omega arith)))
+search_behind place (x ∷ xs) (suc n) empty =
+    ap (join place x) (search_behind place xs n (λ i h. empty (suc i) (omega arith)))

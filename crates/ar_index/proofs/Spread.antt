@@ -1,5 +1,6 @@
 -- A tree that is made anew with more leaves.
-use Rattle.std.proofs.Common.{◌≡◌, ℕ, zero, suc, ◌+◌, ◌-◌, ◌*◌, ◌<◌, ◌≤◌, List, length, drop, set, replicate, refl, sym, ap, ◌∙◌, inl, inr, arith}
+use Rattle.std.proofs.Common.{◌≡◌, ℕ, zero, suc, ◌+◌, ◌-◌, ◌*◌, ◌<◌, ◌≤◌, List, length, drop, set, replicate, refl, sym}
+use Rattle.std.proofs.Common.{ap, ◌∙◌, inl, inr, arith}
 use Rattle.std.proofs.lemmas.Bool.{cases_lt, cases_eq}
 use Rattle.std.proofs.lemmas.List.{length-replicate, get_or-replicate, get_or_past, ext_get_or}
 use Rattle.ar_disks.specs.declared.address.Addr.{Addr}
@@ -21,30 +22,42 @@ blank n i = elim (cases_lt i n) [
   | inr past ↦ get_or_past (replicate n nothing) i nothing (omega (arith, length-replicate n nothing))
 ]
 
-pub spread_none : (place : Addr → ℕ) (size more : ℕ) (nodes : List Choices) → IsSpread place size more 0 nodes (replicate (2 * more) nothing)
+pub spread_none : (place : Addr → ℕ) (size more : ℕ) (nodes : List Choices)
+    → IsSpread place size more 0 nodes (replicate (2 * more) nothing)
 spread_none place size more nodes = record {
   tree = record {
     twice = length-replicate (2 * more) nothing;
-    joined = λ i a b n. blank (2 * more) i ∙ sym (ap (λ x. join place x (node_at (replicate (2 * more) nothing) (2 * i + 1))) (blank (2 * more) (2 * i)) ∙ ap (join place nothing) (blank (2 * more) (2 * i + 1)));
+    joined = λ i a b n.
+        blank (2 * more) i
+        ∙ sym (ap (λ x. join place x (node_at (replicate (2 * more) nothing) (2 * i + 1))) (blank (2 * more) (2 * i))
+        ∙ ap (join place nothing) (blank (2 * more) (2 * i + 1)));
   };
   done = λ i h. absurd (omega arith);
   rest = λ i h. blank (2 * more) (more + i);
 }
 
-pub spread_more : (place : Addr → ℕ) (size more leaf : ℕ) (nodes old new : List Choices) → leaf < size → size ≤ more → IsSpread place size more leaf nodes old
-    → IsTree place more new → drop more new ≡ set (drop more old) leaf (node_at nodes (size + leaf)) → IsSpread place size more (leaf + 1) nodes new
+pub spread_more : (place : Addr → ℕ) (size more leaf : ℕ) (nodes old new : List Choices) → leaf < size → size ≤ more
+    → IsSpread place size more leaf nodes old
+    → IsTree place more new → drop more new ≡ set (drop more old) leaf (node_at nodes (size + leaf))
+    → IsSpread place size more (leaf + 1) nodes new
 spread_more place size more leaf nodes old new inside le ok tree put = record {
   tree = tree;
   done = λ i h. elim (cases_eq i leaf) [
-    | inl e ↦ ap (λ j. node_at new (more + j)) e ∙ put_here more leaf old new (node_at nodes (size + leaf)) put ok.tree.twice (omega arith) ∙ ap (λ j. node_at nodes (size + j)) (sym e)
+    | inl e ↦
+        ap (λ j. node_at new (more + j)) e
+        ∙ put_here more leaf old new (node_at nodes (size + leaf)) put ok.tree.twice (omega arith)
+        ∙ ap (λ j. node_at nodes (size + j)) (sym e)
     | inr ne ↦ put_elsewhere more leaf old new (node_at nodes (size + leaf)) put i ne ∙ ok.done i (omega arith)
   ];
-  rest = λ i h. put_elsewhere more leaf old new (node_at nodes (size + leaf)) put i (omega arith) ∙ ok.rest i (omega arith);
+  rest = λ i h.
+      put_elsewhere more leaf old new (node_at nodes (size + leaf)) put i (omega arith) ∙ ok.rest i (omega arith);
 }
 
 -- a tree that was made anew with twice as many leaves, or with one where there was none
-module _ (size more count : ℕ) (nodes tree : List Choices) (ok : IsGrown size count nodes) (first : size ≡ 0 → more ≡ 1) (twice : 0 < size → more ≡ 2 * size)
-    (made : length tree ≡ 2 * more) (done : (i : ℕ) → i < size → node_at tree (more + i) ≡ node_at nodes (size + i)) (rest : (i : ℕ) → size ≤ i → node_at tree (more + i) ≡ nothing) where
+module _ (size more count : ℕ) (nodes tree : List Choices) (ok : IsGrown size count nodes)
+    (first : size ≡ 0 → more ≡ 1) (twice : 0 < size → more ≡ 2 * size)
+    (made : length tree ≡ 2 * more) (done : (i : ℕ) → i < size → node_at tree (more + i) ≡ node_at nodes (size + i))
+    (rest : (i : ℕ) → size ≤ i → node_at tree (more + i) ≡ nothing) where
   height : (n : ℕ) → n ≡ size → (h : ℕ) × (leaves_under h ≡ more)
   height zero e = (0, sym (first (sym e)))
   height (suc n) e = let p = ok.height (omega arith) in (suc p.0, ap (λ x. 2 * x) p.1 ∙ sym (twice (omega arith)))
@@ -65,7 +78,9 @@ module _ (size more count : ℕ) (nodes tree : List Choices) (ok : IsGrown size 
     twice = made;
     height = λ some. height size refl;
     within = let e = more_than size refl in omega (arith, ok.within);
-    empty = λ i h. let e : more + (i - more) ≡ i = omega arith in ap (node_at tree) (sym e) ∙ behind (i - more) (omega arith);
+    empty = λ i h.
+        let e : more + (i - more) ≡ i = omega arith in
+        ap (node_at tree) (sym e) ∙ behind (i - more) (omega arith);
   }
 
   pub spread_leaves : leaves_in more count tree ≡ leaves_in size count nodes

@@ -15,5 +15,6 @@ pub returns-clause-another : goal.returns-clause-another
 returns-clause-another c = λ f e.
     let one = c.args.one in
     let other = c.args.other in
-    let alike : (same_addr one.addr other.addr && eqb one.rb other.rb) ≡ true = and_from _ _ (same_addr_of one.addr other.addr (ap (λ k. k.addr) e)) (eq-eqb one.rb other.rb (ap (λ k. k.rb) e)) in
+    let alike : (same_addr one.addr other.addr && eqb one.rb other.rb) ≡ true =
+    and_from _ _ (same_addr_of one.addr other.addr (ap (λ k. k.addr) e)) (eq-eqb one.rb other.rb (ap (λ k. k.rb) e)) in
     true≢false (sym (c.eq.ensures ∙ alike) ∙ f)

@@ -7,4 +7,6 @@ use Rattle.ar_index.proofs.choices.place_of.Goals as goal
 
 pub returns-in-None : goal.returns-in-None
 returns-in-None g c =
-    c.len.ensures.len ∙ sym (no_place (same_addr c.args.addr) (keys_of c.args.units.now.entries) (sym c.in-None.ensures.index) ∙ length-keys_of c.args.units.now.entries)
+    c.len.ensures.len
+    ∙ sym (no_place (same_addr c.args.addr) (keys_of c.args.units.now.entries) (sym c.in-None.ensures.index)
+    ∙ length-keys_of c.args.units.now.entries)

@@ -9,5 +9,6 @@ pub returns : goal.returns
 returns c = λ place right.
     let some : 0 < c.self.inside.size = omega (arith, c.if-self-eq0.false) in
     let here : IsRight place (the_view c.self.inside) = subst (IsRight place) (sym c.self.view_is) right in
-    c.node_at.ensures ∙ ap (λ xs. node_at xs 1) c.deref.ensures.value ∙ best_kept place _ _ _ _ c.self.invariant here.joined some
+    c.node_at.ensures ∙ ap (λ xs. node_at xs 1) c.deref.ensures.value
+    ∙ best_kept place _ _ _ _ c.self.invariant here.joined some
     ∙ ap (λ t. search_all place (leaves t)) c.self.view_is
