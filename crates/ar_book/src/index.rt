@@ -146,7 +146,7 @@ pub(crate) fn refresh(
     ensures on { steps.old.count ≤ steps.new.count }
 {
     let choices = choices_of(&groups[number as usize], number, geometry, units, steps);
-    index.set(number as usize, choices, units.map(), steps);
+    index.set(number as usize, &choices, units.map(), steps);
 }
 
 /// Updates the tree after a change of the group of `home`, if there is one.
@@ -266,7 +266,7 @@ pub(crate) fn blank_all(index: &mut Tree, homes: &[Option<Slot>], units: &Units)
         if let Some(slot) = home {
             let group = slot.group as usize;
             if !index.is_blank(group) {
-                index.set(group, Choices::nothing(), order, &mut steps);
+                index.set(group, &Choices::nothing(), order, &mut steps);
             }
         }
     }

@@ -127,22 +127,22 @@ pub(crate) fn put<V>(
     nodes: &mut Vec<Choices>,
     size: usize,
     leaf: usize,
-    choices: Choices,
+    choices: &Choices,
     units: &IndexMap<Addr, V>,
     steps: &mut Steps,
 )
     requires tree { IsTree (place_in units.now.entries) size nodes.old.items }
     requires there { leaf < size }
     ensures tree { IsTree (place_in units.now.entries) size nodes.new.items }
-    ensures leaves { drop size nodes.new.items ≡ slice_set (drop size nodes.old.items) leaf choices }
-    ensures still { spec.node_at nodes.old.items (size + leaf) ≡ choices → steps.new.count ≡ steps.old.count }
+    ensures leaves { drop size nodes.new.items ≡ slice_set (drop size nodes.old.items) leaf choices.now }
+    ensures still { spec.node_at nodes.old.items (size + leaf) ≡ choices.now → steps.new.count ≡ steps.old.count }
     ensures changed { HaveChanged nodes.old.items nodes.new.items (size + leaf) 0 (steps.new.count - steps.old.count) }
     ensures counted { HaveStayed nodes.old.items nodes.new.items (size + leaf) (steps.new.count - steps.old.count) }
     ensures few { 2 ^ (steps.new.count - steps.old.count) ≤ size + leaf }
     ensures on { steps.old.count ≤ steps.new.count }
 {
-    let change = change_at(nodes, size + leaf, &choices);
-    nodes[size + leaf] = choices;
+    let change = change_at(nodes, size + leaf, choices);
+    nodes[size + leaf] = *choices;
     climb(nodes, size, leaf, change, units, steps);
 }
 
@@ -201,7 +201,14 @@ fn spread<V>(
     let mut steps = Steps::new();
     let mut tree = vec![in alloc; Choices::nothing(); 2 * more]?;
     for leaf in 0..size {
-        put(&mut tree, more, leaf, nodes[size + leaf], units, &mut steps);
+        put(
+            &mut tree,
+            more,
+            leaf,
+            &nodes[size + leaf],
+            units,
+            &mut steps,
+        );
     }
     Ok(tree)
 }

@@ -120,15 +120,15 @@ impl Tree {
     pub fn set<V>(
         &mut self,
         leaf: usize,
-        choices: Choices,
+        choices: &Choices,
         units: &IndexMap<Addr, V>,
         steps: &mut Steps,
     )
         requires there { leaf < length (leaves self.old) }
         requires right { IsRight (place_in units.now.entries) self.old }
-        ensures set { leaves self.new ≡ slice_set (leaves self.old) leaf choices }
+        ensures set { leaves self.new ≡ slice_set (leaves self.old) leaf choices.now }
         ensures right { IsRight (place_in units.now.entries) self.new }
-        ensures still { slice_index_or (leaves self.old) leaf nothing ≡ choices → steps.new.count ≡ steps.old.count }
+        ensures still { slice_index_or (leaves self.old) leaf nothing ≡ choices.now → steps.new.count ≡ steps.old.count }
         ensures changed { HaveChanged self.old.nodes self.new.nodes (self.old.size + leaf) 0 (steps.new.count - steps.old.count) }
         ensures counted { HaveStayed self.old.nodes self.new.nodes (self.old.size + leaf) (steps.new.count - steps.old.count) }
         ensures height { 2 ^ (steps.new.count - steps.old.count) ≤ self.old.size + leaf }
@@ -175,7 +175,7 @@ impl Tree {
             &mut self.nodes,
             self.size,
             leaf,
-            choices,
+            &choices,
             units,
             &mut Steps::new(),
         );

@@ -20,20 +20,20 @@ invariant_of-self g c =
     let was : cond {A = ℕ} c.is_some.result 1 0
     ≡ one_if_free (node_at c.self.inside.nodes.items (c.self.inside.size + c.args.leaf)) =
     ap (λ b. cond {A = ℕ} b 1 0) c.is_some.ensures ∙ ap one_if_free former in
-    let is : cond {A = ℕ} c.is_some-2.result 1 0 ≡ one_if_free c.args.choices =
+    let is : cond {A = ℕ} c.is_some-2.result 1 0 ≡ one_if_free c.args.choices.now =
     ap (λ b. cond {A = ℕ} b 1 0) c.is_some-2.ensures in
     let e : c.recount-self-inside.result
     + one_if_free (node_at c.self.inside.nodes.items (c.self.inside.size + c.args.leaf))
-    ≡ c.self.inside.free + one_if_free c.args.choices =
+    ≡ c.self.inside.free + one_if_free c.args.choices.now =
     omega (arith, c.recount-self-inside.ensures) in
     set_kept _ _ _ _ _ _ _ c.self.invariant inside c.put.ensures.tree.twice c.put.ensures.leaves _ e
 
 pub returns-clause-set : goal.returns-clause-set
 returns-clause-set g c =
     let inside = seen_inside _ _ c.args.leaf _ _ c.self.invariant.grown (ap leaves c.self.view_is) c.requires.there in
-    put_leaves c.self.inside.size c.args.leaf c.self.inside.nodes.items c.put.new.nodes.items c.args.choices
+    put_leaves c.self.inside.size c.args.leaf c.self.inside.nodes.items c.put.new.nodes.items c.args.choices.now
     c.put.ensures.leaves c.self.inside.count inside
-    ∙ ap (λ xs. slice_set xs c.args.leaf c.args.choices) (ap leaves c.self.view_is)
+    ∙ ap (λ xs. slice_set xs c.args.leaf c.args.choices.now) (ap leaves c.self.view_is)
 
 pub returns-clause-right : goal.returns-clause-right
 returns-clause-right g c = record { joined = c.put.ensures.tree.joined; behind = (invariant_of-self g c).grown.empty }
