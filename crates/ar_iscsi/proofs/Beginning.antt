@@ -94,7 +94,8 @@ login_from logins source sink so_far text port reason new first none runs =
     first runs)
 
 -- a full feature phase behind a login whose reader's limit was lifted
-pub feature_behind : {P : Type 0} (commands : Commands P) (resets : UnitResets P) (address : List ℕ) (state : LoginState)
+pub feature_behind : {P : Type 0} (commands : Commands P) (resets : UnitResets P) (address : List ℕ)
+    (state : LoginState)
     (s0 s1 s2 : SourceState) (w0 w1 : SinkState) (p0 p1 : P) (reason : FeatureEnd)
     → s1 ≡ s0 → IsFeature commands resets address state s1 s2 w0 w1 p0 p1 reason
     → IsFeature commands resets address state s0 s2 w0 w1 p0 p1 reason
