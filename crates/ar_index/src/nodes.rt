@@ -146,16 +146,16 @@ pub(crate) fn put<V>(
     climb(nodes, size, leaf, change, units, steps);
 }
 
-// Sets the oldest block of a node. Returns in what the node changes.
-fn set_oldest_at(nodes: &mut Vec<Choices>, node: usize, oldest: Option<Age>) -> Change
+// Sets the oldest block of a node to `block`. Returns in what the node changes.
+fn set_oldest_at(nodes: &mut Vec<Choices>, node: usize, block: Option<Age>) -> Change
     requires { node < length nodes.old.items }
     ensures set { nodes.new.items
-        ≡ slice_set nodes.old.items node (with_oldest (spec.node_at nodes.old.items node) oldest) }
+        ≡ slice_set nodes.old.items node (with_oldest (spec.node_at nodes.old.items node) block) }
     ensures changed { IsChangedTo (spec.node_at nodes.old.items node)
-        (with_oldest (spec.node_at nodes.old.items node) oldest) result }
+        (with_oldest (spec.node_at nodes.old.items node) block) result }
 {
-    let change = Change::of_oldest(oldest, nodes[node].oldest);
-    nodes[node].oldest = oldest;
+    let change = Change::of_oldest(block, nodes[node].oldest);
+    nodes[node].oldest = block;
     change
 }
 
