@@ -7,7 +7,6 @@
 use crate::space::Space;
 use ar_book::Slot;
 use ar_disks::{Block, Completion, Disk};
-use ar_extents::Health;
 use ar_index::Steps;
 
 impl<D: Disk> Space<D> {
@@ -49,8 +48,8 @@ impl<D: Disk> Space<D> {
         ensures len { length block.new ≡ length block.old }
     {
         let from = self.book.full_mirrored(&mut Steps::new());
-        let to = self.open_last();
-        if let Health::Broken = self.disks.health() {
+        let (to, filled) = self.open_last();
+        if let Completion::Broken = filled {
             return None;
         }
         match self.move_all(from, to, block) {

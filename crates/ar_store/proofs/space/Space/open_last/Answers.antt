@@ -15,8 +15,8 @@ members-members-requires g c =
     opened_there c.args.self.now.book c.open_last-group.new.self c.open_last-group.result Parity opening.lowest
     opening.opened
 
-pub open_zero-requires : goal.open_zero-requires
-open_zero-requires g c =
+pub open_zero-filled-requires : goal.open_zero-filled-requires
+open_zero-filled-requires g c =
     let opening = c.open_last-group.ensures in
     record {
       group = opened_group c.args.self.now.disks c.args.self.now.book c.open_last-group.new.self
@@ -28,15 +28,16 @@ open_zero-requires g c =
 pub returns : goal.returns
 returns g c =
     let s = c.args.self.now in
-    let b = c.open_zero.new.set in
+    let b = c.open_zero-filled.new.set in
     let opening = c.open_last-group.ensures in
-    let zero = c.open_zero.ensures in
+    let zero = c.open_zero-filled.ensures in
     let told = stripes_told c.members-members.result 0 (rows_of s.disks.geometry) s.disks b zero.plan in
     let access : IsAccessed s.disks b = accessed_work (IsMember c.members-members.result) s.disks b told.works in
     let zeros = zeroed s.disks b s.book c.open_last-group.new.self c.open_last-group.result c.members-members.result
     c.requires.ready.space opening.lowest
     opening.opened c.members-members.ensures access told.keeps zero.slots in
     record {
+      outcome = zero.outcome;
       lowest = opening.lowest;
       opened = opening.opened;
       zeros = zeros.zeros_in;

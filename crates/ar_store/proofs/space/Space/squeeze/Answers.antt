@@ -4,6 +4,7 @@ use Rattle.ar_disks.specs.declared.geometry.Geometry.{Geometry}
 use Rattle.ar_book.specs.declared.class.Class.TheVariants.{Mirrored}
 use Rattle.ar_book.specs.Tables.{Tables, slots_of}
 use Rattle.ar_store.specs.Calls.{HoldsZerosFrom}
+use Rattle.ar_extents.specs.Groups.{outcome_of}
 use Rattle.ar_extents.proofs.Outcomes.{broken_is}
 use Rattle.ar_store.specs.Placing.{CanMove}
 use Rattle.ar_store.specs.Spaces.{store_in}
@@ -28,13 +29,13 @@ pub move_all-requires : goal.move_all-requires
 move_all-requires g c =
     let t = c.args.self.now.book in
     let from = c.full_mirrored-from.result in
-    let to = c.open_last-to.result in
+    let to = c.open_last-to.result.0 in
     let opening = c.open_last-to.ensures in
     record {
       ready = opening.stays.ready;
       can = subst (λ (u : Tables). CanMove u from to) (sym opening.opened)
           (can_move t from to c.requires.ready.space.tables c.full_mirrored-from.ensures.full opening.lowest);
-      sound = λ broken. c.in_default.not-Broken (c.health.ensures.same ∙ broken);
+      sound = λ broken. c.in_default.not-Broken (opening.outcome ∙ ap outcome_of broken);
       whole = c.requires.whole ∙ ap block_len_of (sym opening.stays.accessed.follows.geometry);
     }
 
@@ -45,7 +46,7 @@ returns-in-Done g c =
     let mid = c.open_last-to.new.self in
     let new = c.move_all.new.self in
     let from = c.full_mirrored-from.result in
-    let to = c.open_last-to.result in
+    let to = c.open_last-to.result.0 in
     let opening = c.open_last-to.ensures in
     let moved = c.move_all.ensures in
     let both = stays_then s mid new opening.stays moved.stays in
@@ -74,11 +75,9 @@ returns-in-Done g c =
           opening.lowest opening.opened moved.turns.tables;
       unplaced = λ k is. moved.unplaced k (homes_opened t mid.book to k opening.opened is);
       stand = all_then s mid new moved.stays opening.stand moved.stand;
-      steps = only_squeeze (store_in s) (store_in new) c.full_mirrored-from.result c.open_last-to.result
-          c.full_mirrored-from.ensures.full opening.lowest
-          (squeezes (store_in s) (store_in mid) (store_in new) c.full_mirrored-from.result c.open_last-to.result
-          opening.opened opening.lowest.there
-          opening.plan opening.zeros moved.turns);
+      steps = only_squeeze (store_in s) (store_in new) from to c.full_mirrored-from.ensures.full opening.lowest
+          (squeezes (store_in s) (store_in mid) (store_in new) from to opening.opened opening.lowest.there opening.plan
+          opening.zeros moved.turns);
       stays = record {
         ready = record { space = both.ready.space; scratch = both.ready.scratch };
         units = both.units;
@@ -92,6 +91,8 @@ returns-in-Broken-move_all g c =
     let s = c.args.self.now in
     let mid = c.open_last-to.new.self in
     let new = c.move_all.new.self in
+    let from = c.full_mirrored-from.result in
+    let to = c.open_last-to.result.0 in
     let opening = c.open_last-to.ensures in
     let moved = c.move_all.ensures in
     record {
@@ -99,45 +100,42 @@ returns-in-Broken-move_all g c =
       free = tt;
       zeros = tt;
       none = broken_is new.disks.health (sym c.in-Broken-move_all.is ∙ moved.outcome);
-      begun = begun_squeeze s.book mid.book new.book c.full_mirrored-from.result c.open_last-to.result moved.turns.moved
-          c.full_mirrored-from.ensures.full
+      begun = begun_squeeze s.book mid.book new.book from to moved.turns.moved c.full_mirrored-from.ensures.full
           opening.lowest opening.opened moved.turns.tables;
-      unplaced = λ k is. moved.unplaced k (homes_opened s.book mid.book c.open_last-to.result k opening.opened is);
+      unplaced = λ k is. moved.unplaced k (homes_opened s.book mid.book to k opening.opened is);
       stand = all_then s mid new moved.stays opening.stand moved.stand;
-      steps = only_squeeze (store_in s) (store_in new) c.full_mirrored-from.result c.open_last-to.result
-          c.full_mirrored-from.ensures.full opening.lowest
-          (squeezes (store_in s) (store_in mid) (store_in new) c.full_mirrored-from.result c.open_last-to.result
-          opening.opened opening.lowest.there
-          opening.plan opening.zeros moved.turns);
+      steps = only_squeeze (store_in s) (store_in new) from to c.full_mirrored-from.ensures.full opening.lowest
+          (squeezes (store_in s) (store_in mid) (store_in new) from to opening.opened opening.lowest.there opening.plan
+          opening.zeros moved.turns);
       stays = stays_then s mid new opening.stays moved.stays;
       len = moved.len;
     }
 
 pub returns-in-Broken : goal.returns-in-Broken
 returns-in-Broken g c =
+    let s = c.args.self.now in
+    let mid = c.open_last-to.new.self in
+    let from = c.full_mirrored-from.result in
+    let to = c.open_last-to.result.0 in
     let opening = c.open_last-to.ensures in
+    let broken = broken_is mid.disks.health (sym c.in-Broken.is ∙ opening.outcome) in
     record {
       squeezed = tt;
       free = tt;
       zeros = tt;
-      none = sym c.health.ensures.same ∙ c.in-Broken.is;
+      none = broken;
       begun = record {
-        from = c.full_mirrored-from.result;
-        to = c.open_last-to.result;
+        from = from;
+        to = to;
         full = c.full_mirrored-from.ensures.full;
         lowest = opening.lowest;
         moved = 0;
         moves = record { within = omega arith; tables = opening.opened };
       };
-      unplaced = λ k is. homes_opened c.args.self.now.book c.open_last-to.new.self.book c.open_last-to.result k
-          opening.opened is;
+      unplaced = λ k is. homes_opened s.book mid.book to k opening.opened is;
       stand = opening.stand;
-      steps = only_squeeze (store_in c.args.self.now) (store_in c.open_last-to.new.self) c.full_mirrored-from.result
-          c.open_last-to.result
-          c.full_mirrored-from.ensures.full opening.lowest
-          (squeeze_cut (store_in c.args.self.now) (store_in c.open_last-to.new.self) c.full_mirrored-from.result
-          c.open_last-to.result opening.opened
-          opening.plan (sym c.health.ensures.same ∙ c.in-Broken.is));
+      steps = only_squeeze (store_in s) (store_in mid) from to c.full_mirrored-from.ensures.full opening.lowest
+          (squeeze_cut (store_in s) (store_in mid) from to opening.opened opening.plan broken);
       stays = opening.stays;
       len = refl;
     }
