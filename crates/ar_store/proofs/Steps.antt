@@ -77,11 +77,11 @@ module _ {X : Type 0} (old now new : Space X) (from to i : ℕ) (k : Key) (so_fa
 
   -- The copied slot holds the block, and the others of the group keep theirs.
   pub step_copy : IsSqueezing old new from to (i + 1) → to < length old.book.groups
-      → ((at : Slot) (held : List ℕ) → home now.book k ≡ Some at → SlotHolds (store_in now) at held
+      → ((held : List ℕ) → SlotHolds (store_in now) (slot_at from i) held
       → SlotHolds (store_of new.disks now.book) (slot_at to i) held)
       → BesideHold (store_in now) (store_in new) (slot_at to i)
       → CopiesSlot (members_of (store_in old) from) (members_of (store_in old) to) i now.disks new.disks
-  unfolding one other placed
+  unfolding one other
   step_copy later there holds beside =
       let s = store_in now in
       let geometry : now.book.geometry ≡ now.disks.geometry = so_far.stays.ready.space.geometry in
@@ -96,7 +96,7 @@ module _ {X : Type 0} (old now new : Space X) (from to i : ℕ) (k : Key) (so_fa
             let S : Members → Type 0 = λ m. ClassHolds Parity new.disks m i block in
             subst S to_now
             (subst R so_far.moving.opened
-            (holds (slot_at from i) block placed
+            (holds block
             (subst P (sym (so_far.moving.open_from inside))
             (subst Q (sym (members_moved old now from to i from so_far)) held))));
         beside = λ sound n block below ne held.

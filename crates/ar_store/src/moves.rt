@@ -8,10 +8,9 @@ use ar_disks::{Block, Completion, Disk, Key};
 use ar_index::Steps;
 
 impl<D: Disk> Space<D> {
-    ghost use Rattle.std.specs.Prelude.{◌≡◌, ◌≤◌, ℕ, List, length, Some, IsSome};
+    ghost use Rattle.std.specs.Prelude.{◌≡◌, ◌≤◌, ℕ, List, length, Some};
     ghost use Rattle.ar_disks.specs.Geometry.{block_len_of};
     ghost use Rattle.ar_extents.specs.Groups.{outcome_of};
-    ghost use Rattle.ar_book.specs.declared.class.Slot.{Slot};
     ghost use Rattle.ar_book.specs.Tables.{home, free_groups, HasBlock};
     ghost use Rattle.ar_book.specs.Changes.{assigned, stamped};
     ghost use Rattle.ar_store.specs.Slots.{stands, AllStand, OthersStand, BesideHold, SlotHolds};
@@ -22,11 +21,17 @@ impl<D: Disk> Space<D> {
     ghost use Rattle.ar_store.specs.Calls.{BesideWay};
     ghost use Rattle.ar_store.specs.Spaces.{store_in, IsReady, Stays};
 
-    /// Moves a block to an empty slot, through the buffer `block`. The new slot is written before the tables drop the
-    /// old one.
-    pub(crate) fn move_block(&mut self, key: Key, to: Slot, block: &mut Block) -> Completion
+    /// Moves a block from its home `from` to the empty slot `to`, through the buffer `block`. The new slot is written
+    /// before the tables drop the old one.
+    pub(crate) fn move_block(
+        &mut self,
+        key: Key,
+        from: Slot,
+        to: Slot,
+        block: &mut Block,
+    ) -> Completion
         requires ready { IsReady self.old }
-        requires placed { IsSome (home self.old.book key) }
+        requires home { home self.old.book key ≡ Some from }
         requires hole { IsVacant self.old.book to }
         requires whole { length block.old ≡ block_len_of self.old.disks.geometry }
 
@@ -37,15 +42,12 @@ impl<D: Disk> Space<D> {
 
         ensures stand { AllStand (store_in self.old) (store_in self.new) }
         ensures beside { BesideHold (store_in self.old) (store_in self.new) to }
-        ensures holds { result ≡ Completion.Done → (from : Slot) (held : List ℕ) → home self.old.book key ≡ Some from
-            → SlotHolds (store_in self.old) from held → SlotHolds (store_of self.new.disks self.old.book) to held }
+        ensures holds { result ≡ Completion.Done → (held : List ℕ) → SlotHolds (store_in self.old) from held
+            → SlotHolds (store_of self.new.disks self.old.book) to held }
         ensures plan { CarriesOut (move_plan (store_in self.old) key to) self.old.disks self.new.disks }
         ensures stays { Stays self.old self.new }
         ensures len { length block.new ≡ length block.old }
     {
-        let Some(from) = self.book.home(key) else {
-            unreachable!()
-        };
         let bytes = block.bytes_mut();
         match self.read_at(from, bytes) {
             Completion::Done => self.fill(key, to, bytes),

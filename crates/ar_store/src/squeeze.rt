@@ -88,10 +88,11 @@ impl<D: Disk> Space<D> {
         ensures len { length block.new ≡ length block.old }
     {
         for slot in 0..2 * self.disks.geometry().rows() {
-            let Some(key) = self.book.key_at(Slot { group: from, slot }) else {
+            let home = Slot { group: from, slot };
+            let Some(key) = self.book.key_at(home) else {
                 unreachable!()
             };
-            match self.move_block(key, Slot { group: to, slot }, block) {
+            match self.move_block(key, home, Slot { group: to, slot }, block) {
                 Completion::Done => {}
                 Completion::Broken => return Completion::Broken,
             }

@@ -196,7 +196,10 @@ impl<D: Disk> Store<D> {
         if let Health::Broken = self.space.disks.health() {
             return Completion::Broken;
         }
-        self.space.move_block(key, slot, &mut self.block)
+        let Some(from) = self.space.book.home(key) else {
+            unreachable!()
+        };
+        self.space.move_block(key, from, slot, &mut self.block)
     }
 
     /// Opens the lowest free group as mirrored or parity while two are free. A parity group is filled with zeros, and

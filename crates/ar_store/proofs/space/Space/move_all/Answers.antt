@@ -10,7 +10,7 @@ use Rattle.ar_store.specs.Store.{members_of}
 use Rattle.ar_store.specs.Calls.{HoldsZerosFrom}
 use Rattle.ar_store.specs.Spaces.{store_in}
 use Rattle.ar_store.proofs.Zeros.{zeros_all, zeros_later}
-use Rattle.ar_store.proofs.Options.{some_is, none_not_some}
+use Rattle.ar_store.proofs.Options.{none_not_some}
 use Rattle.ar_store.proofs.Steps.{step_plan, step_copy, copies_then}
 use Rattle.ar_store.proofs.Fills.{done_not_broken}
 use Rattle.ar_store.proofs.Stays.{stays_then, all_then}
@@ -47,8 +47,7 @@ move_block-requires g c =
     let ok = now.stays.ready.space.tables in
     record {
       ready = now.stays.ready;
-      placed = some_is (home u c.in-Some.key) (slot_at c.args.from c.loop-slot.slot)
-          (key_home u ok (slot_at c.args.from c.loop-slot.slot) c.in-Some.key names);
+      home = key_home u ok (slot_at c.args.from c.loop-slot.slot) c.in-Some.key names;
       hole = move_vacant t u c.args.from c.args.to c.loop-slot.slot c.in-Some.key c.requires.ready.space.tables ok
           c.requires.can now.moving (omega arith) names;
       whole = so_far.whole ∙ c.requires.whole ∙ ap block_len_of (sym now.stays.accessed.follows.geometry);

@@ -2,16 +2,13 @@ use Rattle.std.proofs.Common.{ℕ, List, ◌≡◌, ◌≤◌, ◌++◌, drop, l
 use Rattle.std.proofs.lemmas.List.{length-append, length-drop, length-take-le}
 use Rattle.ar_disks.specs.Lending.{refilled}
 use Rattle.ar_disks.specs.Geometry.{block_len_of}
-use Rattle.ar_book.specs.Tables.{Tables, home, free_groups, HasBlock}
+use Rattle.ar_book.specs.Tables.{Tables, free_groups, HasBlock}
 use Rattle.ar_book.specs.Changes.{assigned}
 use Rattle.ar_book.proofs.Homes.{home_slot, home_block}
 use Rattle.ar_extents.proofs.Outcomes.{sound_done, broken_is}
 use Rattle.ar_store.specs.Placing.{IsVacant}
 use Rattle.ar_store.specs.Spaces.{store_in}
 use Rattle.ar_store.proofs.Fills.{moved_stand, beside_then, beside_read, done_not_broken, same_free}
-use Rattle.ar_store.proofs.Options.{none_not_some}
-use Rattle.std.proofs.lemmas.Option.{same_Some}
-use Rattle.ar_book.specs.declared.class.Slot.{Slot}
 use Rattle.ar_store.specs.Slots.{SlotHolds}
 use Rattle.ar_store.specs.Store.{store_of}
 use Rattle.ar_store.proofs.Stays.{stays_then}
@@ -29,7 +26,7 @@ read_at-requires g c =
     let t = c.args.self.now.book in
     record {
       ready = c.requires.ready;
-      slot = home_slot t c.requires.ready.space.tables c.args.key c.in-Some.from (sym c.home.ensures ∙ c.in-Some.is);
+      slot = home_slot t c.requires.ready.space.tables c.args.key c.args.from c.requires.home;
       whole = ap length c.bytes_mut-bytes.ensures.value ∙ c.requires.whole;
     }
 
@@ -41,7 +38,7 @@ fill-requires g c =
     record {
       ready = read.stays.ready;
       block = subst (λ (x : Tables). HasBlock x c.args.key) (sym read.book)
-          (home_block t c.args.key c.in-Some.from (sym c.home.ensures ∙ c.in-Some.is));
+          (home_block t c.args.key c.args.from c.requires.home);
       hole = subst (λ (x : Tables). IsVacant x c.args.to) (sym read.book) c.requires.hole;
       whole = c.read_at.auto.into ∙ ap length c.bytes_mut-bytes.ensures.value ∙ c.requires.whole
           ∙ ap block_len_of (sym read.stays.accessed.follows.geometry);
@@ -59,21 +56,18 @@ returns-in-Done g c =
       moved = λ done. fill.filled done ∙ ap (λ (x : Tables). assigned x c.args.key c.args.to) read.book;
       unmoved = λ broke. fill.unfilled broke ∙ read.book;
       free = subst (λ (x : Tables). free_groups x ≤ free_groups new.book) read.book fill.free;
-      stand = moved_stand (store_in s) (store_in mid) (store_in new) c.args.key c.in-Some.from c.read_at.new.into
+      stand = moved_stand (store_in s) (store_in mid) (store_in new) c.args.key c.args.from c.read_at.new.into
           c.requires.ready.space
-          (sym c.home.ensures ∙ c.in-Some.is) read.stays.accessed.follows fill.stays.accessed.follows read.stand
+          c.requires.home read.stays.accessed.follows fill.stays.accessed.follows read.stand
           c.in-Done.ensures.given
           (λ sound. fill.here (fill.outcome ∙ sound_done new.disks.health sound)) fill.others;
       beside = beside_then s.disks mid.disks s.book mid.book (store_in new) c.args.to read.book
           read.stays.accessed.follows read.keeps fill.beside;
-      holds = λ _ at held placed has.
-          let is = same_Some c.in-Some.from at (sym (sym c.home.ensures ∙ c.in-Some.is) ∙ placed) in
-          let P : Slot → Type 0 = λ x. SlotHolds (store_in s) x held in
+      holds = λ _ held has.
           let R : Tables → Type 0 = λ x. SlotHolds (store_of new.disks x) c.args.to c.read_at.new.into in
           let S : List ℕ → Type 0 = λ bytes. SlotHolds (store_of new.disks s.book) c.args.to bytes in
-          subst S (c.in-Done.ensures.given held (subst P (sym is) has)) (subst R read.book fill.holds);
-      plan = moved_by (store_in s) (store_in mid) new.disks c.args.key c.in-Some.from c.args.to (sym c.home.ensures
-          ∙ c.in-Some.is) read.book
+          subst S (c.in-Done.ensures.given held has) (subst R read.book fill.holds);
+      plan = moved_by (store_in s) (store_in mid) new.disks c.args.key c.args.from c.args.to c.requires.home read.book
           read.stays.accessed.follows.geometry read.plan fill.writes.plan;
       stays = stays_then s mid new read.stays fill.stays;
       len = length-refilled c.args.block.now c.read_at.new.into;
@@ -92,13 +86,9 @@ returns-in-Broken g c =
       beside = beside_read c.args.self.now.disks mid.disks c.args.self.now.book mid.book c.args.to read.book
           read.stays.accessed.follows read.keeps;
       holds = λ done. absurd (done_not_broken (sym done));
-      plan = moved_none (store_in c.args.self.now) (store_in mid) c.args.key c.in-Some.from c.args.to
-          (sym c.home.ensures ∙ c.in-Some.is)
+      plan = moved_none (store_in c.args.self.now) (store_in mid) c.args.key c.args.from c.args.to
+          c.requires.home
           (broken_is mid.disks.health (sym c.in-Broken.is ∙ read.outcome)) read.plan;
       stays = read.stays;
       len = length-refilled c.args.block.now c.read_at.new.into;
     }
-
-pub unreachable-requires : goal.unreachable-requires
-unreachable-requires g c =
-    none_not_some (home c.args.self.now.book c.args.key) c.requires.placed (sym c.home.ensures ∙ c.in_default.is)

@@ -1,4 +1,4 @@
-use Rattle.std.proofs.Common.{IsSome, refl, sym, ap, subst, ◌∙◌}
+use Rattle.std.proofs.Common.{refl, sym, ap, subst, ◌∙◌}
 use Rattle.ar_extents.specs.Groups.{outcome_of}
 use Rattle.ar_extents.specs.Plans.{CarriesOut}
 use Rattle.ar_extents.proofs.Plans.{carries_broken}
@@ -8,13 +8,14 @@ use Rattle.ar_store.specs.Placing.{IsVacant}
 use Rattle.ar_store.specs.Plans.{move_plan}
 use Rattle.ar_store.proofs.Changes.{units_refl}
 use Rattle.ar_store.proofs.Fills.{done_not_broken}
+use Rattle.ar_store.proofs.Options.{none_not_some}
 use Rattle.ar_store.proofs.Fields.{ready_in, fields_stay, free_then}
 use Rattle.ar_store.proofs.store.Store.move_rb.Goals as goal
 
 pub move_block-requires : goal.move_block-requires
 move_block-requires g c = record {
   ready = ready_in c.self.inside.space c.self.inside.block c.self.invariant;
-  placed = subst (λ (s : StoreState). IsSome (home s.book c.args.key)) (sym c.self.view_is) c.requires.placed;
+  home = sym c.home.ensures ∙ c.in-Some.is;
   hole = subst (λ (s : StoreState). IsVacant s.book c.args.slot) (sym c.self.view_is) c.requires.hole;
   whole = c.self.invariant.block_len;
 }
@@ -48,3 +49,8 @@ returns-in-Broken g c =
       plan = carries_broken (move_plan s c.args.key c.args.slot) s.disks broken;
       broken = λ _. refl;
     }
+
+pub unreachable-requires : goal.unreachable-requires
+unreachable-requires g c =
+    none_not_some (home c.args.self.now.book c.args.key) c.requires.placed
+    (ap (λ (s : StoreState). home s.book c.args.key) (sym c.self.view_is) ∙ sym c.home.ensures ∙ c.in_default-home.is)
