@@ -71,46 +71,17 @@ impl<D: Disk + Drop> LiveArray<D> {
         ensures uncounted { CountsNothing self.old self.new }
     {
         match operation {
-            OperationOf::Make(addr, sectors) => self.make(addr, sectors),
-            OperationOf::Grow(addr, sectors) => self.grow(addr, sectors),
-            OperationOf::Remove(addr) => self.remove(addr),
+            OperationOf::Make(addr, sectors) => {
+                self.change(EventOf::Make(addr, sectors), &Entry::Make(addr, sectors))
+            }
+            OperationOf::Grow(addr, sectors) => {
+                self.change(EventOf::Grow(addr, sectors), &Entry::Grow(addr, sectors))
+            }
+            OperationOf::Remove(addr) => self.change(EventOf::Remove(addr), &Entry::Remove(addr)),
             OperationOf::AddDisk(disk) => self.quiet(EventOf::AddDisk(disk)),
             OperationOf::DiskOut(disk) => self.quiet(EventOf::DiskOut(disk)),
             OperationOf::Replace(number, disk) => self.quiet(EventOf::Replace(number, disk)),
         }
-    }
-
-    fn make(&mut self, addr: Addr, sectors: u32) -> Outcome<D>
-        ensures steps { Steps self.old.array (EventOf.Make addr sectors) result self.new.array }
-        ensures recorded { self.new.history ≡ self.old.history ++ history_entry (EventOf.Make addr sectors) result }
-        ensures room { self.new.room ≡ self.old.room }
-        ensures kept { StaysKept self.old self.new }
-        ensures uncounted { CountsNothing self.old self.new }
-    {
-        let entry = Entry::Make(addr, sectors);
-        self.change(EventOf::Make(addr, sectors), &entry)
-    }
-
-    fn grow(&mut self, addr: Addr, sectors: u32) -> Outcome<D>
-        ensures steps { Steps self.old.array (EventOf.Grow addr sectors) result self.new.array }
-        ensures recorded { self.new.history ≡ self.old.history ++ history_entry (EventOf.Grow addr sectors) result }
-        ensures room { self.new.room ≡ self.old.room }
-        ensures kept { StaysKept self.old self.new }
-        ensures uncounted { CountsNothing self.old self.new }
-    {
-        let entry = Entry::Grow(addr, sectors);
-        self.change(EventOf::Grow(addr, sectors), &entry)
-    }
-
-    fn remove(&mut self, addr: Addr) -> Outcome<D>
-        ensures steps { Steps self.old.array (EventOf.Remove addr) result self.new.array }
-        ensures recorded { self.new.history ≡ self.old.history ++ history_entry (EventOf.Remove addr) result }
-        ensures room { self.new.room ≡ self.old.room }
-        ensures kept { StaysKept self.old self.new }
-        ensures uncounted { CountsNothing self.old self.new }
-    {
-        let entry = Entry::Remove(addr);
-        self.change(EventOf::Remove(addr), &entry)
     }
 
     // Executes a maintenance event.

@@ -7,7 +7,8 @@ ghost use Rattle.ar_volume.specs.Sectors.{Address};
 ghost use Rattle.ar_core.specs.Step.{Steps, is_quiet};
 ghost use Rattle.ar_history.specs.Counts.{CountsNothing, CountsOperation, CountsTask};
 ghost use Rattle.ar_history.specs.Kept.{HistoryAgrees, MayGrow, StaysKept, history_entry};
-ghost use Rattle.ar_history.specs.Operations.{Does, IsRefused, AllocatesFor, event_of, event_of_task, entry_asked};
+ghost use Rattle.ar_history.specs.Operations.{Does, IsNoMemory, IsRefused, AllocatesFor, event_of, event_of_task};
+ghost use Rattle.ar_history.specs.Operations.{entry_asked};
 
 use crate::live_operate::is_done;
 use crate::{Entry, Kept, Operation, OperationOf, Task};
@@ -92,61 +93,25 @@ impl<D: Disk + Drop, L: Ledger> Kept<D, L> {
         ensures uncounted { CountsNothing self.old self.new }
     {
         match operation {
-            OperationOf::Make(addr, sectors) => self.make(addr, sectors),
-            OperationOf::Grow(addr, sectors) => self.grow(addr, sectors),
-            OperationOf::Remove(addr) => self.remove(addr),
+            OperationOf::Make(addr, sectors) => self.change(
+                EventOf::Make(addr, sectors),
+                Entry::Make(addr, sectors),
+                OutcomeOf::Make(Err(NO_MEMORY)),
+            ),
+            OperationOf::Grow(addr, sectors) => self.change(
+                EventOf::Grow(addr, sectors),
+                Entry::Grow(addr, sectors),
+                OutcomeOf::Grow(Err(NO_MEMORY)),
+            ),
+            OperationOf::Remove(addr) => self.change(
+                EventOf::Remove(addr),
+                Entry::Remove(addr),
+                OutcomeOf::Remove(Err(NO_MEMORY)),
+            ),
             OperationOf::AddDisk(disk) => self.quiet(EventOf::AddDisk(disk)),
             OperationOf::DiskOut(disk) => self.quiet(EventOf::DiskOut(disk)),
             OperationOf::Replace(number, disk) => self.quiet(EventOf::Replace(number, disk)),
         }
-    }
-
-    fn make(&mut self, addr: Addr, sectors: u32) -> Outcome<D>
-        ensures does { Does self.old.array (EventOf.Make addr sectors) result self.new.array }
-        ensures recorded { self.new.history ≡ self.old.history ++ history_entry (EventOf.Make addr sectors) result }
-        ensures begun { length self.old.history < self.new.room
-            → Steps self.old.array (EventOf.Make addr sectors) result self.new.array }
-        ensures unbegun { self.new.room ≡ length self.old.history → is_broken self.old.array ≡ false
-            → IsRefused self.old.array (EventOf.Make addr sectors) result self.new.array }
-        ensures memory { AllocatesFor (EventOf.Make addr sectors) self.old self.new }
-        ensures uncounted { CountsNothing self.old self.new }
-    {
-        if !self.can_record() {
-            return OutcomeOf::Make(Err(NO_MEMORY));
-        }
-        self.change(EventOf::Make(addr, sectors), Entry::Make(addr, sectors))
-    }
-
-    fn grow(&mut self, addr: Addr, sectors: u32) -> Outcome<D>
-        ensures does { Does self.old.array (EventOf.Grow addr sectors) result self.new.array }
-        ensures recorded { self.new.history ≡ self.old.history ++ history_entry (EventOf.Grow addr sectors) result }
-        ensures begun { length self.old.history < self.new.room
-            → Steps self.old.array (EventOf.Grow addr sectors) result self.new.array }
-        ensures unbegun { self.new.room ≡ length self.old.history → is_broken self.old.array ≡ false
-            → IsRefused self.old.array (EventOf.Grow addr sectors) result self.new.array }
-        ensures memory { AllocatesFor (EventOf.Grow addr sectors) self.old self.new }
-        ensures uncounted { CountsNothing self.old self.new }
-    {
-        if !self.can_record() {
-            return OutcomeOf::Grow(Err(NO_MEMORY));
-        }
-        self.change(EventOf::Grow(addr, sectors), Entry::Grow(addr, sectors))
-    }
-
-    fn remove(&mut self, addr: Addr) -> Outcome<D>
-        ensures does { Does self.old.array (EventOf.Remove addr) result self.new.array }
-        ensures recorded { self.new.history ≡ self.old.history ++ history_entry (EventOf.Remove addr) result }
-        ensures begun { length self.old.history < self.new.room
-            → Steps self.old.array (EventOf.Remove addr) result self.new.array }
-        ensures unbegun { self.new.room ≡ length self.old.history → is_broken self.old.array ≡ false
-            → IsRefused self.old.array (EventOf.Remove addr) result self.new.array }
-        ensures memory { AllocatesFor (EventOf.Remove addr) self.old self.new }
-        ensures uncounted { CountsNothing self.old self.new }
-    {
-        if !self.can_record() {
-            return OutcomeOf::Remove(Err(NO_MEMORY));
-        }
-        self.change(EventOf::Remove(addr), Entry::Remove(addr))
     }
 
     // Executes a maintenance event.
@@ -163,15 +128,22 @@ impl<D: Disk + Drop, L: Ledger> Kept<D, L> {
         self.live.quiet(event)
     }
 
-    // Executes an event, and records `entry` if it was done.
-    fn change(&mut self, event: Event<D>, entry: Entry) -> Outcome<D>
+    // Executes a create, resize or delete, and records `entry` if it was done. If the history has no capacity for the
+    // entry and gets none, nothing is done, and the outcome is `refused`.
+    fn change(&mut self, event: Event<D>, entry: Entry, refused: Outcome<D>) -> Outcome<D>
         requires asked { entry_asked event ≡ Some entry }
-        requires room { is_broken self.old.array ≡ false → length self.old.history < self.old.room }
-        ensures steps { Steps self.old.array event result self.new.array }
+        requires refused { IsNoMemory event refused }
+        ensures does { Does self.old.array event result self.new.array }
         ensures recorded { self.new.history ≡ self.old.history ++ history_entry event result }
-        ensures room { self.new.room ≡ self.old.room }
+        ensures begun { length self.old.history < self.new.room → Steps self.old.array event result self.new.array }
+        ensures unbegun { self.new.room ≡ length self.old.history → is_broken self.old.array ≡ false
+            → IsRefused self.old.array event result self.new.array }
+        ensures memory { AllocatesFor event self.old self.new }
         ensures uncounted { CountsNothing self.old self.new }
     {
+        if !self.can_record() {
+            return refused;
+        }
         let outcome = self.live.change(event, &entry);
         if is_done(&outcome) {
             self.history.push_reserved(entry);
