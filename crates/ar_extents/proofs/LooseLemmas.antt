@@ -1,10 +1,11 @@
--- How marks change, and what the lowest loose extent is.
+-- How marks change, what the lowest loose extent is, and how many there are.
 use Rattle.std.proofs.Common.{◌≡◌, ◌≢◌, inl, inr, ℕ, zero, suc, ◌<◌, ◌≤◌, Bool, true, false, List, [], ◌∷◌, ◌++◌}
 use Rattle.std.proofs.Common.{length, get_or, set, replicate, Some, None, position, count_by, refl, sym, ◌∙◌, ap, subst}
-use Rattle.std.proofs.Common.{arith}
+use Rattle.std.proofs.Common.{◌+◌, cond, arith}
 use Rattle.std.specs.List.{position_or_len}
 use Rattle.std.proofs.lemmas.Bool.{cases_lt}
 use Rattle.std.proofs.lemmas.Bool.Decides.{eqb_tells, leb_tells}
+use Rattle.std.proofs.lemmas.List.Sums.{sum_by-cons, position_or_len_is}
 use Rattle.std.proofs.lemmas.List.{get_or-set_same, get_or-set_other, get_or-replicate, set_past, get_or_append_left}
 use Rattle.std.proofs.Math.Seq.{get_or-append_seam}
 use Rattle.ar_disks.specs.declared.address.Place.{Place}
@@ -93,6 +94,69 @@ position_is marks e is = elim (leb_tells (suc (first marks)) (length marks)) [
       ≡ first marks = cc in let lt = t.1 in (same, omega arith))
   | inr t ↦ absurd (let k : None ≡ Some e = rw t.0 at is in cc)
 ]
+
+-- the first true mark, found by a walk
+pub first_found : (marks : List Bool) (e : ℕ) → e < length marks → ((k : ℕ) → k < e → get_or marks k false ≡ false)
+    → get_or marks e false ≡ true → Some e ≡ position (λ mark. mark) marks
+first_found marks e lt below here =
+    let at : first marks ≡ e = position_or_len_is (λ mark. mark) marks e false (omega arith) below (λ h. here) in
+    elim (leb_tells (suc (first marks)) (length marks)) [
+      | inl t ↦ rw t.0 (ap Some (sym at))
+      | inr t ↦ absurd (let past = t.1 in omega arith)
+    ]
+
+-- no mark, after a walk to the end
+pub none_found : (marks : List Bool) (n : ℕ) → length marks ≤ n → ((k : ℕ) → k < n → get_or marks k false ≡ false)
+    → None ≡ position (λ mark. mark) marks
+none_found marks n past below =
+    let at : first marks ≡ length marks =
+    position_or_len_is (λ mark. mark) marks (length marks) false (omega arith) (λ k h. below k (omega arith))
+    (λ h. absurd (omega arith)) in
+    elim (leb_tells (suc (first marks)) (length marks)) [
+      | inl t ↦ absurd (let lt = t.1 in omega arith)
+      | inr t ↦ rw t.0 refl
+    ]
+
+count_first : (m : Bool) (marks : List Bool)
+    → count_by (λ mark. mark) (m ∷ marks) ≡ cond {A = ℕ} m 1 0 + count_by (λ mark. mark) marks
+count_first m marks = sum_by-cons (λ (mark : Bool). cond {A = ℕ} mark 1 0) m marks
+
+marked_counts : (marks : List Bool) (e : ℕ) → e < length marks → get_or marks e false ≡ true
+    → count_by (λ mark. mark) marks ≡ count_by (λ mark. mark) (set marks e false) + 1
+marked_counts [] e lt here = absurd (omega arith)
+marked_counts (true ∷ marks) zero lt here =
+    let before = count_first true marks in
+    let after : count_by (λ mark. mark) (set (true ∷ marks) 0 false) ≡ 0 + count_by (λ mark. mark) marks =
+    count_first false marks in
+    omega arith
+marked_counts (false ∷ marks) zero lt here = absurd (let no : false ≡ true = here in cc)
+marked_counts (m ∷ marks) (suc e) lt here =
+    let before = count_first m marks in
+    let after : count_by (λ mark. mark) (set (m ∷ marks) (suc e) false)
+    ≡ cond {A = ℕ} m 1 0 + count_by (λ mark. mark) (set marks e false) =
+    count_first m (set marks e false) in
+    let rest = marked_counts marks e (omega arith) here in
+    omega arith
+
+-- the lowest mark is cleared: one fewer is marked
+pub one_fewer : (marks : List Bool) (e : ℕ) → position (λ mark. mark) marks ≡ Some e
+    → count_by (λ mark. mark) marks ≡ count_by (λ mark. mark) (set marks e false) + 1
+one_fewer marks e is =
+    let at = position_is marks e is in
+    marked_counts marks e at.1
+    (ap (λ (i : ℕ). get_or marks i false) at.0
+    ∙ first_is marks (let same = at.0 in let lt = at.1 in omega arith))
+
+-- and none up to it
+pub none_up_to : (marks : List Bool) (e : ℕ) → position (λ mark. mark) marks ≡ Some e
+    → (i : ℕ) → i < e + 1 → get_or (set marks e false) i false ≡ false
+none_up_to marks e is i lt =
+    let at = position_is marks e is in
+    elim (eqb_tells i e) [
+      | inl q ↦ subst (λ (k : ℕ). get_or (set marks e false) k false ≡ false) (sym q.1) (unmarked marks e)
+      | inr q ↦ get_or-set_other marks e i false false q.1
+          ∙ before_first marks i (let same = at.0 in let other = q.1 in omega arith)
+    ]
 
 -- the lowest loose extent exists and is loose
 pub lowest_loose-is : (s : SetState) (d e : ℕ) → lowest_loose s d ≡ Some e

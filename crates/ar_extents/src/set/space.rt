@@ -32,9 +32,7 @@ impl<D: Disk> DiskSet<D> {
         ensures taken { self.new ≡ taken self.old disk result }
         ensures used { IfSome result (λ extent. is_loose self.new (record { disk = disk; extent = extent }) ≡ false) }
     {
-        let extent = self.lowest_loose(disk)?;
-        self.loose[disk as usize].set(extent, false);
-        Some(extent)
+        self.loose[disk as usize].take()
     }
 
     /// Makes an assigned extent unassigned.
@@ -44,6 +42,6 @@ impl<D: Disk> DiskSet<D> {
         ensures given { self.new ≡ given self.old place }
         ensures loose { is_loose self.new place ≡ true }
     {
-        self.loose[place.disk as usize].set(place.extent, true);
+        self.loose[place.disk as usize].give(place.extent);
     }
 }
