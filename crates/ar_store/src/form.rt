@@ -44,7 +44,7 @@ fn fuller(counts: &[u16], but: &[u8], best: Option<u8>, number: u8) -> Option<u8
     requires there { number < length counts.now }
     ensures { IsFullest counts.now but.now (number + 1) result }
 {
-    if but.contains(&number) || counts[number as usize] == 0 {
+    if counts[number as usize] == 0 || but.contains(&number) {
         return best;
     }
     let Some(disk) = best else {

@@ -2,16 +2,16 @@ use Rattle.std.proofs.Common.{sym, subst, ◌∙◌, true≢false, arith}
 use Rattle.ar_store.specs.Fullest.{IsFullest}
 use Rattle.ar_store.proofs.Picking.{fullest_same, fullest_first, fullest_next, fullest_less}
 use Rattle.ar_store.proofs.form.fuller.Goals as goal
-use Rattle.ar_store.proofs.form.fuller.Goals.{then-contains-via-then-contains}
-use Rattle.ar_store.proofs.form.fuller.Goals.{then-contains-via-else-contains+then-counts-number-eq0}
+use Rattle.ar_store.proofs.form.fuller.Goals.{then-counts-number-eq0-via-then-counts-number-eq0}
+use Rattle.ar_store.proofs.form.fuller.Goals.{then-counts-number-eq0-via-else-counts-number-eq0+then-contains}
 
-pub returns-then-contains : goal.returns-then-contains
-returns-then-contains c =
+pub returns-then-counts-number-eq0 : goal.returns-then-counts-number-eq0
+returns-then-counts-number-eq0 c =
     fullest_same c.args.counts.now c.args.but.now c.args.number c.args.best c.requires.best
-    (λ other. elim c.then-contains.branch [
-      | then-contains-via-then-contains w ↦
-          absurd (true≢false (sym w.if-contains.true ∙ c.contains.ensures.value ∙ other))
-      | then-contains-via-else-contains+then-counts-number-eq0 w ↦ w.if-counts-number-eq0.true
+    (λ other. elim c.then-counts-number-eq0.branch [
+      | then-counts-number-eq0-via-then-counts-number-eq0 w ↦ w.if-counts-number-eq0.true
+      | then-counts-number-eq0-via-else-counts-number-eq0+then-contains w ↦
+          absurd (true≢false (sym w.if-contains.true ∙ w.contains.ensures.value ∙ other))
     ])
 
 pub returns-in_default : goal.returns-in_default
