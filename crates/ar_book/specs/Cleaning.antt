@@ -6,6 +6,7 @@ use Rattle.ar_disks.specs.declared.geometry.Geometry.{Geometry}
 use Rattle.ar_book.specs.declared.class.Class.{Class}
 use Rattle.ar_book.specs.declared.class.Class.TheVariants.{Free, Mirrored, Parity}
 use Rattle.ar_book.specs.declared.class.Slot.{Slot}
+use Rattle.ar_book.specs.declared.cleaning.GroupUse.{GroupUse}
 use Rattle.ar_book.specs.Tables.{GroupState, Tables, group_in, class_of, key_at, slots_of, used}
 use Rattle.ar_book.specs.Choices.{IsHole, IsUpTo}
 
@@ -50,10 +51,12 @@ pub record IsEmptiest (t : Tables) (c : Class) (g : ℕ) : Type 0 where
   pub can : CanBeEmptied t c g
   pub least : (h : ℕ) → CanBeEmptied t c h → IsNoFuller t g h
 
--- of the groups below a number that are of a class and have blocks, the one with the fewest, the lowest on ties
-pub record IsEmptiestBelow (t : Tables) (c : Class) (to : ℕ) (o : Option ℕ) : Type 0 where
-  pub found : IfSome o (λ g. IsInUse t c g × (g < to))
-  pub least : (h : ℕ) → IsInUse t c h → h < to → IsSomeAnd o (λ g. IsNoFuller t g h)
+-- of the groups below a number that are of a class and have blocks, the one with the fewest, the lowest on ties, and
+-- how many they are
+pub record IsEmptiestBelow (t : Tables) (c : Class) (to : ℕ) (o : Option GroupUse) : Type 0 where
+  pub found : IfSome o (λ g. IsInUse t c g.number × (g.number < to))
+  pub blocks : IfSome o (λ g. g.used ≡ used (group_in t.groups g.number))
+  pub least : (h : ℕ) → IsInUse t c h → h < to → IsSomeAnd o (λ g. IsNoFuller t g.number h)
 
 -- the block in the lowest occupied slot of a group
 pub record IsFirstBlock (t : Tables) (g : ℕ) (k : Key) : Type 0 where

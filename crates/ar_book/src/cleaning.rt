@@ -2,17 +2,24 @@
 //
 // One walk over the groups finds it. Kept in the search tree it would be found in none, but each write to a new slot,
 // and each move, would climb to the root for it, and took up to 1.8 times as many instructions.
-ghost use Rattle.std.specs.Prelude.{◌≡◌, ◌+◌, ◌*◌, ◌<◌, ◌≤◌, ℕ, true, false, length, IfSome, IfNone};
+ghost use Rattle.std.specs.Prelude.{◌≡◌, ◌≢◌, ◌+◌, ◌*◌, ◌<◌, ◌≤◌, ℕ, true, false, length, IfSome, IfNone};
 ghost use Rattle.ar_disks.specs.Geometry.{rows_of};
 ghost use Rattle.ar_book.specs.Book.{TablesAgree};
-ghost use Rattle.ar_book.specs.Tables.{used, group_in};
-ghost use Rattle.ar_book.specs.Cleaning.{holes_in, CanBeEmptied, IsEmptiest, IsEmptiestBelow, IsInUse, IsFirstBlock};
+ghost use Rattle.ar_book.specs.Tables.{used, class_of, group_in};
+ghost use Rattle.ar_book.specs.Cleaning.{CanBeEmptied, IsEmptiest, IsEmptiestBelow, IsFirstBlock};
 ghost use Rattle.ar_book.specs.Cleaning.{IsOpenBut, IsOpenBeside, IsLowestHoleBeside};
 
 use crate::group::slots_of;
 use crate::{Book, Class, Slot};
 use ar_disks::Key;
 use ar_index::Steps;
+
+// The number of a group, and of its blocks.
+#[derive(Clone, Copy)]
+struct GroupUse {
+    number: u32,
+    used: u16,
+}
 
 impl Book {
     /// The group of a class that cleaning empties: of those that have blocks, all of which fit in the holes of the
@@ -23,57 +30,50 @@ impl Book {
         ensures none { IfNone result ((group : ℕ) → CanBeEmptied self.now class group → ⊥) }
         ensures counted { steps.new.count ≡ steps.old.count + length self.now.groups }
     {
+        let slots = slots_of(self.geometry, class);
         let mut holes = 0;
         let mut emptiest = None;
         for number in 0..self.groups() {
             steps.tick();
-            holes += u32::from(self.holes_at(class, number));
-            emptiest = self.emptier(class, number, emptiest);
+            if self.is_of(class, number) {
+                let used = self.used(number);
+                holes += u32::from(slots - used);
+                emptiest = self.emptier(class, GroupUse { number, used }, emptiest);
+            }
         }
         // A group's holes and blocks are its slots: so its blocks fit in the others' holes exactly if the class has at
         // least as many holes as a group has slots.
-        if holes < u32::from(slots_of(self.geometry, class)) {
+        if holes < u32::from(slots) {
             return None;
         }
-        emptiest
+        Some(emptiest?.number)
     }
 
-    // The emptier of `emptiest`, found among the groups before `number`, and `number`, if it is of the class and has
+    // The emptier of `emptiest`, found among the groups before `group`, and `group`, a group of the class, if it has
     // blocks.
-    fn emptier(&self, class: Class, number: u32, emptiest: Option<u32>) -> Option<u32>
-        requires there { number < length self.now.groups }
-        requires before { IsEmptiestBelow self.now class number emptiest }
-        ensures { IsEmptiestBelow self.now class (number + 1) result }
+    fn emptier(&self, class: Class, group: GroupUse, emptiest: Option<GroupUse>) -> Option<GroupUse>
+        requires there { group.number < length self.now.groups }
+        requires class { class_of self.now group.number ≡ class }
+        requires used { group.used ≡ used (group_in self.now.groups group.number) }
+        requires before { IsEmptiestBelow self.now class group.number emptiest }
+        ensures { IsEmptiestBelow self.now class (group.number + 1) result }
     {
-        if !self.is_in_use(class, number) {
+        if group.used == 0 {
             return emptiest;
         }
         match emptiest {
-            Some(first) if self.used(first) <= self.used(number) => emptiest,
-            _ => Some(number),
+            Some(first) if first.used <= group.used => emptiest,
+            _ => Some(group),
         }
     }
 
-    // Whether a group is of `class` and has blocks.
-    fn is_in_use(&self, class: Class, group: u32) -> bool
+    // Whether a group is of `class`.
+    fn is_of(&self, class: Class, group: u32) -> bool
         requires { group < length self.now.groups }
-        ensures yes { result ≡ true → IsInUse self.now class group }
-        ensures no { result ≡ false → IsInUse self.now class group → ⊥ }
+        ensures yes { result ≡ true → class_of self.now group ≡ class }
+        ensures no { result ≡ false → class_of self.now group ≢ class }
     {
-        self.class(group) == class && self.used(group) > 0
-    }
-
-    // The number of holes in a group; 0 if it is of another class.
-    fn holes_at(&self, class: Class, group: u32) -> u16
-        requires { group < length self.now.groups }
-        ensures holes { result ≡ holes_in self.now.geometry class (group_in self.now.groups group) }
-        ensures few { result ≤ 48 }
-    {
-        let own = self.class(group);
-        if own != class {
-            return 0;
-        }
-        slots_of(self.geometry, own) - self.used(group)
+        self.class(group) == class
     }
 
     /// The block in the lowest occupied slot of a group that has blocks. Counts a step for each slot up to it.
