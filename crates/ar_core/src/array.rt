@@ -1,13 +1,16 @@
 // The array and its events. Until data loss every sector past a unit's end, and of absent units, is zero (`IsPadded`);
 // so a create or resize writes nothing.
-ghost use Rattle.std.specs.Prelude.{◌≡◌, ◌≤◌, All, map, IfOk, IfErr, OnOk, OnErr, unwrap_or, length};
+ghost use Rattle.std.specs.Prelude.{◌≡◌, ◌≤◌, [], All, map, IfOk, IfErr, IfSome, OnOk, OnErr, unwrap_or, length};
 ghost use Rattle.ar_disks.specs.declared.address.Addr.{Addr};
 ghost use Rattle.ar_disks.specs.Geometry.{block_len_of};
+ghost use Rattle.ar_extents.specs.Changes.{start_fault, started};
 ghost use Rattle.ar_volume.specs.Image.{geometry_of};
 
 use crate::{Event, EventOf, Outcome, OutcomeOf, Refusal};
+use ar_cache::Cache;
 use ar_disks::{Addr, Block, Disk};
 use ar_extents::{StartFault, fault_of};
+use ar_store::Store;
 use ar_volume::Blocks;
 use std::alloc::Global;
 use std::marker::Model;
@@ -37,7 +40,6 @@ impl<D: Disk> Model for Array<D> {
 impl<D: Disk> Array<D> {
     ghost use Rattle.ar_extents.specs.declared.refusal.StartFault.TheVariants.{NoMemory};
     ghost use Rattle.ar_extents.specs.Set.{CanCount};
-    ghost use Rattle.ar_extents.specs.Changes.{start_fault};
     ghost use Rattle.ar_volume.specs.Start.{IsStarted};
 
     /// Creates a healthy array of `disks`, without units, its groups of four extents all free. `cache` is the capacity
@@ -51,19 +53,29 @@ impl<D: Disk> Array<D> {
         ensures refused { IfErr result (λ back. back.0 ≡ unwrap_or (start_fault (map D.state disks.items)) NoMemory) }
         ensures handed_back { IfErr result (λ back. back.1 ≡ disks) }
     {
-        if let Some(fault) = fault_of(&disks) {
-            return Err((fault, disks));
-        }
-        let Ok(block) = Block::new(alloc, disks[0].geometry()) else {
-            return Err((StartFault::NoMemory, disks));
+        let Some((cache, block)) = make_buffers(alloc, &disks, cache) else {
+            return Err((fault_of(&disks).unwrap_or(StartFault::NoMemory), disks));
         };
-        let blocks = Blocks::start(alloc, disks, cache)?;
+        let store = Store::start(alloc, disks)?;
         Ok(Array {
-            blocks,
+            blocks: Blocks::new(store, cache),
             block,
             spare: Vec::new(alloc),
         })
     }
+}
+
+// The empty cache and the buffer of an array of these disks. None if there is no disk, or out of memory.
+fn make_buffers<D: Disk>(alloc: Global, disks: &[D], capacity: u32) -> Option<(Cache, Block)>
+    requires { capacity ≤ 65536 }
+    ensures cache { IfSome result (λ made. made.0
+        ≡ record { geometry = (started (map D.state disks.now)).geometry; capacity = capacity; entries = [] }) }
+    ensures block { IfSome result (λ made. length made.1 ≡ block_len_of (started (map D.state disks.now)).geometry) }
+{
+    let geometry = disks.first()?.geometry();
+    let cache = Cache::new(alloc, geometry, capacity).ok()?;
+    let block = Block::new(alloc, geometry).ok()?;
+    Some((cache, block))
 }
 
 impl<D: Disk> Array<D> {

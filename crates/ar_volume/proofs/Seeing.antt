@@ -16,7 +16,7 @@ use Rattle.ar_extents.specs.declared.health.Health.TheVariants.{Whole, Out, Rebu
 use Rattle.ar_disks.specs.declared.completion.Completion.{Completion}
 use Rattle.ar_disks.specs.declared.completion.Completion.TheVariants.{Done, Broken as NotDone}
 use Rattle.ar_extents.specs.Set.{SetState, disk_in}
-use Rattle.ar_extents.specs.Changes.{is_broken_set, start_fault}
+use Rattle.ar_extents.specs.Changes.{is_broken_set, started}
 use Rattle.ar_extents.specs.Groups.{outcome_of}
 use Rattle.ar_extents.proofs.Losses.{stays_broken}
 use Rattle.ar_book.specs.declared.class.Slot.{Slot}
@@ -374,41 +374,23 @@ pub at_ok : {A E : Type 0} (r : Result A E) (P : Type 0) → true ≡ is_ok r �
 at_ok (Ok x) P ok h = h
 at_ok (Err e) P ok h = absurd (true≢false ok)
 
--- the first of disks that aren't refused
-first_disk : {X : Type 0} (f : X → DiskState) (xs : List X) (x : X) → start_fault (map f xs) ≡ None → x ≡ get_or xs 0 x
-    → disk_in (map f xs) 0 ≡ f x
-first_disk f [] x taken is = cc
-first_disk f (y ∷ ys) x taken is = ap f (sym is)
-
--- a store that begins and an empty cache for the blocks of its first disk are an array that begins
-pub begun : {X : Type 0} (f : X → DiskState) (xs : List X) (x : X) (s : StoreState) (c : CacheState) (g : Geometry)
-    (n : ℕ) → start_fault (map f xs) ≡ None
-    → x ≡ get_or xs 0 x → g ≡ (f x).geometry → c ≡ record { geometry = g; capacity = n; entries = [] }
-    → IsStoreStarted (map f xs) s
-    → IsStarted (map f xs) n (record { store = s; cache = c })
-begun f xs x s c g n taken first geometry empty formed =
-    let new = started_new (map f xs) s formed in
-    let same : g ≡ s.disks.geometry =
-    geometry ∙ ap (λ (d : DiskState). d.geometry) (sym (first_disk f xs x taken first)) ∙ sym new.geometry in
+-- a store that begins and an empty cache of its disks' geometry, as it was read, are an array that begins
+pub begun : (disks read : List DiskState) (s : StoreState) (c : CacheState) (n : ℕ) → read ≡ disks
+    → c ≡ record { geometry = (started read).geometry; capacity = n; entries = [] } → IsStoreStarted disks s
+    → IsStarted disks n (record { store = s; cache = c })
+begun disks read s c n is empty formed =
+    let new = started_new disks s formed in
     record {
       formed = formed;
       disks_same = new.disks_same;
       whole = new.health;
       no_unit = new.units;
       cache = empty
-          ∙ ap (λ (h : Geometry). let made : CacheState = record { geometry = h; capacity = n; entries = [] } in made)
-          same;
+          ∙ ap (λ (g : Geometry). let made : CacheState = record { geometry = g; capacity = n; entries = [] } in made)
+          (ap (λ (ds : List DiskState). (started ds).geometry) is ∙ sym new.geometry);
     }
 
--- its blocks are those of its first disk
-pub begun_geometry : {X : Type 0} (f : X → DiskState) (xs : List X) (x : X) (s : ArrayState) (n : ℕ)
-    → start_fault (map f xs) ≡ None
-    → x ≡ get_or xs 0 x → IsStarted (map f xs) n s → geometry_of s ≡ (f x).geometry
-begun_geometry f xs x s n taken first begins =
-    (started_new (map f xs) s.store begins.formed).geometry
-    ∙ ap (λ (d : DiskState). d.geometry) (first_disk f xs x taken first)
-
--- and it is padded, as every block is zeros
+-- it is padded, as every block is zeros
 pub begun_padded : (disks : List DiskState) (n : ℕ) (s : ArrayState) → IsStarted disks n s → IsPadded s
 begun_padded disks n s begins = record {
   zeros = λ now addr i past.
@@ -419,12 +401,13 @@ begun_padded disks n s begins = record {
       begins.no_unit));
 }
 
--- in an array that begins nothing is cached
-pub joined_begun : (disks : List DiskState) (n : ℕ) (s : ArrayState) → IsStarted disks n s → CacheAgrees s
-joined_begun disks n s begins = record {
-  geometry = ap (λ (c : CacheState). c.geometry) begins.cache;
+-- nothing is cached of an empty cache
+pub joined_empty : (s : StoreState) (c : CacheState) → c.geometry ≡ s.disks.geometry → c.entries ≡ []
+    → CacheAgrees (record { store = s; cache = c })
+joined_empty s c geometry empty = record {
+  geometry = geometry;
   known = record
-      { known = λ k is. absurd (true≢false (sym is ∙ ap (λ (c : CacheState). is_some (cached c k)) begins.cache)) };
+      { known = λ k is. absurd (true≢false (sym is ∙ ap (λ es. is_some (cached (with_entries c es) k)) empty)) };
 }
 
 -- an empty cache is as it was once it has been emptied

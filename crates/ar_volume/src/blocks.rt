@@ -1,7 +1,6 @@
 // The blocks of all units: a write-back cache over the store. The invariant: every cached block belongs to a unit and
 // has the store's geometry (`CacheAgrees`).
-ghost use Rattle.std.specs.Prelude.{◌≡◌, ◌≢◌, ◌≤◌, ◌<◌, All, map, None, false, IfOk, IfErr, OnOk, MatchOption, length};
-ghost use Rattle.std.specs.Prelude.{unwrap_or};
+ghost use Rattle.std.specs.Prelude.{◌≡◌, ◌≢◌, ◌<◌, [], false, OnOk, MatchOption, length};
 ghost use Rattle.ar_disks.specs.declared.address.Key.{Key};
 ghost use Rattle.ar_disks.specs.Block.{zeros};
 ghost use Rattle.ar_disks.specs.Geometry.{block_len_of, rows_of};
@@ -20,7 +19,7 @@ use crate::{Flush, Refusal};
 use ar_book::Book;
 use ar_cache::{Backing, Cache};
 use ar_disks::{Addr, Completion, Disk, Geometry, Key, Place};
-use ar_extents::{DiskSet, Got, Health, StartFault, fault_of};
+use ar_extents::{DiskSet, Got, Health};
 use ar_store::Store;
 use std::alloc::Global;
 use std::marker::Model;
@@ -95,40 +94,21 @@ impl<D: Disk> Backing for Blocks<D> {
 }
 
 impl<D: Disk> Blocks<D> {
-    ghost use Rattle.ar_extents.specs.declared.refusal.StartFault.TheVariants.{NoMemory};
-    ghost use Rattle.ar_extents.specs.Set.{CanCount};
-    ghost use Rattle.ar_extents.specs.Changes.{start_fault};
     ghost use Rattle.ar_store.specs.Kept.{IsKept};
     ghost use Rattle.ar_volume.specs.Image.{CacheAgrees};
-    ghost use Rattle.ar_volume.specs.Start.{IsStarted};
     ghost use Rattle.ar_volume.specs.Seen.{IsUnit};
 
-    /// Creates the blocks of no unit, on `disks`, with an empty cache of `cache` blocks (at most 65,536). Errors, which
-    /// give the disks back: their number, their shapes, out of memory.
-    pub fn start(
-        alloc: Global,
-        disks: Vec<D>,
-        cache: u32,
-    ) -> Result<Blocks<D>, (StartFault, Vec<D>)>
-        requires few { cache ≤ 65536 }
-        requires counting { All CanCount (map D.state disks.items) }
-        ensures taken { OnOk result (start_fault (map D.state disks.items) ≡ None) }
-        ensures started { IfOk result (IsStarted (map D.state disks.items) cache) }
-        ensures refused { IfErr result (λ back. back.0 ≡ unwrap_or (start_fault (map D.state disks.items)) NoMemory) }
-        ensures handed_back { IfErr result (λ back. back.1 ≡ disks) }
+    /// Creates the blocks of the units of `store`, behind an empty cache of its geometry.
+    pub fn new(store: Store<D>, cache: Cache) -> Blocks<D>
+        requires geometry { cache.geometry ≡ store.disks.geometry }
+        requires empty { cache.entries ≡ [] }
+        ensures { result ≡ record { store = store; cache = cache } }
     {
-        if let Some(fault) = fault_of(&disks) {
-            return Err((fault, disks));
-        }
-        let Ok(cache) = Cache::new(alloc, disks[0].geometry(), cache) else {
-            return Err((StartFault::NoMemory, disks));
-        };
-        let store = Store::start(alloc, disks)?;
-        Ok(Blocks {
+        Blocks {
             cache,
             behind: Behind { store, reads: 0 },
             reads: 0,
-        })
+        }
     }
 
     /// Returns the health of the array; its contract states the invariant.
