@@ -10,7 +10,7 @@ use Rattle.ar_language.specs.declared.fault.FaultKind.{FaultKind}
 use Rattle.ar_language.specs.declared.fault.FaultKind.TheVariants.{BadArgument}
 use Rattle.ar_language.specs.declared.order.Order.{Order}
 use Rattle.ar_language.specs.Forms.{Words, HasUnit, HasUnitAndNumber, HasSectors, HasSectorsAndByte, HasCommandBlock}
-use Rattle.ar_language.specs.Forms.{HasRowAddress, HasDisk, IsNumberOf, ParsesAs, ReadsArrayOrder, ReadsCommand}
+use Rattle.ar_language.specs.Forms.{HasRowAddress, HasDisk, IsNumberOf, ParsesAs, ReadsArrayOrder, ReadsUnitOrder}
 use Rattle.ar_language.specs.Forms.{ReadsOrder, ReadsNamed, ReadsWords, is_silent, ReadsLine}
 
 -- ---- of seven arguments or more no word has a form
@@ -106,22 +106,22 @@ module _ (name : List ℕ) (xs ys : Words) (r : Result Order FaultKind) (some : 
         (row (bytes_eq name (codes "health")) _ _ _ _ (alone _) (row (bytes_eq name (codes "picture")) _ _ _ _ (alone _)
         (row (bytes_eq name (codes "block")) _ _ _ _ (place _ _) (λ unknown. unknown)))))))))))))))
 
-    command : ReadsCommand name xs r → ReadsCommand name ys r
-    command =
-        row (bytes_eq name (codes "tur")) _ _ _ _ (unit _ _)
-        (row (bytes_eq name (codes "inquiry")) _ _ _ _ (number 16 _ _)
-        (row (bytes_eq name (codes "capacity")) _ _ _ _ (unit _ _)
-        (row (bytes_eq name (codes "read")) _ _ _ _ (sectors (IsNumberOf 32) _ _)
-        (row (bytes_eq name (codes "write")) _ _ _ _ (written (IsNumberOf 32) _ _)
-        (row (bytes_eq name (codes "read16")) _ _ _ _ (sectors IsNumber _ _)
-        (row (bytes_eq name (codes "write16")) _ _ _ _ (written IsNumber _ _)
-        (row (bytes_eq name (codes "cdb")) _ _ _ _ (block _ _) array_order)))))))
+    unit_order : ReadsUnitOrder name xs r → ReadsUnitOrder name ys r
+    unit_order =
+        row (bytes_eq name (codes "make")) _ _ _ _ (number 32 _ _)
+        (row (bytes_eq name (codes "grow")) _ _ _ _ (number 32 _ _)
+        (row (bytes_eq name (codes "drop")) _ _ _ _ (unit _ _) array_order))
 
     any_order : ReadsOrder name xs r → ReadsOrder name ys r
     any_order =
-        row (bytes_eq name (codes "make")) _ _ _ _ (number 32 _ _)
-        (row (bytes_eq name (codes "grow")) _ _ _ _ (number 32 _ _)
-        (row (bytes_eq name (codes "drop")) _ _ _ _ (unit _ _) command))
+        row (bytes_eq name (codes "read")) _ _ _ _ (sectors (IsNumberOf 32) _ _)
+        (row (bytes_eq name (codes "write")) _ _ _ _ (written (IsNumberOf 32) _ _)
+        (row (bytes_eq name (codes "read16")) _ _ _ _ (sectors IsNumber _ _)
+        (row (bytes_eq name (codes "write16")) _ _ _ _ (written IsNumber _ _)
+        (row (bytes_eq name (codes "tur")) _ _ _ _ (unit _ _)
+        (row (bytes_eq name (codes "inquiry")) _ _ _ _ (number 16 _ _)
+        (row (bytes_eq name (codes "capacity")) _ _ _ _ (unit _ _)
+        (row (bytes_eq name (codes "cdb")) _ _ _ _ (block _ _) unit_order)))))))
 
 -- ---- a line, of which the first words were read
 

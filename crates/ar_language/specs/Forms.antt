@@ -234,12 +234,17 @@ ReadsArrayOrder name words result =
     MatchBool (bytes_eq name (codes "block")) (ParsesAs (HasRowAddress words) (AsksRow words) result) (
     result ≡ Err UnknownWord)))))))))))))))
 
+-- the actions on a unit, and then those
+abbrev pub ReadsUnitOrder : List ℕ → Words → Result Order FaultKind → Type 0
+ReadsUnitOrder name words result =
+    MatchBool (bytes_eq name (codes "make")) (ParsesAs (HasUnitAndNumber 32 words) (AsksMake words) result) (
+    MatchBool (bytes_eq name (codes "grow")) (ParsesAs (HasUnitAndNumber 32 words) (AsksGrow words) result) (
+    MatchBool (bytes_eq name (codes "drop")) (ParsesAs (HasUnit words) (AsksDrop words) result) (
+    ReadsArrayOrder name words result)))
+
 -- the SCSI commands, and then those
-abbrev pub ReadsCommand : List ℕ → Words → Result Order FaultKind → Type 0
-ReadsCommand name words result =
-    MatchBool (bytes_eq name (codes "tur")) (ParsesAs (HasUnit words) (AsksTur words) result) (
-    MatchBool (bytes_eq name (codes "inquiry")) (ParsesAs (HasUnitAndNumber 16 words) (AsksInquiry words) result) (
-    MatchBool (bytes_eq name (codes "capacity")) (ParsesAs (HasUnit words) (AsksCapacity words) result) (
+abbrev pub ReadsOrder : List ℕ → Words → Result Order FaultKind → Type 0
+ReadsOrder name words result =
     MatchBool (bytes_eq name (codes "read"))
     (ParsesAs (HasSectors (IsNumberOf 32) words) (AsksRead read_10_block words) result) (
     MatchBool (bytes_eq name (codes "write"))
@@ -248,16 +253,11 @@ ReadsCommand name words result =
     (ParsesAs (HasSectors IsNumber words) (AsksRead read_16_block words) result) (
     MatchBool (bytes_eq name (codes "write16"))
     (ParsesAs (HasSectorsAndByte IsNumber words) (AsksWrite write_16_block words) result) (
+    MatchBool (bytes_eq name (codes "tur")) (ParsesAs (HasUnit words) (AsksTur words) result) (
+    MatchBool (bytes_eq name (codes "inquiry")) (ParsesAs (HasUnitAndNumber 16 words) (AsksInquiry words) result) (
+    MatchBool (bytes_eq name (codes "capacity")) (ParsesAs (HasUnit words) (AsksCapacity words) result) (
     MatchBool (bytes_eq name (codes "cdb")) (ParsesAs (HasCommandBlock words) (AsksBlock words) result) (
-    ReadsArrayOrder name words result))))))))
-
--- the actions on a unit, and then those
-abbrev pub ReadsOrder : List ℕ → Words → Result Order FaultKind → Type 0
-ReadsOrder name words result =
-    MatchBool (bytes_eq name (codes "make")) (ParsesAs (HasUnitAndNumber 32 words) (AsksMake words) result) (
-    MatchBool (bytes_eq name (codes "grow")) (ParsesAs (HasUnitAndNumber 32 words) (AsksGrow words) result) (
-    MatchBool (bytes_eq name (codes "drop")) (ParsesAs (HasUnit words) (AsksDrop words) result) (
-    ReadsCommand name words result)))
+    ReadsUnitOrder name words result))))))))
 
 -- the result for a line, by that for its order
 abbrev pub asked : Result Order FaultKind → Result (Option Order) FaultKind

@@ -5,7 +5,7 @@ ghost use Rattle.ar_language.specs.Blocks.{read_10_block, read_16_block, write_1
 ghost use Rattle.ar_language.specs.Words.{IsNumber};
 ghost use Rattle.ar_language.specs.Forms.{word, value, IsNumberOf, AreAddress, IsAddress, NamesUnit, HasUnit};
 ghost use Rattle.ar_language.specs.Forms.{HasUnitAndNumber, HasSectors, HasSectorsAndByte, HasCommandBlock};
-ghost use Rattle.ar_language.specs.Forms.{HasRowAddress, HasDisk, Gives, ReadsOrder, ReadsCommand, ReadsArrayOrder};
+ghost use Rattle.ar_language.specs.Forms.{HasRowAddress, HasDisk, Gives, ReadsOrder, ReadsUnitOrder, ReadsArrayOrder};
 ghost use Rattle.ar_language.specs.Forms.{ReadsNamed, ReadsLine, empty_data};
 ghost use Rattle.ar_language.specs.Parts.{AreSpan, IsSpan, NamesSpan, SaysWritten, AreData, IsData, AreBlock};
 ghost use Rattle.ar_language.specs.Parts.{AsksBlockWith};
@@ -63,34 +63,34 @@ fn order_in_words(words: &[&str]) -> Result<Option<Order>, FaultKind>
 }
 
 // Parses the arguments of the order with this name. (Three functions with a few names each, since a match costs the
-// proof more than by the number of its arms.)
+// proof more than by the number of its arms. The names that occur most often are compared first.)
 fn order_of(name: &str, arguments: &[&str]) -> Result<Order, FaultKind>
     ensures reads { ReadsOrder name.now arguments.now result }
+    ensures few { IfErr result (λ kind. (kind ≡ FaultKind.UnknownWord) ⊎ (kind ≡ FaultKind.BadArgument)) }
+{
+    let order = match name {
+        "read" => read(arguments),
+        "write" => write(arguments),
+        "read16" => read_16(arguments),
+        "write16" => write_16(arguments),
+        "tur" => test_unit_ready(arguments),
+        "inquiry" => inquiry(arguments),
+        "capacity" => capacity(arguments),
+        "cdb" => command_block(arguments),
+        _ => return unit_order_of(name, arguments),
+    };
+    order.ok_or(FaultKind::BadArgument)
+}
+
+// The same for the name of an action on a unit, or one of `array_order_of`.
+fn unit_order_of(name: &str, arguments: &[&str]) -> Result<Order, FaultKind>
+    ensures reads { ReadsUnitOrder name.now arguments.now result }
     ensures few { IfErr result (λ kind. (kind ≡ FaultKind.UnknownWord) ⊎ (kind ≡ FaultKind.BadArgument)) }
 {
     let order = match name {
         "make" => make(arguments),
         "grow" => grow(arguments),
         "drop" => remove(arguments),
-        _ => return command_of(name, arguments),
-    };
-    order.ok_or(FaultKind::BadArgument)
-}
-
-// The same for the name of a SCSI command, or one of `array_order_of`.
-fn command_of(name: &str, arguments: &[&str]) -> Result<Order, FaultKind>
-    ensures reads { ReadsCommand name.now arguments.now result }
-    ensures few { IfErr result (λ kind. (kind ≡ FaultKind.UnknownWord) ⊎ (kind ≡ FaultKind.BadArgument)) }
-{
-    let order = match name {
-        "tur" => test_unit_ready(arguments),
-        "inquiry" => inquiry(arguments),
-        "capacity" => capacity(arguments),
-        "read" => read(arguments),
-        "write" => write(arguments),
-        "read16" => read_16(arguments),
-        "write16" => write_16(arguments),
-        "cdb" => command_block(arguments),
         _ => return array_order_of(name, arguments),
     };
     order.ok_or(FaultKind::BadArgument)
