@@ -63,6 +63,11 @@ is_about (RemoveEvent addr) a = same_address (address_of addr) a
 is_about (CmdEvent host lun cdb payload) a = same_address (host.number, lun) a
 is_about event a = false
 
+-- whether an event is a host's command
+abbrev pub is_cmd : Event → Bool
+is_cmd (CmdEvent host lun cdb payload) = true
+is_cmd event = false
+
 -- whether an event is a maintenance event
 abbrev pub is_quiet : Event → Bool
 is_quiet (MakeEvent addr sectors) = false

@@ -90,17 +90,18 @@ impl<D: Disk> Array<D> {
 }
 
 impl<D: Disk + Drop> Array<D> {
-    ghost use Rattle.ar_core.specs.Step.{Steps};
+    ghost use Rattle.std.specs.Prelude.{false};
+    ghost use Rattle.ar_core.specs.Step.{Steps, is_cmd};
     ghost use Rattle.ar_core.specs.Run.{AreOutcomes};
 
     /// Executes one event and returns its outcome. The contract relates every unit and disk before and after (`Steps`).
+    // It is made part of its callers, which make an event and take its outcome apart: to pass both whole cost a command
+    // to a small block a quarter of its time.
+    #[inline(always)]
     pub fn step(&mut self, alloc: Global, event: Event<D>) -> Outcome<D>
         ensures { Steps self.old event result self.new }
     {
         match event {
-            EventOf::Make(addr, sectors) => OutcomeOf::Make(self.make(addr, sectors)),
-            EventOf::Grow(addr, sectors) => OutcomeOf::Grow(self.grow(addr, sectors)),
-            EventOf::Remove(addr) => OutcomeOf::Remove(self.remove(addr)),
             EventOf::Cmd {
                 host,
                 lun,
@@ -109,6 +110,20 @@ impl<D: Disk + Drop> Array<D> {
             } => {
                 OutcomeOf::Cmd(self.command(alloc, Addr { host, lun }, &cdb, payload.as_slice()))
             }
+            other => self.step_rarely(other),
+        }
+    }
+
+    // Executes an event that is no command.
+    fn step_rarely(&mut self, event: Event<D>) -> Outcome<D>
+        requires { is_cmd event ≡ false }
+        ensures { Steps self.old event result self.new }
+    {
+        match event {
+            EventOf::Make(addr, sectors) => OutcomeOf::Make(self.make(addr, sectors)),
+            EventOf::Grow(addr, sectors) => OutcomeOf::Grow(self.grow(addr, sectors)),
+            EventOf::Remove(addr) => OutcomeOf::Remove(self.remove(addr)),
+            EventOf::Cmd { .. } => unreachable!(),
             EventOf::Flush => OutcomeOf::Flush(self.flush_one()),
             EventOf::FlushUnit(addr) => OutcomeOf::FlushUnit(self.flush_unit(addr)),
             EventOf::Demote => OutcomeOf::Demote(self.demote_one()),
