@@ -12,6 +12,7 @@ use ar_disks::{Addr, Block, Disk};
 use ar_extents::{StartFault, fault_of};
 use ar_store::Store;
 use ar_volume::Blocks;
+use bytes::BytesMut;
 use std::alloc::Global;
 use std::marker::Model;
 
@@ -23,6 +24,8 @@ pub struct Array<D: Disk> {
     pub(crate) block: Block,
     // Memory for the data of a READ, lent from outside. No contract sees it.
     pub(crate) spare: Vec<u8>,
+    // What the data of short READs are cut from, one after another. No contract sees it.
+    pub(crate) room: BytesMut,
 }
 
 impl<D: Disk> Model for Array<D> {
@@ -61,6 +64,7 @@ impl<D: Disk> Array<D> {
             blocks: Blocks::new(store, cache),
             block,
             spare: Vec::new(alloc),
+            room: BytesMut::new(alloc),
         })
     }
 }

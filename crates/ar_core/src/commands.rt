@@ -1,6 +1,6 @@
 // Commands to units. The checks come in this order: presence, UNIT ATTENTION, CDB, range, data length, health; a disk
 // is accessed only after all of them. BUSY replaces only a reply with bytes.
-ghost use Rattle.std.specs.Prelude.{◌≡◌, ◌≢◌, ◌⊎◌, ℕ, ◌+◌, ◌-◌, ◌*◌, ◌/◌, ◌≤◌, ◌<◌, ◌==◌, not, false, true, IfOk};
+ghost use Rattle.std.specs.Prelude.{◌≡◌, ◌≢◌, ◌⊎◌, ℕ, ◌+◌, ◌-◌, ◌*◌, ◌/◌, ◌≤◌, ◌<◌, ◌==◌, not, false, true, IfOk, OnOk};
 ghost use Rattle.std.specs.Prelude.{IsTrue, Ok, nat_lt, if◌then◌else◌, length, []};
 ghost use Rattle.ar_disks.specs.declared.address.Key.{Key};
 ghost use Rattle.ar_disks.specs.Geometry.{block_len_of, sectors_of};
@@ -29,8 +29,14 @@ use ar_disks::{Addr, Block, Disk, Geometry};
 use ar_scsi::{Command, Reply, Sense, decode, is_inquiry};
 use ar_unit::{absent, capacity, inquiry, is_past_end};
 use ar_volume::{Backing, read_sectors, write_sectors};
-use bytes::Bytes;
+use bytes::{Bytes, BytesMut};
 use std::alloc::{AllocError, Global};
+
+// The most bytes of a READ whose data are cut from `room`.
+const SHORT: usize = 4_096;
+
+// The length of `room`, in bytes. Whoever keeps the data of one short READ keeps all of it.
+const ROOM: usize = 16_384;
 
 impl<D: Disk> Array<D> {
     // Executes a command to the unit at `addr`, present or not.
@@ -178,6 +184,7 @@ impl<D: Disk> Array<D> {
             count,
             &mut self.block,
             &mut self.spare,
+            &mut self.room,
         )
     }
 
@@ -318,6 +325,7 @@ fn fetch_sectors<B: Backing>(
     count: u32,
     block: &mut Block,
     spare: &mut Vec<u8>,
+    room: &mut BytesMut,
 ) -> Reply
     requires sound { B.is_broken blocks.old ≡ false }
     requires shape { geometry ≡ B.geometry blocks.old }
@@ -343,11 +351,108 @@ fn fetch_sectors<B: Backing>(
     ensures few { length result.payload ≤ 65535 * 512 }
     ensures len { length block.new ≡ length block.old }
 {
-    let Ok(mut out) = memory_for(alloc, count as usize * 512, spare) else {
+    let len = count as usize * 512;
+    if len <= SHORT && spare.len() != len {
+        return fetch_short(blocks, geometry, addr, lba, count, block, room);
+    }
+    let Ok(mut out) = memory_for(alloc, len, spare) else {
         return Reply::busy();
     };
     let read = read_sectors(blocks, geometry, addr, lba, count, block, &mut out);
     reply_to_read(read, out)
+}
+
+// The same for a READ of at most `SHORT` bytes, which are cut from `room`. When `room` is used up and no reply holds a
+// part of it, all of it is used again: memory of their own for each, zeroed, took a sixth of the time of such READs.
+fn fetch_short<B: Backing>(
+    blocks: &mut B,
+    geometry: Geometry,
+    addr: Addr,
+    lba: u32,
+    count: u32,
+    block: &mut Block,
+    room: &mut BytesMut,
+) -> Reply
+    requires sound { B.is_broken blocks.old ≡ false }
+    requires shape { geometry ≡ B.geometry blocks.old }
+    requires whole { length block.old ≡ block_len_of geometry }
+    requires known { (rb : ℕ) → rb * sectors_of geometry < lba + count → IsTrue (B.knows blocks.old (key_of addr rb)) }
+    requires small { lba + count ≤ 1048576 }
+    requires some { 0 < count }
+    requires few { count ≤ 8 }
+    ensures begun { ReadsFirst B.gets geometry addr lba count blocks.old blocks.new }
+    ensures got { result.status ≡ Good → InTurn B.gets (keys_in geometry addr lba count) blocks.old blocks.new }
+    ensures busy_read { result.status ≡ Busy
+        → (blocks.new ≡ blocks.old) ⊎ InTurn B.gets (keys_in geometry addr lba count) blocks.old blocks.new }
+    ensures stopped { result.status ≡ CheckCondition
+        → FailsReading B.gets B.is_broken geometry addr lba count blocks.old blocks.new }
+    ensures done { result.status ≡ Good
+        → result ≡ good (concat (sectors_in geometry (unit_block (B.block_at blocks.old) addr) lba count)) }
+    ensures busy { result.status ≡ Busy → result ≡ busy }
+    ensures failed { result.status ≡ CheckCondition → result ≡ check internal_target_failure }
+    ensures broken { result.status ≡ CheckCondition → IsTrue (B.is_broken blocks.new) }
+    ensures sound { result.status ≢ CheckCondition → B.is_broken blocks.new ≡ false }
+    ensures blocks { result.status ≢ CheckCondition → SameBlocks (B.block_at blocks.old) (B.block_at blocks.new) }
+    ensures keeps { KeepsBacking B.geometry B.knows B.is_broken B.follows blocks.old blocks.new }
+    ensures few { length result.payload ≤ 65535 * 512 }
+    ensures len { length block.new ≡ length block.old }
+{
+    if take_room(room, count as usize * 512).is_err() {
+        return Reply::busy();
+    }
+    let read = read_sectors(
+        blocks,
+        geometry,
+        addr,
+        lba,
+        count,
+        block,
+        room.as_mut_slice(),
+    );
+    reply_from(read, room)
+}
+
+// Makes `room` `len` bytes long. What it held is of no more use.
+fn take_room(room: &mut BytesMut, len: usize) -> Result<(), AllocError>
+    requires { len ≤ 4096 }
+    ensures { OnOk result (length room.new.items ≡ len) }
+{
+    room.clear();
+    if room.capacity() < len {
+        room.reserve(ROOM)?;
+    }
+    room.advance_mut(len);
+    Ok(())
+}
+
+// The reply to a READ whose transfer ended so, with the bytes of `room`.
+fn reply_from(read: Completion, room: &mut BytesMut) -> Reply
+    requires some { read ≡ Completion.Done → room.old.items ≢ [] }
+    requires few { read ≡ Completion.Done → length room.old.items ≤ 65535 * 512 }
+    ensures few { length result.payload ≤ 65535 * 512 }
+    ensures done { read ≡ Completion.Done → IsGiven (good room.old.items) result }
+    ensures broken { read ≡ Completion.Broken → result ≡ check internal_target_failure }
+    ensures whole { result.status ≡ Good → read ≡ Completion.Done }
+    ensures lost { result.status ≡ CheckCondition → read ≡ Completion.Broken }
+    ensures failed { result.status ≡ CheckCondition → result ≡ check internal_target_failure }
+{
+    match read {
+        Completion::Done => good_from(room),
+        Completion::Broken => Reply::check(Sense::INTERNAL_TARGET_FAILURE),
+    }
+}
+
+// GOOD with the bytes of `room`, or BUSY when the allocation to share them fails.
+fn good_from(room: &mut BytesMut) -> Reply
+    requires some { room.old.items ≢ [] }
+    ensures given { IsGiven (good room.old.items) result }
+    ensures passed { result.status ≢ CheckCondition }
+    ensures few { length result.payload ≤ length room.old.items }
+{
+    match room.freeze_to(room.len()) {
+        Ok(payload) => Reply::good(payload),
+        Err(_) => Reply::busy(),
+    }
 }
 
 // Memory of `len` bytes: what was lent if it has this length, else a new allocation.
