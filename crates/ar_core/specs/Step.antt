@@ -63,10 +63,15 @@ is_about (RemoveEvent addr) a = same_address (address_of addr) a
 is_about (CmdEvent host lun cdb payload) a = same_address (host.number, lun) a
 is_about event a = false
 
--- whether an event is a host's command
-abbrev pub is_cmd : Event → Bool
-is_cmd (CmdEvent host lun cdb payload) = true
-is_cmd event = false
+-- whether an event is a host's command or a step of maintenance, as come often
+abbrev pub is_frequent : Event → Bool
+is_frequent (CmdEvent host lun cdb payload) = true
+is_frequent FlushEvent = true
+is_frequent DemoteEvent = true
+is_frequent CleanEvent = true
+is_frequent BalanceEvent = true
+is_frequent RebuildEvent = true
+is_frequent event = false
 
 -- whether an event is a maintenance event
 abbrev pub is_quiet : Event → Bool

@@ -95,7 +95,7 @@ impl<D: Disk> Array<D> {
 
 impl<D: Disk + Drop> Array<D> {
     ghost use Rattle.std.specs.Prelude.{false};
-    ghost use Rattle.ar_core.specs.Step.{Steps, is_cmd};
+    ghost use Rattle.ar_core.specs.Step.{Steps, is_frequent};
     ghost use Rattle.ar_core.specs.Run.{AreOutcomes};
 
     /// Executes one event and returns its outcome. The contract relates every unit and disk before and after (`Steps`).
@@ -114,29 +114,34 @@ impl<D: Disk + Drop> Array<D> {
             } => {
                 OutcomeOf::Cmd(self.command(alloc, Addr { host, lun }, &cdb, payload.as_slice()))
             }
+            EventOf::Flush => OutcomeOf::Flush(self.flush_one()),
+            EventOf::Demote => OutcomeOf::Demote(self.demote_one()),
+            EventOf::Clean => OutcomeOf::Clean(self.clean_one()),
+            EventOf::Balance => OutcomeOf::Balance(self.balance_one()),
+            EventOf::Rebuild => OutcomeOf::Rebuild(self.rebuild_one()),
             other => self.step_rarely(other),
         }
     }
 
-    // Executes an event that is no command.
+    // Executes an event of an operator.
     fn step_rarely(&mut self, event: Event<D>) -> Outcome<D>
-        requires { is_cmd event ≡ false }
+        requires { is_frequent event ≡ false }
         ensures { Steps self.old event result self.new }
     {
         match event {
             EventOf::Make(addr, sectors) => OutcomeOf::Make(self.make(addr, sectors)),
             EventOf::Grow(addr, sectors) => OutcomeOf::Grow(self.grow(addr, sectors)),
             EventOf::Remove(addr) => OutcomeOf::Remove(self.remove(addr)),
-            EventOf::Cmd { .. } => unreachable!(),
-            EventOf::Flush => OutcomeOf::Flush(self.flush_one()),
             EventOf::FlushUnit(addr) => OutcomeOf::FlushUnit(self.flush_unit(addr)),
-            EventOf::Demote => OutcomeOf::Demote(self.demote_one()),
-            EventOf::Clean => OutcomeOf::Clean(self.clean_one()),
-            EventOf::Balance => OutcomeOf::Balance(self.balance_one()),
             EventOf::AddDisk(disk) => OutcomeOf::AddDisk(self.add_disk(disk)),
             EventOf::DiskOut(disk) => OutcomeOf::DiskOut(self.disk_out(disk)),
             EventOf::Replace(number, disk) => OutcomeOf::Replace(self.replace(number, disk)),
-            EventOf::Rebuild => OutcomeOf::Rebuild(self.rebuild_one()),
+            EventOf::Cmd { .. }
+            | EventOf::Flush
+            | EventOf::Demote
+            | EventOf::Clean
+            | EventOf::Balance
+            | EventOf::Rebuild => unreachable!(),
         }
     }
 
