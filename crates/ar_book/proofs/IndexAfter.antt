@@ -159,7 +159,8 @@ oldest_alone : (g : Geometry) (units new : List (Addr × UnitTableState)) (n : �
     → with_oldest (choices_of g units n x) (oldest_of new x) ≡ choices_of g new n x
 oldest_alone g units new n x = by x.class
   where
-    by : (c : Class) → with_oldest (choices_by c g (place_in units) (age_of units) n x) (oldest_by c (place_in new) (age_of new) x)
+    by : (c : Class)
+        → with_oldest (choices_by c g (place_in units) (age_of units) n x) (oldest_by c (place_in new) (age_of new) x)
         ≡ choices_by c g (place_in new) (age_of new) n x
     by Free = refl
     by Mirrored = refl

@@ -1,5 +1,6 @@
 -- The search tree over the groups: a complete binary tree in a list, as in a heap.
-use Rattle.std.specs.Prelude.{◌≡◌, ◌≢◌, ℕ, zero, suc, ◌+◌, ◌-◌, ◌*◌, ◌/◌, ◌<◌, ◌≤◌, List, length, take, drop, slice_index_or, slice_set, count_by, is_some}
+use Rattle.std.specs.Prelude.{◌≡◌, ◌≢◌, ℕ, zero, suc, ◌+◌, ◌-◌, ◌*◌, ◌/◌, ◌<◌, ◌≤◌, List, length, take, drop}
+use Rattle.std.specs.Prelude.{slice_index_or, slice_set, count_by, is_some}
 use Rattle.ar_disks.specs.declared.address.Addr.{Addr}
 use Rattle.ar_index.specs.declared.choices.Change.{Change}
 use Rattle.ar_index.specs.declared.choices.Change.TheVariants.{Nothing, Oldest, Anything}
@@ -16,7 +17,8 @@ IsJoined place nodes i = node_at nodes i ≡ join place (node_at nodes (2 * i)) 
 
 -- the node is that join but perhaps for the oldest block
 abbrev pub HasJoinedNumbers : (Addr → ℕ) → List Choices → ℕ → Type 0
-HasJoinedNumbers place nodes i = HaveSameNumbers (node_at nodes i) (join place (node_at nodes (2 * i)) (node_at nodes (2 * i + 1)))
+HasJoinedNumbers place nodes i =
+    HaveSameNumbers (node_at nodes i) (join place (node_at nodes (2 * i)) (node_at nodes (2 * i + 1)))
 
 -- each inner node but perhaps one is the join of its children
 abbrev pub AreJoinedBut : (Addr → ℕ) → ℕ → List Choices → ℕ → Type 0
@@ -25,7 +27,8 @@ AreJoinedBut place size nodes but = (i : ℕ) → 0 < i → i < size → i ≢ b
 -- each inner node is the join of its children, but perhaps the parent of a node that has changed in no more than this
 abbrev pub AreJoinedAfter : (Addr → ℕ) → ℕ → List Choices → Change → ℕ → Type 0
 AreJoinedAfter place size nodes Nothing i = AreJoinedBut place size nodes 0
-AreJoinedAfter place size nodes Oldest i = AreJoinedBut place size nodes (i / 2) × (1 < i → HasJoinedNumbers place nodes (i / 2))
+AreJoinedAfter place size nodes Oldest i =
+    AreJoinedBut place size nodes (i / 2) × (1 < i → HasJoinedNumbers place nodes (i / 2))
 AreJoinedAfter place size nodes Anything i = AreJoinedBut place size nodes (i / 2)
 
 -- the new nodes are the old ones with node i joined from its children

@@ -8,7 +8,8 @@ ghost use Rattle.std.specs.Prelude.{◌≡◌, ℕ, ◌+◌, ◌-◌, ◌*◌, �
 ghost use Rattle.ar_index.specs.Choices.{place_in, nothing, older, with_oldest, IsChangedTo};
 ghost use Rattle.ar_index.specs.Tree as spec;
 ghost use Rattle.ar_index.specs.declared.choices.Change.{Change};
-ghost use Rattle.ar_index.specs.Tree.{HasJoinedNumbers, IsJoinedAt, AreJoinedAfter, HaveChanged, HaveStayed, IsTree, IsGrown, leaves_in};
+ghost use Rattle.ar_index.specs.Tree.{HasJoinedNumbers, IsJoinedAt, AreJoinedAfter, HaveChanged, HaveStayed, IsTree};
+ghost use Rattle.ar_index.specs.Tree.{IsGrown, leaves_in};
 
 use crate::choices::Change;
 use crate::{Age, Choices, Steps};

@@ -1,6 +1,7 @@
 // The search tree: its leaves are the choices of the groups, in order, and its root those among them all. There are
 // fewer than twice as many leaves as groups; those past the last group are blank.
-ghost use Rattle.std.specs.Prelude.{◌≡◌, ℕ, ◌+◌, ◌-◌, ◌^◌, ◌<◌, ◌≤◌, true, cond, length, [], ◌∷◌, ◌++◌, slice_index_or, slice_set, OnOk, OnErr};
+ghost use Rattle.std.specs.Prelude.{◌≡◌, ℕ, ◌+◌, ◌-◌, ◌^◌, ◌<◌, ◌≤◌, true, cond, length, [], ◌∷◌, ◌++◌, slice_index_or};
+ghost use Rattle.std.specs.Prelude.{slice_set, OnOk, OnErr};
 ghost use Rattle.ar_disks.specs.declared.address.Addr.{Addr};
 ghost use Rattle.ar_index.specs.Choices.{place_in, nothing, is_nothing, search_all, with_oldest};
 ghost use Rattle.ar_index.specs.Tree.{leaves, free_in, HaveChanged, HaveStayed, IsRight};
@@ -128,9 +129,12 @@ impl Tree {
         requires right { IsRight (place_in units.now.entries) self.old }
         ensures set { leaves self.new ≡ slice_set (leaves self.old) leaf choices.now }
         ensures right { IsRight (place_in units.now.entries) self.new }
-        ensures still { slice_index_or (leaves self.old) leaf nothing ≡ choices.now → steps.new.count ≡ steps.old.count }
-        ensures changed { HaveChanged self.old.nodes self.new.nodes (self.old.size + leaf) 0 (steps.new.count - steps.old.count) }
-        ensures counted { HaveStayed self.old.nodes self.new.nodes (self.old.size + leaf) (steps.new.count - steps.old.count) }
+        ensures still { slice_index_or (leaves self.old) leaf nothing ≡ choices.now
+            → steps.new.count ≡ steps.old.count }
+        ensures changed { HaveChanged self.old.nodes self.new.nodes (self.old.size + leaf) 0
+            (steps.new.count - steps.old.count) }
+        ensures counted { HaveStayed self.old.nodes self.new.nodes (self.old.size + leaf)
+            (steps.new.count - steps.old.count) }
         ensures height { 2 ^ (steps.new.count - steps.old.count) ≤ self.old.size + leaf }
         ensures few { length (leaves self.old) ≤ 4096 → steps.new.count ≤ steps.old.count + 12 }
         ensures on { steps.old.count ≤ steps.new.count }
