@@ -26,6 +26,7 @@ pub mod Steps
 pub mod Zeros
 pub mod UnitChanges
 pub mod Picking
+pub mod Counting
 pub mod Lined
 pub mod Planning
 pub mod Taking

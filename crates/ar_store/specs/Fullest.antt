@@ -1,6 +1,6 @@
 -- Which four disks the next group uses, by the number of unassigned extents of each disk (`counts`).
 use Rattle.std.specs.Prelude.{◌≡◌, ◌≢◌, ◌⊎◌, ℕ, ◌-◌, ◌<◌, ◌≤◌, false, ◌==◌, List, length, slice_index, slice_set}
-use Rattle.std.specs.Prelude.{Option, IfSome, IfNone}
+use Rattle.std.specs.Prelude.{Option, IfSome, IfNone, count_by, nat_lt}
 use Rattle.std.specs.List.{list_any}
 use Rattle.ar_disks.specs.declared.address.Members.{Members}
 use Rattle.ar_disks.specs.declared.address.Place.{Place}
@@ -53,6 +53,10 @@ pub record AreAscending (f : FourDisks) : Type 0 where
 pub record AreFourFullest (counts : List ℕ) (f : FourDisks) : Type 0 where
   pub ascending : AreAscending f
   pub picked : AreFour counts f
+
+-- how many disks have unassigned extents
+abbrev pub disks_with_loose : List ℕ → ℕ
+disks_with_loose counts = count_by (λ count. nat_lt 0 count) counts
 
 -- no four different disks have unassigned extents
 pub record HasFewCounts (counts : List ℕ) : Type 0 where

@@ -1,6 +1,7 @@
 // Chooses the four disks of the next group: those with the most unassigned extents, the lowest numbers on ties.
-ghost use Rattle.std.specs.Prelude.{◌+◌, ◌<◌, ◌≤◌, List, ℕ, length, IfSome, IfNone};
+ghost use Rattle.std.specs.Prelude.{◌≡◌, ◌+◌, ◌<◌, ◌≤◌, List, ℕ, length, IfSome, IfNone};
 ghost use Rattle.ar_store.specs.Fullest.{IsFullest, ArePicked, AreFour, AreOrdered, AreFourFullest, HasFewCounts};
+ghost use Rattle.ar_store.specs.Fullest.{disks_with_loose};
 
 /// Four disks, in ascending order.
 #[derive(Clone, Copy, Debug, PartialEq, Eq)]
@@ -18,11 +19,22 @@ pub fn four_fullest(counts: &[u16]) -> Option<FourDisks>
     ensures found { IfSome result (AreFourFullest counts.now) }
     ensures none { IfNone result (HasFewCounts counts.now) }
 {
+    // The usual answer while balancing moves extents, found in one pass.
+    if disks_with_loose(counts) < 4 {
+        return None;
+    }
     let first = fullest(counts, &[])?;
     let second = fullest(counts, &[first])?;
     let third = fullest(counts, &[first, second])?;
     let fourth = fullest(counts, &[first, second, third])?;
     Some(in_order(first, second, third, fourth))
+}
+
+// How many disks have unassigned extents.
+fn disks_with_loose(counts: &[u16]) -> usize
+    ensures { result ≡ disks_with_loose counts.now }
+{
+    counts.iter().filter(|count| **count > 0).count()
 }
 
 // The disk with the most unassigned extents other than those of `but`, the lowest number on ties. None if no other has

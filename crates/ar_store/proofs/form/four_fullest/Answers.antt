@@ -1,5 +1,10 @@
+use Rattle.std.proofs.Common.{arith}
+use Rattle.ar_store.proofs.Counting.{few_with_loose}
 use Rattle.ar_store.proofs.Picking.{four_picked, four_fullest_are}
 use Rattle.ar_store.proofs.form.four_fullest.Goals as goal
+
+pub returns-then-disks_with_loose-lt4-clause-none : goal.returns-then-disks_with_loose-lt4-clause-none
+returns-then-disks_with_loose-lt4-clause-none c = few_with_loose c.args.counts.now (omega arith)
 
 pub returns-clause-found : goal.returns-clause-found
 returns-clause-found c =
