@@ -44,8 +44,7 @@ pub(crate) fn next_members<D: Disk>(set: &DiskSet<D>, counts: &[u16]) -> Option<
     })
 }
 
-// The number of unassigned extents of each disk; 0 past the last disk. Counted once a step: each count walks the flags
-// of all extents of a disk.
+// The number of unassigned extents of each disk; 0 past the last disk.
 pub(crate) fn loose_counts<D: Disk>(set: &DiskSet<D>) -> [u16; 12]
     ensures { AreLooseCounts set.now result }
 {
