@@ -1,5 +1,5 @@
-// Finds the slot of a block that is put, the first of these: its home, if mirrored; a mirrored hole; its home, if
-// parity; a parity hole; the first hole that a squeeze leaves.
+// Finds the slot of a block that is put, the first of these: its home, if mirrored; a mirrored hole, in a group opened
+// for it if need be; its home, if parity; a parity hole; the first hole of the group that a squeeze opens.
 ghost use Rattle.std.specs.Prelude.{◌≡◌, ◌≢◌, ◌⊎◌, ◌<◌, length, IfSome, IfNone};
 ghost use Rattle.ar_disks.specs.Geometry.{block_len_of};
 ghost use Rattle.ar_extents.specs.declared.health.Health.TheVariants.{Broken};
