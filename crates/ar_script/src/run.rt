@@ -71,7 +71,11 @@ pub fn run_script<R: Read + Drop, W: Write + Drop>(
     ensures there { IfErr result.end (IsLineThere (lines_of (R.remaining reader))) }
 {
     match Runner::start(alloc, setup) {
-        Ok(mut runner) => run_on(alloc, &mut runner, reader, writer),
+        Ok(mut runner) => {
+            let ended = run_on(alloc, &mut runner, reader, writer);
+            drop(runner);
+            ended
+        }
         Err(fault) => Ended {
             end: Err(fault),
             writer: Some(writer),
