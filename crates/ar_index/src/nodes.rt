@@ -176,6 +176,8 @@ pub(crate) fn put_oldest<V>(
         ≡ slice_set (drop size nodes.old.items) leaf (with_oldest (spec.node_at nodes.old.items (size + leaf)) oldest) }
     ensures still { with_oldest (spec.node_at nodes.old.items (size + leaf)) oldest
         ≡ spec.node_at nodes.old.items (size + leaf) → steps.new.count ≡ steps.old.count }
+    ensures changed { HaveChanged nodes.old.items nodes.new.items (size + leaf) 0 (steps.new.count - steps.old.count) }
+    ensures counted { HaveStayed nodes.old.items nodes.new.items (size + leaf) (steps.new.count - steps.old.count) }
     ensures few { 2 ^ (steps.new.count - steps.old.count) ≤ size + leaf }
     ensures on { steps.old.count ≤ steps.new.count }
 {

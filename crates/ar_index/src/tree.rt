@@ -159,6 +159,11 @@ impl Tree {
         ensures right { IsRight (place_in units.now.entries) self.new }
         ensures still { (slice_index_or (leaves self.old) leaf nothing).oldest ≡ oldest
             → steps.new.count ≡ steps.old.count }
+        ensures changed { HaveChanged self.old.nodes self.new.nodes (self.old.size + leaf) 0
+            (steps.new.count - steps.old.count) }
+        ensures counted { HaveStayed self.old.nodes self.new.nodes (self.old.size + leaf)
+            (steps.new.count - steps.old.count) }
+        ensures height { 2 ^ (steps.new.count - steps.old.count) ≤ self.old.size + leaf }
         ensures few { length (leaves self.old) ≤ 4096 → steps.new.count ≤ steps.old.count + 12 }
         ensures on { steps.old.count ≤ steps.new.count }
     {

@@ -1,8 +1,8 @@
-use Rattle.std.proofs.Common.{◌+◌, ◌∙◌, arith}
+use Rattle.std.proofs.Common.{◌+◌, ◌∙◌, sym, arith}
 use Rattle.std.proofs.lemmas.List.{drop-set-add}
 use Rattle.ar_index.specs.Choices.{place_in, with_oldest}
 use Rattle.ar_index.specs.Tree.{node_at}
-use Rattle.ar_index.proofs.Climb.{put_joined, none_told}
+use Rattle.ar_index.proofs.Climb.{put_joined, none_told, put_changed, put_stayed}
 use Rattle.ar_index.proofs.nodes.put_oldest.Goals as goal
 
 pub climb-requires-clause-joined : goal.climb-requires-clause-joined
@@ -24,3 +24,17 @@ returns-clause-still g c = λ same.
     c.climb.ensures.still (none_told (node_at c.args.nodes.now.items (c.args.size + c.args.leaf))
     (with_oldest (node_at c.args.nodes.now.items (c.args.size + c.args.leaf)) c.args.oldest)
     c.set_oldest_at-change.result c.set_oldest_at-change.ensures.changed same)
+
+pub returns-clause-changed : goal.returns-clause-changed
+returns-clause-changed g c =
+    put_changed c.args.size c.args.leaf _ c.args.nodes.now.items c.climb.new.nodes.items
+    (with_oldest (node_at c.args.nodes.now.items (c.args.size + c.args.leaf)) c.args.oldest)
+    c.requires.there c.requires.tree.twice (returns-clause-leaves g c)
+    (λ same. let none = returns-clause-still g c (sym same) in omega arith)
+    (rw c.set_oldest_at-change.ensures.set at c.climb.ensures.changed)
+
+pub returns-clause-counted : goal.returns-clause-counted
+returns-clause-counted g c =
+    put_stayed c.args.nodes.now.items c.climb.new.nodes.items (c.args.size + c.args.leaf)
+    (with_oldest (node_at c.args.nodes.now.items (c.args.size + c.args.leaf)) c.args.oldest) _
+    (omega arith) (rw c.set_oldest_at-change.ensures.set at c.climb.ensures.counted)

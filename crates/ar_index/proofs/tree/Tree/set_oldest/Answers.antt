@@ -1,8 +1,8 @@
-use Rattle.std.proofs.Common.{◌+◌, ◌≡◌, ◌∙◌, get_or, arith, ap, sym, subst, length, refl}
+use Rattle.std.proofs.Common.{◌+◌, ◌-◌, ◌≡◌, ◌∙◌, get_or, arith, ap, sym, subst, length, refl}
 use Rattle.std.specs.Prelude.{slice_set}
 use Rattle.ar_index.proofs.Leaves.{seen_inside, leaf_at, set_kept, put_leaves, few_steps, leaves_count}
 use Rattle.ar_index.specs.Choices.{place_in, nothing, with_oldest}
-use Rattle.ar_index.specs.Tree.{node_at, leaves, IsRight}
+use Rattle.ar_index.specs.Tree.{TreeState, node_at, leaves, HaveChanged, HaveStayed, IsRight}
 use Rattle.ar_index.specs.contracts.tree.Tree.{the_view}
 use Rattle.ar_index.proofs.tree.Tree.set_oldest.Goals as goal
 
@@ -52,3 +52,17 @@ returns-clause-still g c = λ same.
     c.put_oldest.ensures.still
     (ap (λ o. with_oldest (node_at c.self.inside.nodes.items (c.self.inside.size + c.args.leaf)) o)
     (sym (ap (λ x. x.oldest) here ∙ same)))
+
+pub returns-clause-changed : goal.returns-clause-changed
+returns-clause-changed g c =
+    subst (λ (t : TreeState).
+    HaveChanged t.nodes c.put_oldest.new.nodes.items (t.size + c.args.leaf) 0
+    (c.put_oldest.new.steps.count - c.args.steps.now.count))
+    c.self.view_is c.put_oldest.ensures.changed
+
+pub returns-clause-counted : goal.returns-clause-counted
+returns-clause-counted g c =
+    subst (λ (t : TreeState).
+    HaveStayed t.nodes c.put_oldest.new.nodes.items (t.size + c.args.leaf)
+    (c.put_oldest.new.steps.count - c.args.steps.now.count))
+    c.self.view_is c.put_oldest.ensures.counted
