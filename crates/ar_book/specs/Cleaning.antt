@@ -51,8 +51,8 @@ pub record IsEmptiest (t : Tables) (c : Class) (g : ℕ) : Type 0 where
   pub can : CanBeEmptied t c g
   pub least : (h : ℕ) → CanBeEmptied t c h → IsNoFuller t g h
 
--- of the groups below a number that are of a class and have blocks, the one with the fewest, the lowest on ties, and
--- how many they are
+-- of the groups below a number that are of a class and have blocks, the one with the fewest, the lowest on ties, with
+-- the number of its blocks
 pub record IsEmptiestBelow (t : Tables) (c : Class) (to : ℕ) (o : Option GroupUse) : Type 0 where
   pub found : IfSome o (λ g. IsInUse t c g.number × (g.number < to))
   pub blocks : IfSome o (λ g. g.used ≡ used (group_in t.groups g.number))

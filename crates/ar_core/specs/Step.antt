@@ -63,7 +63,7 @@ is_about (RemoveEvent addr) a = same_address (address_of addr) a
 is_about (CmdEvent host lun cdb payload) a = same_address (host.number, lun) a
 is_about event a = false
 
--- whether an event is a host's command or a step of maintenance, as come often
+-- whether an event comes often: a host's command, or a step of maintenance
 abbrev pub is_frequent : Event → Bool
 is_frequent (CmdEvent host lun cdb payload) = true
 is_frequent FlushEvent = true

@@ -123,7 +123,7 @@ impl<D: Disk + Drop> Array<D> {
         }
     }
 
-    // Executes an event of an operator.
+    // Executes an event of an operator, or the flush of a unit (SYNCHRONIZE CACHE over iSCSI).
     fn step_rarely(&mut self, event: Event<D>) -> Outcome<D>
         requires { is_frequent event ≡ false }
         ensures { Steps self.old event result self.new }

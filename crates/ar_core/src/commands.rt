@@ -35,7 +35,7 @@ use std::alloc::{AllocError, Global};
 // The most bytes of a READ whose data are cut from `room`.
 const SHORT: usize = 4_096;
 
-// The length of `room`, in bytes. Whoever keeps the data of one short READ keeps all of it.
+// The memory that `room` takes at a time, in bytes. Whoever keeps the data of one short READ keeps all of it.
 const ROOM: usize = 16_384;
 
 impl<D: Disk> Array<D> {
@@ -362,8 +362,9 @@ fn fetch_sectors<B: Backing>(
     reply_to_read(read, out)
 }
 
-// The same for a READ of at most `SHORT` bytes, which are cut from `room`. When `room` is used up and no reply holds a
-// part of it, all of it is used again: memory of their own for each, zeroed, took a sixth of the time of such READs.
+// The same for a READ of at most `SHORT` bytes, which are cut from `room`. When too little of its memory is left, all of
+// it is used again if no reply holds a part of it, and else dropped for other memory: memory of their own for each,
+// zeroed, took a sixth of the time of such READs.
 fn fetch_short<B: Backing>(
     blocks: &mut B,
     geometry: Geometry,
