@@ -362,8 +362,8 @@ fn fetch_sectors<B: Backing>(
     reply_to_read(read, out)
 }
 
-// The same for a READ of at most `SHORT` bytes, which are cut from `room`. When too little of its memory is left, all of
-// it is used again if no reply holds a part of it, and else dropped for other memory: memory of their own for each,
+// The same for a READ of at most `SHORT` bytes, which are cut from `room`. When too little of its memory is left, all
+// of it is used again if no reply holds a part of it, and else dropped for other memory: memory of their own for each,
 // zeroed, took a sixth of the time of such READs.
 fn fetch_short<B: Backing>(
     blocks: &mut B,

@@ -1,6 +1,6 @@
 // Which extents of one disk are unassigned (`loose`): one flag an extent, true where it is in no group. Their number is
-// kept, and a floor below which none is unassigned: counting walks no flag, and a search none below the floor. An extent
-// that is unassigned lowers the floor to itself.
+// kept, and a floor below which none is unassigned: counting walks no flag, and a search none below the floor. An
+// extent that becomes unassigned lowers the floor to itself.
 //
 //     flags  [ 0 0 0 1 0 1 1 ]   count 3, floor 2: a search for the lowest begins at extent 2
 ghost use Rattle.std.specs.Prelude.{◌≡◌, ◌<◌, ◌≤◌, true, false, length, replicate, slice_set, IfSome, IfNone, IfOk};
