@@ -5,6 +5,7 @@ pub mod SlotLemmas
 pub mod Frames
 pub mod Plans
 pub mod Told
+pub mod Stripes
 pub mod Standing
 pub mod Outcomes
 pub mod Working

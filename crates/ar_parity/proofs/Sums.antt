@@ -18,16 +18,16 @@ s12 a b c d = ap (λ x. xor (xor x c) d) (xor_comm a b)
 s23 : (a b c d : List ℕ) → sum4 a b c d ≡ sum4 a c b d
 s23 a b c d = ap (λ x. xor x d) (swap a b c)
 
-s34 : (a b c d : List ℕ) → sum4 a b c d ≡ sum4 a b d c
+pub s34 : (a b c d : List ℕ) → sum4 a b c d ≡ sum4 a b d c
 s34 a b c d = swap (xor a b) c d
 
-f03 : (a b c d : List ℕ) → sum4 a b c d ≡ sum4 a d b c
+pub f03 : (a b c d : List ℕ) → sum4 a b c d ≡ sum4 a d b c
 f03 a b c d = s34 a b c d ∙ s23 a b d c
 
 f20 : (a b c d : List ℕ) → sum4 a b c d ≡ sum4 c a b d
 f20 a b c d = s23 a b c d ∙ s12 a c b d
 
-f30 : (a b c d : List ℕ) → sum4 a b c d ≡ sum4 d a b c
+pub f30 : (a b c d : List ℕ) → sum4 a b c d ≡ sum4 d a b c
 f30 a b c d = f03 a b c d ∙ s12 a d b c
 
 -- any two positions may come first
@@ -67,7 +67,7 @@ equal_of_sum x y n lx ly e =
     sym (xor_cancel x y (lx ∙ sym ly)) ∙ ap (λ z. xor z y) (e ∙ ap zeros (sym ly)) ∙ xor_comm (zeros (length y)) y
     ∙ xor-zeros y
 
-length_sum : (x y : List ℕ) (n : ℕ) → length x ≡ n → length y ≡ n → length (xor x y) ≡ n
+pub length_sum : (x y : List ℕ) (n : ℕ) → length x ≡ n → length y ≡ n → length (xor x y) ≡ n
 length_sum x y n lx ly = length-xor x y (lx ∙ sym ly) ∙ lx
 
 -- the sum of two of the blocks is that of the two others

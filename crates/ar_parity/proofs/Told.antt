@@ -1,6 +1,6 @@
 -- What the plans of calls imply, in the relations of `Follows`.
-use Rattle.std.proofs.Common.{◌≡◌, ◌≢◌, ◌⊎◌, inl, inr, ℕ, zero, suc, List, ◌++◌, ◌<◌, ◌≤◌, ◌+◌, ◌%◌, Bool, true, false}
-use Rattle.std.proofs.Common.{cond, refl, sym, ◌∙◌, ap, subst, arith}
+use Rattle.std.proofs.Common.{◌≡◌, ◌≢◌, ◌⊎◌, inl, inr, ℕ, zero, suc, List, [], ◌∷◌, ◌++◌, ◌<◌, ◌≤◌, ◌+◌, ◌*◌, ◌%◌, Bool}
+use Rattle.std.proofs.Common.{true, false, cond, refl, sym, ◌∙◌, ap, subst, arith}
 use Rattle.std.proofs.lemmas.Bool.Decides.{nat_tests}
 use Rattle.ar_disks.specs.declared.address.Place.{Place}
 use Rattle.ar_disks.specs.declared.address.Members.{Members}
@@ -24,10 +24,13 @@ use Rattle.ar_extents.proofs.Asking.{went_if, went, tried_one, nothing_done, rea
 use Rattle.ar_extents.proofs.Asking.{unread_lost, attempt_follows, attempt_keeps, attempt_leaves, keeps_but_after}
 use Rattle.ar_extents.proofs.Asking.{rebuilt_sound}
 use Rattle.ar_parity.specs.Row.{row_of, data_position, parity_position}
-use Rattle.ar_parity.specs.Group.{KeepsButRow}
+use Rattle.ar_parity.specs.Group.{Holds, KeepsButRow}
 use Rattle.ar_parity.specs.Others.{low_other, high_other}
 use Rattle.ar_parity.specs.Plans.{three_reads, parity_read, parity_write, parity_rebuild, write_member, write_two}
 use Rattle.ar_parity.specs.Plans.{write_known, write_lost, write_by_reading, stripe_write, writes_from, stripes_from}
+use Rattle.ar_parity.specs.Plans.{stripe_writes}
+use Rattle.ar_parity.proofs.Agrees.{other_row_agrees}
+use Rattle.ar_parity.proofs.Updates.{row_refl, row_then}
 use Rattle.ar_parity.proofs.Working.{first_of_two, row_unasked}
 
 -- reads, of these extents alone
@@ -479,3 +482,56 @@ stripes_told m row zero a c carried = writes_none m a c (nothing_done a c carrie
 stripes_told m row (suc n) a c carried =
     members_told m row 0 4 (stripes_from m (row + 1) n) a c (omega arith)
     (λ b rest. stripes_told m (row + 1) n b c rest) carried
+
+-- only this stripe of the group was written
+pub record StripeWritten (m : Members) (row : ℕ) (a b : SetState) : Type 0 where
+  pub keeps : KeepsButRow m row a b
+  pub works : WorksOn (IsMember m) a b
+
+-- one more of its members is written, and then the rest
+stripe_next : (m : Members) (row i : ℕ) (ts : List Attempt) (a c : SetState) → i < 4
+    → ((b : SetState) → CarriesOut (each_of ts) b c → StripeWritten m row b c)
+    → CarriesOut (each_of (write_at (member m i) row ∷ ts)) a c → StripeWritten m row a c
+stripe_next m row i ts a c lt later carried =
+    let first = went (write_at (member m i) row) (each_of ts) (each_of ts) a c carried in
+    let b = first.between in
+    let rest = later b (each_by first.done ts b c first.rest) in
+    let one = attempt_keeps (write_at (member m i) row) first.done a b first.tried in
+    let here = row_then a a b m row i lt (row_refl m row a) one in
+    record {
+      keeps = record {
+        other_rows = λ p r ne. rest.keeps.other_rows p r ne ∙ here.other_rows p r ne;
+        other_places = keeps_then (IsOutside m) a b c here.other_places rest.keeps.other_places;
+      };
+      works = works_then (IsMember m) a b c
+          (works_member m i a b lt (write_works (member m i) row first.done a b first.tried)) rest.works;
+    }
+
+stripe_ended : (m : Members) (row : ℕ) (a c : SetState) → CarriesOut (each_of []) a c → StripeWritten m row a c
+stripe_ended m row a c carried =
+    subst (λ (s : SetState). StripeWritten m row a s) (nothing_done a c carried)
+    (record { keeps = row_refl m row a; works = works_refl (IsMember m) a })
+
+pub stripe_writes_told : (m : Members) (row : ℕ) (a c : SetState) → CarriesOut (each_of (stripe_writes m row)) a c
+    → StripeWritten m row a c
+stripe_writes_told m row a c carried =
+    let i : ℕ = data_position (3 * row) in
+    let j : ℕ = data_position (3 * row + 1) in
+    let k : ℕ = data_position (3 * row + 2) in
+    let l : ℕ = parity_position row in
+    let last : List Attempt = write_at (member m l) row ∷ [] in
+    let two : List Attempt = write_at (member m k) row ∷ last in
+    stripe_next m row i (write_at (member m j) row ∷ two) a c (data_below (3 * row))
+    (λ x at_x. stripe_next m row j two x c (data_below (3 * row + 1))
+    (λ y at_y. stripe_next m row k last y c (data_below (3 * row + 2))
+    (λ z at_z. stripe_next m row l [] z c (omega arith) (λ w at_w. stripe_ended m row w c at_w) at_z) at_y) at_x)
+    carried
+
+-- a slot of another stripe holds what it held
+pub other_stripe_holds : (m : Members) (row slot : ℕ) (block : List ℕ) (a b : SetState) → StripeWritten m row a b
+    → row_of slot ≢ row → Holds a m slot block → Holds b m slot block
+other_stripe_holds m row slot block a b written ne holds = record {
+  blocks = holds.blocks;
+  agrees = other_row_agrees a b m row (row_of slot) holds.blocks written.works.follows written.keeps ne holds.agrees;
+  here = holds.here;
+}

@@ -1,5 +1,5 @@
 -- The invariant of a parity group, and the block that a slot holds.
-use Rattle.std.specs.Prelude.{◌≡◌, ◌≢◌, ℕ, zero, suc, ◌<◌, ◌≤◌, List, if◌then◌else◌}
+use Rattle.std.specs.Prelude.{◌≡◌, ◌≢◌, ℕ, zero, suc, ◌+◌, ◌*◌, ◌<◌, ◌≤◌, List, if◌then◌else◌}
 use Rattle.ar_disks.specs.declared.address.Place.{Place}
 use Rattle.ar_disks.specs.declared.address.Members.{Members}
 use Rattle.ar_disks.specs.Block.{xor}
@@ -26,6 +26,12 @@ pub record Holds (s : SetState) (m : Members) (slot : ℕ) (bytes : List ℕ) : 
   pub blocks : Blocks
   pub agrees : RowAgrees s m (row_of slot) blocks
   pub here : block blocks (data_position slot) ≡ bytes
+
+-- the three slots of a stripe hold these blocks, in slot order
+pub record HoldsStripe (s : SetState) (m : Members) (row : ℕ) (a b c : List ℕ) : Type 0 where
+  pub first : Holds s m (3 * row) a
+  pub second : Holds s m (3 * row + 1) b
+  pub third : Holds s m (3 * row + 2) c
 
 -- only this stripe of the group may have changed
 pub record KeepsButRow (m : Members) (row : ℕ) (old new : SetState) : Type 0 where

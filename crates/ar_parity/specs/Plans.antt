@@ -1,5 +1,5 @@
 -- The accesses of calls on a parity group, as plans. `i` and `j` are member positions.
-use Rattle.std.specs.Prelude.{ℕ, zero, suc, ◌+◌, ◌%◌, Bool, true, false, List, [], ◌∷◌, ◌++◌}
+use Rattle.std.specs.Prelude.{ℕ, zero, suc, ◌+◌, ◌*◌, ◌%◌, Bool, true, false, List, [], ◌∷◌, ◌++◌}
 use Rattle.ar_disks.specs.declared.address.Members.{Members}
 use Rattle.ar_disks.specs.declared.completion.Completion.{Completion}
 use Rattle.ar_disks.specs.declared.completion.Completion.TheVariants.{Done, Broken}
@@ -69,3 +69,9 @@ writes_from m row i (suc count) = write_at (member m i) row ∷ writes_from m ro
 abbrev pub stripes_from : Members → ℕ → ℕ → List Attempt
 stripes_from m row zero = []
 stripes_from m row (suc count) = writes_from m row 0 4 ++ stripes_from m (row + 1) count
+
+-- the writes of a stripe: its three data blocks in slot order, and then its parity
+abbrev pub stripe_writes : Members → ℕ → List Attempt
+stripe_writes m row =
+    write_at (member m (data_position (3 * row))) row ∷ write_at (member m (data_position (3 * row + 1))) row
+    ∷ write_at (member m (data_position (3 * row + 2))) row ∷ write_at (member m (parity_position row)) row ∷ []

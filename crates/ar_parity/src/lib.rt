@@ -8,6 +8,7 @@ mod laws;
 mod rebuild;
 mod slots;
 mod steps;
+mod stripe;
 mod update;
 mod zero;
 
@@ -15,3 +16,4 @@ pub use ar_extents::RowOutcome;
 pub use group::{get, open_zero, put};
 pub use laws::{parity_accesses, redundancy};
 pub use rebuild::rebuild_row;
+pub use stripe::put_stripe;

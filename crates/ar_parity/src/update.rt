@@ -3,6 +3,7 @@ ghost use Rattle.std.specs.Prelude.{◌≡◌, ◌≢◌, ℕ, ◌<◌, length};
 ghost use Rattle.ar_disks.specs.Geometry.{rows_of, block_len_of};
 ghost use Rattle.ar_disks.specs.Members.{member};
 ghost use Rattle.ar_extents.specs.Set.{IsLost, content};
+ghost use Rattle.ar_extents.specs.Follows.{Follows};
 ghost use Rattle.ar_extents.specs.Groups.{IsGroup};
 ghost use Rattle.ar_extents.specs.Plans.{CarriesOut};
 ghost use Rattle.ar_parity.specs.Plans.{write_two, write_known, write_lost, write_by_reading, stripe_write};
@@ -16,8 +17,8 @@ use crate::steps::write;
 use ar_disks::{Completion, Disk, Members, Scratch, add_both_into, add_into};
 use ar_extents::{DiskSet, Got};
 
-// Writes a data block, and then the parity of its stripe, each unless its member is missing.
-fn write_both<D: Disk>(
+// Writes a data block, and then the parity of its stripe or another block, each unless its member is missing.
+pub(crate) fn write_both<D: Disk>(
     set: &mut DiskSet<D>,
     members: &Members,
     position: u8,
@@ -39,6 +40,7 @@ fn write_both<D: Disk>(
     ensures parity { Stands set.new members.now row parity sum.now }
     ensures others { (i : ℕ) → i < 4 → i ≢ position → i ≢ parity
         → content set.new (member members.now i) row ≡ content set.old (member members.now i) row }
+    ensures follows { Follows set.old set.new }
     ensures plan { CarriesOut (write_two members.now position parity row) set.old set.new }
 {
     match write(set, members, position, row, from) {

@@ -4,7 +4,6 @@ use Rattle.ar_parity.proofs.Updates.{both_changed, alone_changed, broken_changed
 use Rattle.std.proofs.Common.{refl}
 use Rattle.ar_disks.specs.Block.{xor}
 use Rattle.ar_disks.specs.Members.{member}
-use Rattle.ar_extents.proofs.Carried.{plan_follows}
 use Rattle.ar_extents.proofs.Asking.{attempt_follows, read_changes_none}
 use Rattle.ar_extents.specs.Plans.{read_at, goes_on, falls_back}
 use Rattle.ar_extents.proofs.Plans.{carries_broken}
@@ -22,7 +21,7 @@ returns-in-Read-clause-agrees g c =
     c.requires.whole
     (attempt_follows _ _ _ _ c.get.ensures.made) (read_changes_none _ _ _ _ _ c.get.ensures.made)
     c.in-Read.ensures.answer refl c.add_both_into.ensures
-    (plan_follows _ _ _ c.write_both.ensures.plan) c.write_both.ensures.block c.write_both.ensures.parity
+    c.write_both.ensures.follows c.write_both.ensures.block c.write_both.ensures.parity
     c.write_both.ensures.others
 
 pub returns-in-Missing-clause-agrees : goal.returns-in-Missing-clause-agrees
