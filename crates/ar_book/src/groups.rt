@@ -93,8 +93,8 @@ impl Book {
         last
     }
 
-    // The lowest free group.
-    fn lowest_free(&self) -> u32
+    /// The lowest free group.
+    pub fn lowest_free(&self) -> u32
         requires { 0 < free_groups self.now }
         ensures { IsLowestFree self.now result }
     {

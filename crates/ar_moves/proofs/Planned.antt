@@ -1,20 +1,27 @@
 -- What a demotion and a cleaning step access: the rule's one move.
-use Rattle.std.proofs.Common.{◌≡◌, inl, inr, ℕ, ◌<◌, ◌≤◌, subst, arith}
+use Rattle.std.proofs.Common.{◌≡◌, inl, inr, ℕ, List, ◌<◌, ◌≤◌, length, ap, subst, ◌∙◌, arith}
+use Rattle.ar_disks.specs.Block.{zeros}
+use Rattle.ar_disks.specs.Geometry.{block_len_of}
 use Rattle.ar_disks.specs.declared.address.Key.{Key}
+use Rattle.ar_disks.specs.declared.address.Members.{Members}
 use Rattle.ar_extents.specs.declared.health.Health.TheVariants.{Broken as AllBroken}
 use Rattle.ar_extents.specs.Plans.{CarriesOut}
+use Rattle.ar_extents.specs.Set.{SetState}
 use Rattle.ar_extents.proofs.Plans.{carries_broken}
+use Rattle.ar_book.specs.declared.class.Class.{Class}
 use Rattle.ar_book.specs.declared.class.Class.TheVariants.{Parity}
 use Rattle.ar_book.specs.declared.class.Slot.{Slot}
-use Rattle.ar_book.specs.Tables.{Tables, free_groups}
+use Rattle.ar_book.specs.Tables.{Tables, group_in, class_of, free_groups}
 use Rattle.ar_book.specs.Changes.{opened}
 use Rattle.ar_book.specs.Book.{TablesAgree}
 use Rattle.ar_book.specs.Choices.{IsMirrored, IsLowestFree}
+use Rattle.ar_book.proofs.AfterOpen.{opened_class, opened_members}
 use Rattle.ar_store.specs.Store.{StoreState, store_of, members_of}
 use Rattle.ar_store.specs.Placing.{slot_at, IsLowestHole, HasNoHole}
 use Rattle.ar_store.specs.Calls.{IsOpened, HoldsZeros}
-use Rattle.ar_store.specs.Plans.{move_plan, fill_plan}
-use Rattle.ar_store.proofs.Steps.{filled_zeros, filled_broken}
+use Rattle.ar_store.specs.Plans.{move_plan, fill_plan, FillsWithZeros}
+use Rattle.ar_store.specs.Slots.{ClassHolds}
+use Rattle.ar_store.proofs.Zeros.{zeros_broken}
 use Rattle.ar_moves.specs.Moves.{OpensThenMoves}
 use Rattle.ar_moves.specs.Demotion.{IsOldestMirrored, CarriesOutDemotion}
 use Rattle.ar_moves.specs.Cleaning.{NamesCleaning, NothingToClean}
@@ -24,6 +31,27 @@ use Rattle.ar_moves.proofs.Single.{oldest_single, slot_single, free_single}
 pub cleans_nothing : (t : Tables) (key : Key) (to : Slot) → NothingToClean t → NamesCleaning t key to → ⊥
 cleans_nothing t key to none (inl mirrored) = none.mirrored mirrored.group mirrored.emptiest.can
 cleans_nothing t key to none (inr parity) = none.parity parity.names.group parity.names.emptiest.can
+
+-- the group that was opened was filled,
+filled_zeros : (a b : StoreState) (g : ℕ) → b.book ≡ opened a.book g Parity → g < length a.book.groups
+    → CarriesOut (fill_plan a.disks.geometry (members_of a g)) a.disks b.disks → HoldsZeros b g
+    → FillsWithZeros (members_of a g) a.disks b.disks
+filled_zeros a b g is inside plan holds =
+    let class = ap (λ (x : Tables). class_of x g) is ∙ opened_class a.book g Parity inside in
+    let members = ap (λ (x : Tables). (group_in x.groups g).members) is ∙ opened_members a.book g Parity g in
+    record {
+      plan = plan;
+      zeros = λ i lt.
+          let zero = zeros (block_len_of b.disks.geometry) in
+          let P : Class → Type 0 = λ x. ClassHolds x b.disks (members_of b g) i zero in
+          let Q : Members → Type 0 = λ m. ClassHolds Parity b.disks m i zero in
+          subst Q members (subst P class (holds.slots i lt));
+    }
+
+-- or the array failed
+filled_broken : (m : Members) (a b : SetState) → CarriesOut (fill_plan a.geometry m) a b → b.health ≡ AllBroken
+    → FillsWithZeros m a b
+filled_broken m a b plan broken = record { plan = plan; zeros = zeros_broken m b broken }
 
 -- the array failed as a group was filled, or before, and nothing more was accessed
 cut_made : (a c : StoreState) (key : Key) (group : ℕ) → c.disks.health ≡ AllBroken

@@ -528,10 +528,10 @@ stripe_writes_told m row a c carried =
     carried
 
 -- a slot of another stripe holds what it held
-pub other_stripe_holds : (m : Members) (row slot : ℕ) (block : List ℕ) (a b : SetState) → StripeWritten m row a b
-    → row_of slot ≢ row → Holds a m slot block → Holds b m slot block
-other_stripe_holds m row slot block a b written ne holds = record {
+pub other_stripe_holds : (m : Members) (row slot : ℕ) (block : List ℕ) (a b : SetState) → Follows a b
+    → KeepsButRow m row a b → row_of slot ≢ row → Holds a m slot block → Holds b m slot block
+other_stripe_holds m row slot block a b ab keeps ne holds = record {
   blocks = holds.blocks;
-  agrees = other_row_agrees a b m row (row_of slot) holds.blocks written.works.follows written.keeps ne holds.agrees;
+  agrees = other_row_agrees a b m row (row_of slot) holds.blocks ab keeps ne holds.agrees;
   here = holds.here;
 }

@@ -22,7 +22,8 @@ pub mod PutPlans
 pub mod OnePlan
 pub mod PutCosts
 pub mod DegradedCosts
-pub mod Steps
+pub mod Copied
+pub mod Sources
 pub mod Zeros
 pub mod UnitChanges
 pub mod Picking

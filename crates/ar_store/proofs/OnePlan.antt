@@ -13,7 +13,7 @@ use Rattle.ar_book.specs.Tables.{home, level, slots_of, free_groups}
 use Rattle.ar_book.specs.Choices.{IsLowestFree, IsFullMirrored}
 use Rattle.ar_store.specs.Store.{StoreState, members_of}
 use Rattle.ar_store.specs.Placing.{slot_at, IsLowestHole, HasNoHole}
-use Rattle.ar_store.specs.Plans.{write_as, squeeze_plan, CarriesOutPut}
+use Rattle.ar_store.specs.Plans.{write_as, squeezing_plan, CarriesOutPut}
 use Rattle.ar_store.specs.Plans.{IsPutPlan, in_place, to_mirrored_hole, to_opened_group, in_parity_place}
 use Rattle.ar_store.specs.Plans.{to_parity_hole, by_squeeze}
 use Rattle.ar_store.proofs.Squeezing.{same_full, same_free}
@@ -101,7 +101,7 @@ parity_hole_one s k slot _ goes at hole (by_squeeze _ _ from to is none full few
 
 squeeze_one : (s : StoreState) (k : Key) (from to : ℕ) (plan : AccessPlan) → GoesLow s k → level s.book k ≡ Unplaced
     → HasNoHole s.book Parity → IsFullMirrored s.book from → IsLowestFree s.book to → IsPutPlan s k plan
-    → squeeze_plan s.disks.geometry (members_of s from) (members_of s to) (slots_of s.book.geometry Mirrored) ≡ plan
+    → squeezing_plan s.disks.geometry (members_of s from) (members_of s to) (slots_of s.book.geometry Mirrored) ≡ plan
 squeeze_one s k from to _ goes at full one two (in_place _ _ other is first) = absurd (goes.low is)
 squeeze_one s k from to _ goes at full one two (to_mirrored_hole _ _ other low first) =
     absurd (goes.none.none other first.hole)
@@ -113,7 +113,7 @@ squeeze_one s k from to _ goes at full one two (to_parity_hole _ _ other is none
     absurd (full.none other first.hole)
 squeeze_one s k from to _ goes at full one two (by_squeeze _ _ leaves goes_to is none full_too few is_from is_to) =
     let plan_of : Members → Members → AccessPlan =
-    λ m n. squeeze_plan s.disks.geometry m n (slots_of s.book.geometry Mirrored) in
+    λ m n. squeezing_plan s.disks.geometry m n (slots_of s.book.geometry Mirrored) in
     ap (λ g. plan_of (members_of s g) (members_of s to)) (same_full s.book from leaves one is_from)
     ∙ ap (λ g. plan_of (members_of s leaves) (members_of s g)) (same_free s.book to goes_to two is_to)
 

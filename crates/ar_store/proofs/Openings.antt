@@ -1,4 +1,4 @@
--- A free group is opened for parity, with zeros in all of its slots.
+-- A free group is opened for parity, once each of its slots holds a block.
 use Rattle.std.proofs.Common.{◌≡◌, ◌≢◌, ◌⊎◌, inl, inr, ℕ, ◌*◌, ◌<◌, ◌≤◌, List, length, Option, None, Some, true, false}
 use Rattle.std.proofs.Common.{true≢false, refl, sym, ap, subst, ◌∙◌, arith}
 use Rattle.std.proofs.lemmas.Bool.{cases_lt}
@@ -38,12 +38,16 @@ use Rattle.ar_store.proofs.Standing.{stands_held, stands_nowhere, was_sound, hol
 use Rattle.ar_store.proofs.Changes.{extents_same, named_apart, space_opened, all_opened, units_refl, units_opened}
 use Rattle.ar_store.proofs.Changes.{mirrored_not_free}
 
--- All slots of a free group were written with zeros, and the group is opened for parity.
+-- A slot of a parity group holds some block of full length.
+pub record HoldsWhole (s : SetState) (m : Members) (i : ℕ) : Type 0 where
+  pub block : List ℕ
+  pub len : length block ≡ block_len_of s.geometry
+  pub holds : ParityHolds s m i block
+
+-- The extents of a free group were written so that each of its slots holds a block, and the group is opened for parity.
 module _ (a b : SetState) (t : Tables) (g : ℕ) (space : IsSpace (store_of a t)) (inside : g < length t.groups)
     (free : class_of t g ≡ Free) (access : IsAccessed a b)
-    (keeps : Keeps (IsOutside (group_in t.groups g).members) a b)
-    (zero_slots : (i : ℕ) → i < 3 * rows_of a.geometry
-    → ParityHolds b (group_in t.groups g).members i (zeros (block_len_of a.geometry))) where
+    (keeps : Keeps (IsOutside (group_in t.groups g).members) a b) where
   new : Tables
   new = opened t g Parity
 
@@ -66,84 +70,75 @@ module _ (a b : SetState) (t : Tables) (g : ℕ) (space : IsSpace (store_of a t)
     holds = other_holds slot held.block there ne held.holds;
   }
 
-  -- a slot of the group holds the zero block
-  zero_holds : (slot : Slot) → slot.group ≡ g → slot.slot < 3 * rows_of b.geometry
-      → SlotHolds (store_of b new) slot (zeros (block_len_of a.geometry))
+  -- a slot of the group holds what its extents hold
+  pub opened_holds : (slot : Slot) (block : List ℕ) → slot.group ≡ g
+      → ParityHolds b (group_in t.groups g).members slot.slot block
+      → SlotHolds (store_of b (opened t g Parity)) slot block
   unfolding new
-  zero_holds slot is lt =
-      let zero = zeros (block_len_of a.geometry) in
+  opened_holds slot block is holds =
       let P : ℕ → Type 0 =
       λ n. ClassHolds (class_of (opened t g Parity) n) b (group_in (opened t g Parity).groups n).members slot.slot
-      zero in
-      let Q : Class → Type 0 = λ c. ClassHolds c b (group_in (opened t g Parity).groups g).members slot.slot zero in
-      let R : Members → Type 0 = λ m. ParityHolds b m slot.slot zero in
-      subst P (sym is) (subst Q (sym (opened_class t g Parity inside))
-      (subst R (sym (opened_members t g Parity g))
-      (zero_slots slot.slot (subst (λ x. slot.slot < 3 * rows_of x) access.follows.geometry lt))))
+      block in
+      let Q : Class → Type 0 = λ c. ClassHolds c b (group_in (opened t g Parity).groups g).members slot.slot block in
+      let R : Members → Type 0 = λ m. ParityHolds b m slot.slot block in
+      subst P (sym is) (subst Q (sym (opened_class t g Parity inside)) (subst R (sym (opened_members t g Parity g))
+      holds))
 
-  zero_held : (slot : Slot) → slot.group ≡ g → slot.slot < 3 * rows_of b.geometry → HoldsBlock (store_of b new) slot
-  zero_held slot is lt = record {
-    block = zeros (block_len_of a.geometry);
-    len = length-zeros (block_len_of a.geometry) ∙ ap block_len_of (sym access.follows.geometry);
-    holds = zero_holds slot is lt;
-  }
+  module _ (whole : (i : ℕ) → i < 3 * rows_of a.geometry → HoldsWhole b (group_in t.groups g).members i) where
+    here_held : (slot : Slot) → slot.group ≡ g → slot.slot < 3 * rows_of b.geometry → HoldsBlock (store_of b new) slot
+    unfolding new
+    here_held slot is lt =
+        let held = whole slot.slot (subst (λ x. slot.slot < 3 * rows_of x) access.follows.geometry lt) in
+        record { block = held.block; len = held.len; holds = opened_holds slot held.block is held.holds }
 
-  pub zeros_zeroed : HoldsZeros (store_of b (opened t g Parity)) g
-  unfolding new
-  zeros_zeroed = record {
-    slots = λ i lt.
-        subst (λ x. SlotHolds (store_of b (opened t g Parity)) (slot_at g i) (zeros (block_len_of x)))
-        (sym access.follows.geometry)
-        (zero_holds (slot_at g i) refl lt);
-  }
+    pub space_filled : IsSpace (store_of b (opened t g Parity))
+    unfolding new
+    space_filled = record {
+      geometry = space.geometry ∙ sym access.follows.geometry;
+      tables = opened_agrees t g Parity space.tables inside free;
+      extents = λ h i there lt.
+          let taken = extents_same a t (opened t g Parity) space (opened_group_count t g Parity)
+          (opened_members t g Parity) h i there lt in
+          record {
+            there = has_extent_then a b (member (group_in (opened t g Parity).groups h).members i) access.follows
+                taken.there;
+            used = ap (λ l. is_loose (record a { loose = l }) (member (group_in (opened t g Parity).groups h).members
+                i)) access.loose ∙ taken.used;
+          };
+      named = λ slot j names.
+          let before = sym (opened_key t g Parity slot) ∙ names in
+          other_held slot (key_slot t space.tables slot j before).0 (named_apart t g slot j space.tables free before)
+          (space.named slot j before);
+      parity = λ slot there is lt.
+          elim (eqb_tells slot.group g) [
+            | inl same ↦ here_held slot same.1 lt
+            | inr ne ↦
+                let there_before = subst (λ n. slot.group < n) (opened_group_count t g Parity) there in
+                other_held slot there_before ne.1
+                (space.parity slot there_before (sym (opened_class_other t g Parity slot.group ne.1) ∙ is)
+                (subst (λ x. slot.slot < 3 * rows_of x) access.follows.geometry lt))
+          ];
+    }
 
-  pub space_zeroed : IsSpace (store_of b (opened t g Parity))
-  unfolding new
-  space_zeroed = record {
-    geometry = space.geometry ∙ sym access.follows.geometry;
-    tables = opened_agrees t g Parity space.tables inside free;
-    extents = λ h i there lt.
-        let taken = extents_same a t (opened t g Parity) space (opened_group_count t g Parity)
-        (opened_members t g Parity) h i there lt in
-        record {
-          there = has_extent_then a b (member (group_in (opened t g Parity).groups h).members i) access.follows
-              taken.there;
-          used = ap (λ l. is_loose (record a { loose = l }) (member (group_in (opened t g Parity).groups h).members i))
-              access.loose ∙ taken.used;
-        };
-    named = λ slot j names.
-        let before = sym (opened_key t g Parity slot) ∙ names in
-        other_held slot (key_slot t space.tables slot j before).0 (named_apart t g slot j space.tables free before)
-        (space.named slot j before);
-    parity = λ slot there is lt.
-        elim (eqb_tells slot.group g) [
-          | inl same ↦ zero_held slot same.1 lt
-          | inr ne ↦
-              let there_before = subst (λ n. slot.group < n) (opened_group_count t g Parity) there in
-              other_held slot there_before ne.1
-              (space.parity slot there_before (sym (opened_class_other t g Parity slot.group ne.1) ∙ is)
-              (subst (λ x. slot.slot < 3 * rows_of x) access.follows.geometry lt))
-        ];
-  }
+    pub stand_filled : AllStand (store_of a t) (store_of b (opened t g Parity))
+    unfolding new
+    stand_filled = record { blocks = λ sound k. by sound k (home t k) refl }
+      where
+        by : b.health ≢ Broken → (k : Key) (o : Option Slot) → home t k ≡ o
+            → stands (store_of b (opened t g Parity)) k ≡ stands (store_of a t) k
+        by sound k None is =
+            stands_nowhere (store_of b (opened t g Parity)) k is
+            ∙ ap (λ x. zeros (block_len_of x)) access.follows.geometry ∙ sym (stands_nowhere (store_of a t) k is)
+        by sound k (Some slot) is =
+            let key = home_key t space.tables k slot is in
+            let held = space.named slot k key in
+            stands_held (store_of b (opened t g Parity)) k slot held.block space_filled sound is
+            (other_holds slot held.block (home_slot t space.tables k slot is).0
+            (named_apart t g slot k space.tables free key) held.holds)
+            ∙ sym (stands_held (store_of a t) k slot held.block space (was_sound a b access.follows sound) is
+            held.holds)
 
-  pub stand_zeroed : AllStand (store_of a t) (store_of b (opened t g Parity))
-  unfolding new
-  stand_zeroed = record { blocks = λ sound k. by sound k (home t k) refl }
-    where
-      by : b.health ≢ Broken → (k : Key) (o : Option Slot) → home t k ≡ o
-          → stands (store_of b (opened t g Parity)) k ≡ stands (store_of a t) k
-      by sound k None is =
-          stands_nowhere (store_of b (opened t g Parity)) k is
-          ∙ ap (λ x. zeros (block_len_of x)) access.follows.geometry ∙ sym (stands_nowhere (store_of a t) k is)
-      by sound k (Some slot) is =
-          let key = home_key t space.tables k slot is in
-          let held = space.named slot k key in
-          stands_held (store_of b (opened t g Parity)) k slot held.block space_zeroed sound is
-          (other_holds slot held.block (home_slot t space.tables k slot is).0
-          (named_apart t g slot k space.tables free key) held.holds)
-          ∙ sym (stands_held (store_of a t) k slot held.block space (was_sound a b access.follows sound) is held.holds)
-
--- the same, of a group that was found, and under the names that the calls give
+-- the same, of a group that was filled with zeros, and under the names that the calls give
 pub record IsZeroed (a b : SetState) (t u : Tables) (g : ℕ) : Type 0 where
   pub space : IsSpace (store_of b u)
   pub units : SameUnits t u
@@ -161,11 +156,23 @@ zeroed a b t u g m space lowest is_u is_m access keeps slots =
     let slots_t =
     subst (λ (x : Members). (i : ℕ) → i < 3 * rows_of a.geometry
     → ParityHolds b x i (zeros (block_len_of a.geometry))) is slots in
+    let whole : (i : ℕ) → i < 3 * rows_of a.geometry → HoldsWhole b (group_in t.groups g).members i = λ i lt. record {
+      block = zeros (block_len_of a.geometry);
+      len = length-zeros (block_len_of a.geometry) ∙ ap block_len_of (sym access.follows.geometry);
+      holds = slots_t i lt;
+    } in
     subst (λ (x : Tables). IsZeroed a b t x g) (sym is_u) (record {
-      space = space_zeroed a b t g space lowest.there lowest.free access keeps_t slots_t;
+      space = space_filled a b t g space lowest.there lowest.free access keeps_t whole;
       units = units_opened t g Parity;
-      stand = stand_zeroed a b t g space lowest.there lowest.free access keeps_t slots_t;
-      zeros_in = zeros_zeroed a b t g space lowest.there lowest.free access keeps_t slots_t;
+      stand = stand_filled a b t g space lowest.there lowest.free access keeps_t whole;
+      zeros_in = record {
+        slots = λ i lt.
+            subst (λ x. SlotHolds (store_of b (opened t g Parity)) (slot_at g i) (zeros (block_len_of x)))
+            (sym access.follows.geometry)
+            (opened_holds a b t g space lowest.there lowest.free access keeps_t (slot_at g i)
+            (zeros (block_len_of a.geometry)) refl
+            (slots_t i (subst (λ x. i < 3 * rows_of x) access.follows.geometry lt)));
+      };
     })
 
 -- the extents of a group that was opened are one group of the disks

@@ -190,19 +190,19 @@ module _ (a b c : StoreState) (k : Key) where
   squeeze_hole s leads needs first parity writes unwritten from to is_from is_to =
       let same = leads.squeezed_group from to needs.mirrored.none needs.parity needs.mirrored.few is_from is_to in
       record {
-        squeezed = b;
-        steps = first from to is_from is_to;
+        between = b;
+        squeezes = first from to is_from is_to;
         writes = left_written from to s same.0 same.1 parity writes;
         unwritten = unwritten;
       }
 
-  -- a squeeze was begun, and the array failed
+  -- the array failed in a squeeze
   squeeze_broken : b.disks.health ≡ AllBroken → CarriesOutSqueeze a b → c.disks ≡ b.disks
       → (c.disks.health ≡ AllBroken → c.book ≡ b.book)
       → (from to : ℕ) → IsFullMirrored a.book from → IsLowestFree a.book to → SqueezesThenWrites from to a c
   squeeze_broken broken first same unwritten from to is_from is_to = record {
-    squeezed = b;
-    steps = first from to is_from is_to;
+    between = b;
+    squeezes = first from to is_from is_to;
     writes = broken_slot Parity b.disks c.disks _ _ broken same;
     unwritten = unwritten;
   }

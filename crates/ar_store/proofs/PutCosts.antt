@@ -1,6 +1,5 @@
 -- What a put costs where none faults, and the extents that it uses are usable.
-use Rattle.std.proofs.Common.{◌≡◌, inl, inr, ℕ, zero, suc, List, [], ◌∷◌, ◌++◌, refl, sym, ◌∙◌, ap, arith}
-use Rattle.std.proofs.lemmas.List.{append_assoc}
+use Rattle.std.proofs.Common.{◌≡◌, inl, inr, ℕ, List, [], ◌∷◌, ◌++◌, refl, sym, ◌∙◌, ap, arith}
 use Rattle.ar_disks.specs.declared.address.Key.{Key}
 use Rattle.ar_disks.specs.declared.address.Members.{Members}
 use Rattle.ar_disks.specs.declared.geometry.Geometry.{Geometry}
@@ -8,7 +7,7 @@ use Rattle.ar_disks.specs.Geometry.{rows_of}
 use Rattle.ar_extents.specs.declared.health.Health.TheVariants.{Whole, Broken as AllBroken}
 use Rattle.ar_extents.specs.declared.log.AccessKind.{AccessKind}
 use Rattle.ar_extents.specs.declared.log.AccessKind.TheVariants.{Read, Write}
-use Rattle.ar_extents.specs.Plans.{AccessPlan, both_of, NoneFaults}
+use Rattle.ar_extents.specs.Plans.{AccessPlan, NoneFaults}
 use Rattle.ar_book.specs.declared.class.Class.TheVariants.{Mirrored, Parity}
 use Rattle.ar_book.specs.declared.class.Slot.{Slot}
 use Rattle.ar_book.specs.Tables.{slots_of}
@@ -16,32 +15,20 @@ use Rattle.ar_mirror.specs.Slots.{one_of}
 use Rattle.ar_parity.specs.Row.{data_position}
 use Rattle.ar_disks.specs.Members.{member}
 use Rattle.ar_store.specs.Store.{StoreState, members_of}
-use Rattle.ar_store.specs.Plans.{slot_write, fill_plan, copy_plan, copies_plan, squeeze_plan, MakesAccesses, fill_kinds}
-use Rattle.ar_store.specs.Plans.{copies_kinds}
+use Rattle.ar_store.specs.Plans.{slot_write, squeeze_plan, squeezing_plan, MakesAccesses, copies_kinds}
 use Rattle.ar_store.specs.Plans.{CarriesOutPut, NeedsNoSqueeze, GoesToMirrored, GoesToParity, write_as, WritesUsableAs}
 use Rattle.ar_store.specs.Plans.{IsPutPlan, in_place, to_mirrored_hole, to_opened_group, in_parity_place}
 use Rattle.ar_store.specs.Plans.{to_parity_hole, by_squeeze}
 use Rattle.ar_store.proofs.Costs.{kinds_of, makes, both_kinds, parity_kinds, mirrored_made, parity_made, not_failed}
-use Rattle.ar_store.proofs.SqueezeCosts.{stripes_kinds}
+use Rattle.ar_store.proofs.SqueezeCosts.{copies_are}
 use Rattle.ar_store.proofs.OnePlan.{put_carried}
 use Rattle.ar_store.proofs.Ways.{parity_not_mirrored, unplaced_not_mirrored, unplaced_not_parity}
 
-copies_are : (g : Geometry) (from to : Members) (n : ℕ) → kinds_of (copies_plan g from to n) ≡ copies_kinds n
-copies_are g from to zero = refl
-copies_are g from to (suc n) =
-    both_kinds (copies_plan g from to n) (copy_plan g from to n) Whole
-    ∙ ap (λ l. l ++ Read ∷ parity_kinds) (copies_are g from to n)
-
 squeeze_are : (g : Geometry) (from to : Members) (slots : ℕ)
-    → kinds_of (squeeze_plan g from to slots) ≡ fill_kinds (rows_of g) ++ copies_kinds slots ++ parity_kinds
+    → kinds_of (squeezing_plan g from to slots) ≡ copies_kinds g (rows_of g) ++ parity_kinds
 squeeze_are g from to slots =
-    both_kinds (fill_plan g to) (both_of (copies_plan g from to slots) (slot_write Parity g to slots)) Whole
-    ∙ ap (λ l. l ++ kinds_of (both_of (copies_plan g from to slots) (slot_write Parity g to slots)))
-    (stripes_kinds to 0 (rows_of g))
-    ∙ ap (λ l. fill_kinds (rows_of g) ++ l)
-    (both_kinds (copies_plan g from to slots) (slot_write Parity g to slots) Whole
-    ∙ ap (λ l. l ++ parity_kinds) (copies_are g from to slots))
-    ∙ sym (append_assoc (fill_kinds (rows_of g)) (copies_kinds slots) parity_kinds)
+    both_kinds (squeeze_plan g from to) (slot_write Parity g to slots) Whole
+    ∙ ap (λ l. l ++ parity_kinds) (copies_are g from to (rows_of g))
 
 -- the kinds of a put's accesses, by its case
 mirrored_by : (s : StoreState) (k : Key) (plan : AccessPlan) → IsPutPlan s k plan → GoesToMirrored s.book k
@@ -68,8 +55,7 @@ parity_by s k _ (by_squeeze _ _ from to at none full few is_from is_to) goes nee
 
 squeeze_by : (s : StoreState) (k : Key) (plan : AccessPlan) → IsPutPlan s k plan → GoesToParity s.book k
     → (NeedsNoSqueeze s.book k → ⊥)
-    → kinds_of plan ≡ fill_kinds (rows_of s.disks.geometry) ++ copies_kinds (slots_of s.book.geometry Mirrored)
-    ++ parity_kinds
+    → kinds_of plan ≡ copies_kinds s.disks.geometry (rows_of s.disks.geometry) ++ parity_kinds
 squeeze_by s k _ (in_place _ _ slot at is) goes needs = absurd (goes.low at)
 squeeze_by s k _ (to_mirrored_hole _ _ slot low hole) goes needs = absurd (goes.none.none slot hole.hole)
 squeeze_by s k _ (to_opened_group _ _ g low none many free) goes needs = absurd (let few = goes.few in omega arith)
@@ -105,11 +91,10 @@ put_to_parity old new k whole none put goes needs =
 pub put_squeezing : (old new : StoreState) (k : Key) → old.disks.health ≡ Whole → NoneFaults old.disks new.disks
     → CarriesOutPut old k new
     → GoesToParity old.book k → (NeedsNoSqueeze old.book k → ⊥)
-    → MakesAccesses (fill_kinds (rows_of old.disks.geometry) ++ copies_kinds (slots_of old.book.geometry Mirrored)
+    → MakesAccesses (copies_kinds old.disks.geometry (rows_of old.disks.geometry)
     ++ Read ∷ Read ∷ Write ∷ Write ∷ []) old.disks new.disks
 put_squeezing old new k whole none put goes needs =
-    put_by old new k (fill_kinds (rows_of old.disks.geometry) ++ copies_kinds (slots_of old.book.geometry Mirrored)
-    ++ parity_kinds) whole none put
+    put_by old new k (copies_kinds old.disks.geometry (rows_of old.disks.geometry) ++ parity_kinds) whole none put
     (λ plan is. squeeze_by old k plan is goes needs)
 
 -- a put to a slot whose two extents are usable, whichever disk is missing

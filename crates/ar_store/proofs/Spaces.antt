@@ -52,7 +52,7 @@ pub groups_apart : (s : StoreState) (g h : ℕ) → IsSpace s → g < length s.b
 groups_apart s g h space inside_g inside_h ne = space.tables.groups.disjoint g h inside_g inside_h ne
 
 -- after accesses that leave what a slot holds, it still holds some block
-held_then : (a b : SetState) (t : Tables) (slot : Slot) → Follows a b
+pub held_then : (a b : SetState) (t : Tables) (slot : Slot) → Follows a b
     → ((block : List ℕ) → SlotHolds (store_of a t) slot block → SlotHolds (store_of b t) slot block)
     → HoldsBlock (store_of a t) slot → HoldsBlock (store_of b t) slot
 held_then a b t slot ab same held = record {
@@ -103,7 +103,7 @@ space_kept a b t space shape held = record {
 }
 
 -- accesses of the disks that leave every slot some block
-space_accessed : (a b : SetState) (t : Tables) → IsSpace (store_of a t) → IsAccessed a b
+pub space_accessed : (a b : SetState) (t : Tables) → IsSpace (store_of a t) → IsAccessed a b
     → ((slot : Slot) → HasSlot t slot → HoldsBlock (store_of a t) slot → HoldsBlock (store_of b t) slot)
     → IsSpace (store_of b t)
 space_accessed a b t space access held = space_kept a b t space (shape_accessed a b access) held

@@ -1,8 +1,10 @@
 -- What a squeeze costs while all disks are present and none faults.
-use Rattle.std.proofs.Common.{◌≡◌, ◌≢◌, inl, inr, ℕ, zero, suc, ◌+◌, List, [], ◌∷◌, ◌++◌, map, refl, sym, ◌∙◌, ap}
-use Rattle.std.proofs.Common.{subst, arith}
+use Rattle.std.proofs.Common.{◌≡◌, inl, inr, ℕ, zero, suc, ◌+◌, ◌*◌, Bool, true, false, nat_lt, if◌then◌else◌}
+use Rattle.std.proofs.Common.{List, [], ◌∷◌, ◌++◌, map, refl, sym, ◌∙◌, ap, subst, arith}
 use Rattle.std.proofs.lemmas.List.{append-nil, map-append, append_assoc}
 use Rattle.ar_disks.specs.declared.address.Members.{Members}
+use Rattle.ar_disks.specs.declared.geometry.Geometry.{Geometry}
+use Rattle.ar_disks.specs.declared.geometry.Geometry.TheVariants.{Paper, Small}
 use Rattle.ar_disks.specs.Geometry.{rows_of}
 use Rattle.ar_extents.specs.declared.health.Health.{Health}
 use Rattle.ar_extents.specs.declared.health.Health.TheVariants.{Whole, Out, Rebuilding, Broken as AllBroken}
@@ -12,17 +14,16 @@ use Rattle.ar_extents.specs.declared.log.AccessKind.TheVariants.{Read, Write}
 use Rattle.ar_extents.specs.declared.log.RowAccess.{RowAccess}
 use Rattle.ar_extents.specs.Set.{SetState}
 use Rattle.ar_extents.specs.Follows.{Follows, IsHit}
-use Rattle.ar_extents.specs.Plans.{NoneFaults, each_of}
-use Rattle.ar_extents.proofs.Follows.{follows_refl, follows_then}
-use Rattle.ar_extents.proofs.Carried.{plan_follows}
-use Rattle.ar_parity.specs.Plans.{stripes_from}
-use Rattle.ar_book.specs.declared.class.Class.TheVariants.{Mirrored, Parity}
-use Rattle.ar_book.specs.Changes.{opened}
+use Rattle.ar_extents.specs.Plans.{NoneFaults, Stop, both_of, each_of}
+use Rattle.ar_mirror.specs.Plans.{mirror_read}
+use Rattle.ar_parity.specs.Plans.{stripe_writes, stripes_from}
+use Rattle.ar_book.specs.declared.class.Class.TheVariants.{Mirrored}
 use Rattle.ar_book.specs.Tables.{slots_of}
-use Rattle.ar_store.specs.Store.{StoreState, members_of, store_of}
-use Rattle.ar_store.specs.Plans.{fill_plan, copy_plan, CopiesFirst, CopiesSome, Squeezes, MakesAccesses, fill_kinds}
-use Rattle.ar_store.specs.Plans.{copies_kinds}
-use Rattle.ar_store.proofs.Costs.{kinds_of, makes}
+use Rattle.ar_store.specs.Store.{StoreState, members_of}
+use Rattle.ar_store.specs.Plans.{source_read, sources_plan, copy_plan, copies_plan, squeeze_plan, Squeezes}
+use Rattle.ar_store.specs.Plans.{MakesAccesses, fill_kinds, source_kinds, copy_kinds, copies_kinds}
+use Rattle.ar_store.specs.Plans.{reads_in, writes_in}
+use Rattle.ar_store.proofs.Costs.{kinds_of, makes, both_kinds}
 
 -- where no disk has faulted in two runs, none has in the first, nor in the second
 pub calm_first : (a b c : SetState) → Follows a b → Follows b c → NoneFaults a c → NoneFaults a b
@@ -74,72 +75,55 @@ pub stripes_kinds : (m : Members) (row n : ℕ) → kinds_of (each_of (stripes_f
 stripes_kinds m row zero = refl
 stripes_kinds m row (suc n) = ap (λ l. Write ∷ Write ∷ Write ∷ Write ∷ l) (stripes_kinds m (row + 1) n)
 
-copies_follow : (from to : Members) (n : ℕ) (a c : SetState) → CopiesFirst from to n a c → Follows a c
-copies_follow from to zero a c same = subst (λ (s : SetState). Follows a s) (sym same) (follows_refl a)
-copies_follow from to (suc n) a c copies =
-    let b = copies.0 in
-    follows_then a b c (copies_follow from to n a b copies.1)
-    (plan_follows (copy_plan b.geometry from to n) b c copies.2.copy.plan)
+-- the read for a slot, if there is one
+source_by : (g : Geometry) (m : Members) (i : ℕ) (there : Bool)
+    → kinds_of (if there then mirror_read g m i else Stop) ≡ (if there then Read ∷ [] else [])
+source_by g m i true = refl
+source_by g m i false = refl
 
--- the first n slots
-copies_made : (from to : Members) (n : ℕ) (a c : SetState) → a.health ≡ Whole → NoneFaults a c
-    → CopiesFirst from to n a c
-    → MakesAccesses (copies_kinds n) a c
-copies_made from to zero a c whole none same = subst (λ (s : SetState). MakesAccesses [] a s) (sym same) (made_none a)
-copies_made from to (suc n) a c whole none copies =
-    let b = copies.0 in
-    let plan = copies.2.copy.plan in
-    let first = copies_follow from to n a b copies.1 in
-    let last = plan_follows (copy_plan b.geometry from to n) b c plan in
-    let calm = calm_first a b c first last none in
-    made_then (copies_kinds n) (Read ∷ Read ∷ Read ∷ Write ∷ Write ∷ []) a b c
-    (copies_made from to n a b whole calm copies.1)
-    (makes (copy_plan b.geometry from to n) (Read ∷ Read ∷ Read ∷ Write ∷ Write ∷ []) b c
-    (still_whole a b whole first calm)
-    (calm_second a b c first last none) plan refl)
+source_are : (g : Geometry) (m : Members) (i : ℕ) → kinds_of (source_read g m i) ≡ source_kinds g i
+source_are g m i = source_by g m i (nat_lt i (slots_of g Mirrored))
 
--- all slots, as the array hasn't failed
-some_made : (slots copied : ℕ) (from to : Members) (a c : SetState) → a.health ≡ Whole → Follows a c → NoneFaults a c
-    → CopiesSome slots copied from to a c → MakesAccesses (copies_kinds slots) a c
-some_made slots copied from to a c whole follows none some =
-    let now = still_whole a c whole follows none in
-    let sound : c.health ≢ AllBroken = λ broken. (let k : Whole ≡ AllBroken = sym now ∙ broken in cc) in
-    let P : SetState → Type 0 = λ s. CopiesFirst from to copied a s in
-    let all : CopiesFirst from to copied a c =
-    elim some.rest [ inl same ↦ subst P (sym same) some.copies | inr cut ↦ absurd (sound cut.broken) ] in
-    subst (λ n. MakesAccesses (copies_kinds n) a c) (some.whole sound) (copies_made from to copied a c whole none all)
+sources_are : (g : Geometry) (m : Members) (row : ℕ) → kinds_of (sources_plan g m row)
+    ≡ source_kinds g (3 * row) ++ (source_kinds g (3 * row + 1) ++ source_kinds g (3 * row + 2))
+sources_are g m row =
+    let one = source_read g m (3 * row) in
+    let two = source_read g m (3 * row + 1) in
+    let three = source_read g m (3 * row + 2) in
+    both_kinds one (both_of two three) Whole ∙ ap (λ l. l ++ kinds_of (both_of two three)) (source_are g m (3 * row))
+    ∙ ap (λ l. source_kinds g (3 * row) ++ l)
+    (both_kinds two three Whole ∙ ap (λ l. l ++ kinds_of three) (source_are g m (3 * row + 1))
+    ∙ ap (λ l. source_kinds g (3 * row + 1) ++ l) (source_are g m (3 * row + 2)))
 
-some_follow : (slots copied : ℕ) (from to : Members) (a c : SetState) → CopiesSome slots copied from to a c
-    → Follows a c
-some_follow slots copied from to a c some =
-    let b = some.counted in
-    let first = copies_follow from to copied a b some.copies in
-    elim some.rest [
-      | inl same ↦ subst (λ (s : SetState). Follows a s) (sym same) first
-      | inr cut ↦ follows_then a b c first (plan_follows (copy_plan b.geometry from to copied) b c cut.plan)
-    ]
+copy_are : (g : Geometry) (from to : Members) (row : ℕ) → kinds_of (copy_plan g from to row) ≡ copy_kinds g row
+copy_are g from to row =
+    both_kinds (sources_plan g from row) (each_of (stripe_writes to row)) Whole
+    ∙ ap (λ l. l ++ Write ∷ Write ∷ Write ∷ Write ∷ []) (sources_are g from row)
 
--- a squeeze: four writes a row, and then three reads and two writes a slot
+-- the first n stripes
+pub copies_are : (g : Geometry) (from to : Members) (n : ℕ) → kinds_of (copies_plan g from to n) ≡ copies_kinds g n
+copies_are g from to zero = refl
+copies_are g from to (suc n) =
+    both_kinds (copies_plan g from to n) (copy_plan g from to n) Whole
+    ∙ ap (λ l. l ++ kinds_of (copy_plan g from to n)) (copies_are g from to n)
+    ∙ ap (λ l. copies_kinds g n ++ l) (copy_are g from to n)
+
+-- a squeeze: a read of each slot of the mirrored group, and four writes a row
 pub squeeze_made : (old new : StoreState) (from to : ℕ) → old.disks.health ≡ Whole → NoneFaults old.disks new.disks
     → Squeezes from to old new
-    → MakesAccesses (fill_kinds (rows_of old.disks.geometry) ++ copies_kinds (slots_of old.book.geometry Mirrored))
-    old.disks new.disks
-squeeze_made old new from to whole none steps =
-    let a = old.disks in
-    let b = steps.filled in
-    let c = new.disks in
-    let slots = slots_of old.book.geometry Mirrored in
-    let moves = steps.moves in
-    let mid = store_of b (opened old.book to Parity) in
-    let one = members_of mid from in
-    let two = members_of mid to in
-    let other = members_of old to in
-    let plan = steps.fills.plan in
-    let first = plan_follows (fill_plan a.geometry other) a b plan in
-    let last = some_follow slots moves.moved one two b c moves.copies in
-    let calm = calm_first a b c first last none in
-    made_then (fill_kinds (rows_of a.geometry)) (copies_kinds slots) a b c
-    (makes (fill_plan a.geometry other) (fill_kinds (rows_of a.geometry)) a b whole calm plan
-    (stripes_kinds other 0 (rows_of a.geometry)))
-    (some_made slots moves.moved one two b c (still_whole a b whole first calm) last (calm_second a b c first last none)
-    moves.copies)
+    → MakesAccesses (copies_kinds old.disks.geometry (rows_of old.disks.geometry)) old.disks new.disks
+squeeze_made old new from to whole none squeezes =
+    let g = old.disks.geometry in
+    let one = members_of old from in
+    let two = members_of old to in
+    makes (squeeze_plan g one two) (copies_kinds g (rows_of g)) old.disks new.disks whole none squeezes.plan
+    (copies_are g one two (rows_of g))
+
+-- as many reads as the mirrored group has slots, and four writes a row
+pub squeeze_reads : (g : Geometry) → reads_in (copies_kinds g (rows_of g)) ≡ slots_of g Mirrored
+squeeze_reads Paper = refl
+squeeze_reads Small = refl
+
+pub squeeze_writes : (g : Geometry) → writes_in (copies_kinds g (rows_of g)) ≡ 4 * rows_of g
+squeeze_writes Paper = refl
+squeeze_writes Small = refl

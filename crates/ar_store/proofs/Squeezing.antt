@@ -18,7 +18,6 @@ use Rattle.ar_book.specs.Book.{TablesAgree}
 use Rattle.ar_book.proofs.Homes.{key_home, key_block, key_beyond}
 use Rattle.ar_book.proofs.AfterAssign.{assigned_class_named, assigned_class_here, assigned_class_left}
 use Rattle.ar_book.proofs.AfterAssign.{assigned_key_other, assigned_key_left, assigned_home_other}
-use Rattle.ar_book.proofs.AfterOpen.{opened_group_count, opened_class, opened_class_other, opened_key, opened_empty}
 use Rattle.ar_book.proofs.AfterOpen.{opened_free_groups}
 use Rattle.ar_extents.specs.declared.health.Health.TheVariants.{Broken}
 use Rattle.ar_store.specs.declared.space.Space.{Space}
@@ -27,7 +26,7 @@ use Rattle.ar_store.specs.Spaces.{store_in, IsReady, Stays}
 use Rattle.ar_store.proofs.Options.{some_value}
 use Rattle.ar_store.proofs.Stays.{stays_refl, stays_then, all_then}
 use Rattle.ar_store.specs.Placing.{slot_at, moved_from, moved_first, squeezed, CanMove, IsVacant, IsSqueezed}
-use Rattle.ar_store.specs.Placing.{HasMovedSome, HasBegunSqueeze, SameUnits}
+use Rattle.ar_store.specs.Placing.{SameUnits, HasSqueezed}
 use Rattle.ar_store.proofs.Changes.{units_refl, units_then, units_assigned, mirrored_not_free}
 
 -- The first i blocks of a group have moved, and the rest are to come.
@@ -227,21 +226,6 @@ squeezing_then old now new from to i k ready can so_far inside names is stand st
 pub slots_end : (n : ℕ) (g h : Geometry) → n ≡ rows_of g → g ≡ h → 2 * n ≡ slots_of h Mirrored
 slots_end n g h rows same = ap (λ r. 2 * r) (rows ∙ ap rows_of same)
 
--- a free group was opened for parity, and the blocks of a full mirrored one can move there
-pub can_move : (t : Tables) (from to : ℕ) → TablesAgree t → IsFullMirrored t from → IsLowestFree t to
-    → CanMove (opened t to Parity) from to
-can_move t from to ok full free =
-    let ne : from ≢ to = λ same. mirrored_not_free (sym full.mirrored ∙ ap (λ n. class_of t n) same ∙ free.free) in
-    record {
-      from_there = subst (λ n. from < n) (sym (opened_group_count t to Parity)) full.there;
-      to_there = subst (λ n. to < n) (sym (opened_group_count t to Parity)) free.there;
-      mirrored = opened_class_other t to Parity from ne ∙ full.mirrored;
-      full = λ i lt. subst (λ (o : Option Key). IsSome o) (sym (opened_key t to Parity (slot_at from i)))
-          (full.full i lt);
-      opened = opened_class t to Parity free.there;
-      empty = opened_empty t to Parity ok free.there free.free;
-    }
-
 -- the lowest mirrored group and the lowest free one are one each
 pub same_full : (t : Tables) (f g : ℕ) → IsFullMirrored t f → IsFullMirrored t g → f ≡ g
 same_full t f g is_f is_g =
@@ -257,7 +241,18 @@ same_free t f g is_f is_g =
       | inr ge ↦ elim (cases_lt g f) [ inl lt ↦ absurd (is_f.least g lt is_g.free) | inr le ↦ omega arith ]
     ]
 
--- all blocks have moved: the tables are squeezed, and a hole is left
+-- all blocks have moved: the tables are squeezed,
+pub squeezed_tables : (t u v : Tables) (from to : ℕ) → IsFullMirrored t from → IsLowestFree t to
+    → u ≡ opened t to Parity → v ≡ moved_first u from to (slots_of u.geometry Mirrored) → HasSqueezed t v
+squeezed_tables t u v from to full free is_u is_v = record {
+  from = from;
+  to = to;
+  full = full;
+  lowest = free;
+  tables = subst (λ (x : Tables). v ≡ moved_first x from to (slots_of x.geometry Mirrored)) is_u is_v;
+}
+
+-- and a hole is left
 pub squeezed_is : (t u v : Tables) (from to n : ℕ) → IsFullMirrored t from → IsLowestFree t to → u ≡ opened t to Parity
     → v ≡ moved_first u from to (slots_of u.geometry Mirrored) → n ≡ slots_of t.geometry Mirrored
     → IsVacant v (slot_at to (slots_of u.geometry Mirrored))
@@ -275,25 +270,8 @@ squeezed_is t u v from to n full free is_u is_v is_n vacant =
           );
     }
 
--- the free group was opened, and so many blocks have moved there
-pub begun_squeeze : (t u v : Tables) (from to moved : ℕ) → IsFullMirrored t from → IsLowestFree t to
-    → u ≡ opened t to Parity
-    → HasMovedSome u from to moved v → HasBegunSqueeze t v
-begun_squeeze t u v from to moved full lowest is some = record {
-  from = from;
-  to = to;
-  full = full;
-  lowest = lowest;
-  moved = moved;
-  moves = subst (λ (x : Tables). HasMovedSome x from to moved v) is some;
-}
-
 -- a group that is free is counted
 pub free_counted : (t : Tables) (g : ℕ) → TablesAgree t → g < length t.groups → class_of t g ≡ Free → 0 < free_groups t
 free_counted t g ok inside free =
     let count = opened_free_groups t g Mirrored ok inside free mirrored_not_free in
     omega arith
-
--- the opening moves no block
-pub homes_opened : (t u : Tables) (g : ℕ) (k : Key) → u ≡ opened t g Parity → home t k ≡ None → home u k ≡ None
-homes_opened t u g k is none = ap (λ (x : Tables). home x k) is ∙ none

@@ -25,7 +25,7 @@ use Rattle.ar_store.specs.Store.{StoreState, store_of, class_in}
 use Rattle.ar_store.specs.Slots.{SlotHolds, BesideHold}
 use Rattle.ar_store.specs.Kept.{IsSpace}
 use Rattle.ar_store.specs.Placing.{slot_at, HasNoHole, IsVacant, IsReadyFor, IsWayIn, Leads, MayOpen}
-use Rattle.ar_store.specs.Calls.{HoldsZeros, HoldsZerosFrom, LeavesZeros, IsZerosOnWay, BesideWay}
+use Rattle.ar_store.specs.Calls.{HoldsZerosFrom, LeavesZeros, IsZerosOnWay, BesideWay}
 use Rattle.ar_store.proofs.Ways.{unplaced_not_mirrored, unplaced_not_parity}
 
 -- of broken disks no extent is used, so each slot holds any block, and zeros
@@ -34,10 +34,6 @@ pub zeros_broken : (m : Members) (s : SetState) → s.health ≡ AllBroken
 zeros_broken m s broken =
     zero_slots s m (rows_of s.geometry) (block_len_of s.geometry)
     (λ row lt. broken_zero_agrees s s m row (follows_refl s) broken)
-
--- a group that was just filled
-pub zeros_all : (s : StoreState) (group : ℕ) → HoldsZeros s group → HoldsZerosFrom s group 0
-zeros_all s group holds = record { slots = λ i le inside. holds.slots i inside }
 
 -- One of its slots was written: those behind it hold zeros.
 pub zeros_later : (a b : StoreState) (s : Slot) → IsSpace a → s.group < length a.book.groups

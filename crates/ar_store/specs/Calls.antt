@@ -18,7 +18,8 @@ use Rattle.ar_store.specs.declared.way.Way.{Way}
 use Rattle.ar_store.specs.declared.way.Way.TheVariants.{Home, Hole, Broken as NoWay}
 use Rattle.ar_store.specs.Store.{StoreState, class_in}
 use Rattle.ar_store.specs.Slots.{SlotHolds, BesideHold}
-use Rattle.ar_store.specs.Placing.{slot_at, HasNoHole, HasNoWay, SameUnits, MayHavePrepared, LeavesOpened}
+use Rattle.ar_store.specs.Placing.{slot_at, HasNoHole, HasNoWay, SameUnits, MayHavePrepared, LeavesOpened, IsSqueezed}
+use Rattle.ar_store.specs.Placing.{HasSqueezed}
 
 -- Rows were read and written: disks failed only by faults, and unassigned extents stay so. An extent that isn't used,
 -- on a failed disk or not rebuilt yet, keeps its rows: only the rebuild writes them.
@@ -71,7 +72,7 @@ pub record HoldsZerosFrom (s : StoreState) (group first : ℕ) : Type 0 where
   pub slots : (i : ℕ) → first ≤ i → i < 3 * rows_of s.disks.geometry
       → SlotHolds s (slot_at group i) (zeros (block_len_of s.disks.geometry))
 
--- A put that needed a squeeze filled the group that it opened with zeros: each slot behind the block's own holds the
+-- A put that needed a squeeze wrote zeros behind the blocks that it moved: each slot behind the block's own holds the
 -- zero block.
 pub record LeavesZeros (old : StoreState) (k : Key) (new : StoreState) : Type 0 where
   pub behind :
@@ -84,6 +85,19 @@ pub record LeavesZeros (old : StoreState) (k : Key) (new : StoreState) : Type 0 
 pub record IsZerosFrom (s : StoreState) (slot : Slot) : Type 0 where
   pub parity : class_in s slot.group ≡ Parity
   pub zeros : HoldsZerosFrom s slot.group slot.slot
+
+-- A squeeze was made: all blocks of the full mirrored group have moved to the only free one, behind them is this hole,
+-- from which on each slot holds the zero block, and a group is free again.
+pub record LeavesHole (old new : StoreState) (s : Slot) : Type 0 where
+  pub squeezed : IsSqueezed old.book new.book s
+  pub made : HasSqueezed old.book new.book
+  pub free : 0 < free_groups new.book
+  pub zeros : IsZerosFrom new s
+
+-- the array failed in a squeeze, and the tables are unchanged
+pub record BreaksSqueeze (old new : StoreState) : Type 0 where
+  pub broken : new.disks.health ≡ AllBroken
+  pub unmoved : new.book ≡ old.book
 
 -- a slot that a squeeze has made for a block is such a one
 abbrev pub IsZerosOnWay : Tables → Key → StoreState → Way → Type 0

@@ -158,30 +158,23 @@ pub record HasNoWay (t : Tables) (k : Key) (new : Tables) : Type 0 where
   pub mirrored : HasNoMirroredHole t new
   pub parity : HasNoHole new Parity
 
--- the first `moved` blocks of a mirrored group have moved to another group
-pub record HasMovedSome (t : Tables) (from to moved : ℕ) (new : Tables) : Type 0 where
-  pub within : moved ≤ slots_of t.geometry Mirrored
-  pub tables : new ≡ moved_first t from to moved
-
--- a squeeze was begun: the lowest free group was opened for parity, and the first `moved` blocks of the full mirrored
--- group have moved there
-pub record HasBegunSqueeze (t new : Tables) : Type 0 where
+-- a squeeze was made: all blocks of the full mirrored group have moved to the lowest free one
+pub record HasSqueezed (t new : Tables) : Type 0 where
   pub from : ℕ
   pub to : ℕ
   pub full : IsFullMirrored t from
   pub lowest : IsLowestFree t to
-  pub moved : ℕ
-  pub moves : HasMovedSome (opened t to Parity) from to moved new
+  pub tables : new ≡ squeezed t from to
 
 -- a put of the block may open a group: the block isn't mirrored, and no mirrored group has a hole
 pub record WantsGroup (t : Tables) (k : Key) : Type 0 where
   pub low : level t k ≢ MirroredLevel
   pub none : HasNoHole t Mirrored
 
--- What was done before the block was written, as far as it got: nothing; or a group was opened for it; or, if it has no
--- slot otherwise, a squeeze was begun. Only the homes of blocks that a squeeze moves have changed.
+-- What was done before the block was written: nothing; or a group was opened for it; or, if it has no slot otherwise, a
+-- squeeze was made. Only the homes of blocks that a squeeze moves have changed.
 abbrev pub MayHavePrepared : Tables → Key → Tables → Type 0
-MayHavePrepared t k new = (new ≡ t) ⊎ ((WantsGroup t k × HasOpened t new) ⊎ (HasNoWay t k t × HasBegunSqueeze t new))
+MayHavePrepared t k new = (new ≡ t) ⊎ ((WantsGroup t k × HasOpened t new) ⊎ (HasNoWay t k t × HasSqueezed t new))
 
 -- If a put may open a group and two were free, the lowest is open, even if the array failed in the write after that.
 pub record LeavesOpened (t : Tables) (k : Key) (new : Tables) : Type 0 where

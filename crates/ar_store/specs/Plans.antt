@@ -1,5 +1,6 @@
--- What calls access, as plans: reads and writes of slots, one after another, and the steps of a put and of a squeeze.
-use Rattle.std.specs.Prelude.{◌≡◌, ◌≢◌, ◌⊎◌, ℕ, zero, suc, ◌*◌, List, [], ◌∷◌, ◌++◌, map, ◌<◌, ◌≤◌, Option, None, Some}
+-- What calls access, as plans: reads and writes of slots, one after another, of puts, and of squeezes.
+use Rattle.std.specs.Prelude.{◌≡◌, ◌≢◌, ◌⊎◌, ℕ, zero, suc, ◌+◌, ◌*◌, List, [], ◌∷◌, ◌++◌, map, ◌<◌, ◌≤◌}
+use Rattle.std.specs.Prelude.{Option, None, Some, nat_lt, if◌then◌else◌}
 use Rattle.ar_disks.specs.Block.{zeros}
 use Rattle.ar_disks.specs.Geometry.{rows_of, block_len_of}
 use Rattle.ar_disks.specs.declared.address.Key.{Key}
@@ -7,27 +8,26 @@ use Rattle.ar_disks.specs.declared.address.Members.{Members}
 use Rattle.ar_disks.specs.declared.geometry.Geometry.{Geometry}
 use Rattle.ar_extents.specs.declared.health.Health.TheVariants.{Broken as AllBroken}
 use Rattle.ar_extents.specs.declared.log.AccessKind.{AccessKind}
-use Rattle.ar_extents.specs.declared.log.AccessKind.TheVariants.{Read, Write}
+use Rattle.ar_extents.specs.declared.log.AccessKind.TheVariants.{Read, Write, Rebuild}
 use Rattle.ar_extents.specs.declared.log.RowAccess.{RowAccess}
 use Rattle.ar_extents.specs.Set.{SetState, IsLost, IsSound}
 use Rattle.ar_extents.specs.Plans.{AccessPlan, Stop, both_of, each_of, CarriesOut}
 use Rattle.ar_disks.specs.Members.{member}
 use Rattle.ar_mirror.specs.Plans.{mirror_read, mirror_write}
 use Rattle.ar_mirror.specs.Slots.{one_of, other_of}
-use Rattle.ar_parity.specs.Plans.{parity_read, parity_write, stripes_from}
+use Rattle.ar_parity.specs.Plans.{parity_read, parity_write, stripe_writes, stripes_from}
 use Rattle.ar_parity.specs.Row.{row_of, data_position, parity_position}
 use Rattle.ar_book.specs.declared.class.Class.{Class}
 use Rattle.ar_book.specs.declared.class.Class.TheVariants.{Free, Mirrored, Parity}
 use Rattle.ar_book.specs.declared.class.Level.TheVariants.{Unplaced, Mirrored as MirroredLevel, Parity as ParityLevel}
 use Rattle.ar_book.specs.declared.class.Slot.{Slot}
 use Rattle.ar_book.specs.Tables.{Tables, home, level, slots_of, free_groups}
-use Rattle.ar_book.specs.Changes.{opened}
 use Rattle.ar_book.specs.Choices.{IsLowestFree, IsFullMirrored}
 use Rattle.ar_store.specs.declared.way.Way.{Way}
 use Rattle.ar_store.specs.declared.way.Way.TheVariants.{Home, Hole, Broken}
-use Rattle.ar_store.specs.Store.{StoreState, store_of, members_of, class_in}
+use Rattle.ar_store.specs.Store.{StoreState, members_of, class_in}
 use Rattle.ar_store.specs.Slots.{ClassHolds}
-use Rattle.ar_store.specs.Placing.{slot_at, HasNoHole, HasNoWay, IsLowestHole, HasMovedSome}
+use Rattle.ar_store.specs.Placing.{slot_at, squeezed, HasNoHole, HasNoWay, IsLowestHole}
 use Rattle.ar_store.specs.Calls.{WasBroken}
 
 -- the read of a slot of four extents in the layout of a class, and its write
@@ -71,9 +71,29 @@ open_plan Free g m = Stop
 open_plan Mirrored g m = Stop
 open_plan Parity g m = fill_plan g m
 
--- a slot of a mirrored group is copied to the slot with the same number of a parity group
+-- The read of a mirrored group's slot for the slot with the same number of a parity group. A parity group has half as
+-- many slots again: for one behind the last mirrored slot nothing is read.
+abbrev pub source_read : Geometry → Members → ℕ → AccessPlan
+source_read g m i = if nat_lt i (slots_of g Mirrored) then mirror_read g m i else Stop
+
+-- the reads for the three slots of a stripe
+abbrev pub sources_plan : Geometry → Members → ℕ → AccessPlan
+sources_plan g m row =
+    both_of (source_read g m (3 * row))
+    (both_of (source_read g m (3 * row + 1)) (source_read g m (3 * row + 2)))
+
+-- a stripe of a parity group is written whole, with the blocks of three slots of a mirrored group, which are read first
 abbrev pub copy_plan : Geometry → Members → Members → ℕ → AccessPlan
-copy_plan g from to i = both_of (slot_read Mirrored g from i) (slot_write Parity g to i)
+copy_plan g from to row = both_of (sources_plan g from row) (each_of (stripe_writes to row))
+
+-- the first n stripes, one after another
+abbrev pub copies_plan : Geometry → Members → Members → ℕ → AccessPlan
+copies_plan g from to zero = Stop
+copies_plan g from to (suc n) = both_of (copies_plan g from to n) (copy_plan g from to n)
+
+-- the squeeze of a mirrored group to a free one: each stripe is written once
+abbrev pub squeeze_plan : Geometry → Members → Members → AccessPlan
+squeeze_plan g from to = copies_plan g from to (rows_of g)
 
 -- the log has grown by accesses of these kinds
 pub record MakesAccesses (kinds : List AccessKind) (old new : SetState) : Type 0 where
@@ -119,10 +139,32 @@ abbrev pub fill_kinds : ℕ → List AccessKind
 fill_kinds zero = []
 fill_kinds (suc n) = Write ∷ Write ∷ Write ∷ Write ∷ fill_kinds n
 
--- those by which n slots of a mirrored group are copied to a parity group
-abbrev pub copies_kinds : ℕ → List AccessKind
-copies_kinds zero = []
-copies_kinds (suc n) = copies_kinds n ++ Read ∷ Read ∷ Read ∷ Write ∷ Write ∷ []
+-- the kinds of the accesses by which the blocks of a mirrored group's slots are written as n stripes: a read of each
+-- slot that there is, and four writes a stripe
+abbrev pub source_kinds : Geometry → ℕ → List AccessKind
+source_kinds g i = if nat_lt i (slots_of g Mirrored) then Read ∷ [] else []
+
+abbrev pub copy_kinds : Geometry → ℕ → List AccessKind
+copy_kinds g row =
+    source_kinds g (3 * row) ++ (source_kinds g (3 * row + 1) ++ source_kinds g (3 * row + 2))
+    ++ Write ∷ Write ∷ Write ∷ Write ∷ []
+
+abbrev pub copies_kinds : Geometry → ℕ → List AccessKind
+copies_kinds g zero = []
+copies_kinds g (suc n) = copies_kinds g n ++ copy_kinds g n
+
+-- how many of these are reads, and how many are writes
+abbrev pub reads_in : List AccessKind → ℕ
+reads_in [] = 0
+reads_in (Read ∷ rest) = suc (reads_in rest)
+reads_in (Write ∷ rest) = reads_in rest
+reads_in (Rebuild ∷ rest) = reads_in rest
+
+abbrev pub writes_in : List AccessKind → ℕ
+writes_in [] = 0
+writes_in (Read ∷ rest) = writes_in rest
+writes_in (Write ∷ rest) = suc (writes_in rest)
+writes_in (Rebuild ∷ rest) = suc (writes_in rest)
 
 -- one slot of a group was written, and the group's other slots keep their blocks
 pub record WritesSlot (class : Class) (old new : SetState) (m : Members) (i : ℕ) : Type 0 where
@@ -134,69 +176,26 @@ pub record WritesSlot (class : Class) (old new : SetState) (m : Members) (i : �
 abbrev pub WritesSlotOf : Class → Slot → StoreState → StoreState → Type 0
 WritesSlotOf class slot old new = WritesSlot class old.disks new.disks (members_of old slot.group) slot.slot
 
--- A slot of a mirrored group was copied to the slot with the same number of a parity group, which holds the block
--- unless the array failed, and whose group's other slots keep theirs.
-pub record CopiesSlot (from to : Members) (i : ℕ) (old new : SetState) : Type 0 where
-  pub plan : CarriesOut (copy_plan old.geometry from to i) old new
-  pub here : new.health ≢ AllBroken → (block : List ℕ) → ClassHolds Mirrored old from i block
-      → ClassHolds Parity new to i block
-  pub beside : new.health ≢ AllBroken → (k : ℕ) (block : List ℕ) → k < slots_of old.geometry Parity → k ≢ i
-      → ClassHolds Parity old to k block → ClassHolds Parity new to k block
-
--- it was copied, and the array hasn't failed
-pub record HasCopied (from to : Members) (i : ℕ) (old new : SetState) : Type 0 where
-  pub copy : CopiesSlot from to i old new
-  pub sound : new.health ≢ AllBroken
-
--- the copy of one of `slots` slots in which the array failed
-pub record BreaksCopy (slots : ℕ) (from to : Members) (i : ℕ) (old new : SetState) : Type 0 where
-  pub below : i < slots
-  pub plan : CarriesOut (copy_plan old.geometry from to i) old new
-  pub sound : old.health ≢ AllBroken
-  pub broken : new.health ≡ AllBroken
-
--- the first n slots were copied one after another
-abbrev pub CopiesFirst : Members → Members → ℕ → SetState → SetState → Type 0
-CopiesFirst from to zero old new = new ≡ old
-CopiesFirst from to (suc n) old new = (next : SetState) × CopiesFirst from to n old next × HasCopied from to n next new
-
--- The first `copied` of a mirrored group's `slots` slots were copied: all of them, unless the array failed. It failed
--- before the first copy, or in that of the next slot, which isn't counted.
-pub record CopiesSome (slots copied : ℕ) (from to : Members) (old new : SetState) : Type 0 where
-  pub within : copied ≤ slots
-  pub whole : new.health ≢ AllBroken → copied ≡ slots
-  pub counted : SetState
-  pub copies : CopiesFirst from to copied old counted
-  pub rest : (new ≡ counted) ⊎ BreaksCopy slots from to copied counted new
-
--- The blocks of a mirrored group moved to another: the tables have as many moved as were copied, without the copy in
--- which the array failed.
-pub record MovesInTurn (from to : ℕ) (old new : StoreState) : Type 0 where
-  pub moved : ℕ
-  pub tables : HasMovedSome old.book from to moved new.book
-  pub copies : CopiesSome (slots_of old.book.geometry Mirrored) moved (members_of old from) (members_of old to)
-      old.disks new.disks
-
 -- Four extents were filled with zeros: each slot of a parity group on them holds the zero block. (This says nothing of
 -- a failed array, none of whose extents is used.)
 pub record FillsWithZeros (m : Members) (old new : SetState) : Type 0 where
   pub plan : CarriesOut (fill_plan old.geometry m) old new
   pub zeros : (i : ℕ) → i < 3 * rows_of new.geometry → ClassHolds Parity new m i (zeros (block_len_of new.geometry))
 
--- The steps of a squeeze: the blocks of a mirrored group move to a free one, which is opened for parity and filled with
--- zeros first.
+-- A squeeze: a free group's stripes were written with the blocks of a mirrored group, and then the tables moved these.
+-- If the array failed, the tables are unchanged.
 pub record Squeezes (from to : ℕ) (old new : StoreState) : Type 0 where
-  pub filled : SetState
-  pub fills : FillsWithZeros (members_of old to) old.disks filled
-  pub moves : MovesInTurn from to (store_of filled (opened old.book to Parity)) new
+  pub plan : CarriesOut (squeeze_plan old.disks.geometry (members_of old from) (members_of old to)) old.disks new.disks
+  pub moved : new.disks.health ≢ AllBroken → new.book ≡ squeezed old.book from to
+  pub unmoved : new.disks.health ≡ AllBroken → new.book ≡ old.book
 
 -- The same, and then the first hole that the squeeze left was written. If the array failed, the tables are those that
 -- the squeeze left.
 pub record SqueezesThenWrites (from to : ℕ) (old new : StoreState) : Type 0 where
-  pub squeezed : StoreState
-  pub steps : Squeezes from to old squeezed
-  pub writes : WritesSlot Parity squeezed.disks new.disks (members_of old to) (slots_of old.book.geometry Mirrored)
-  pub unwritten : new.disks.health ≡ AllBroken → new.book ≡ squeezed.book
+  pub between : StoreState
+  pub squeezes : Squeezes from to old between
+  pub writes : WritesSlot Parity between.disks new.disks (members_of old to) (slots_of old.book.geometry Mirrored)
+  pub unwritten : new.disks.health ≡ AllBroken → new.book ≡ between.book
 
 -- What a put accesses, by the cases of `Puts`: its slot is written, after a squeeze in the last case. An array that had
 -- failed before squeezes nothing.
@@ -215,15 +214,9 @@ pub record AccessesByCase (old : StoreState) (k : Key) (new : StoreState) : Type
       → HasNoHole old.book Parity → free_groups old.book < 2 → IsFullMirrored old.book from → IsLowestFree old.book to
       → WasBroken old new ⊎ SqueezesThenWrites from to old new
 
--- the first n slots of a mirrored group are copied to a parity group, one after another
-abbrev pub copies_plan : Geometry → Members → Members → ℕ → AccessPlan
-copies_plan g from to zero = Stop
-copies_plan g from to (suc n) = both_of (copies_plan g from to n) (copy_plan g from to n)
-
--- the squeeze of a mirrored group to a free one, and then the write of the first slot that it leaves
-abbrev pub squeeze_plan : Geometry → Members → Members → ℕ → AccessPlan
-squeeze_plan g from to slots =
-    both_of (fill_plan g to) (both_of (copies_plan g from to slots) (slot_write Parity g to slots))
+-- a squeeze, and then the write of the first slot that it leaves
+abbrev pub squeezing_plan : Geometry → Members → Members → ℕ → AccessPlan
+squeezing_plan g from to slots = both_of (squeeze_plan g from to) (slot_write Parity g to slots)
 
 -- the write of a slot of a store in the layout of a class
 abbrev pub write_as : Class → StoreState → Slot → AccessPlan
@@ -244,7 +237,7 @@ pub data IsPutPlan : StoreState → Key → AccessPlan → Type 0 where
       → free_groups s.book < 2 → IsLowestHole s.book Parity slot → IsPutPlan s k (write_as Parity s slot)
   by_squeeze : (s : StoreState) (k : Key) (from to : ℕ) → level s.book k ≡ Unplaced → HasNoHole s.book Mirrored
       → HasNoHole s.book Parity → free_groups s.book < 2 → IsFullMirrored s.book from → IsLowestFree s.book to
-      → IsPutPlan s k (squeeze_plan s.disks.geometry (members_of s from) (members_of s to)
+      → IsPutPlan s k (squeezing_plan s.disks.geometry (members_of s from) (members_of s to)
       (slots_of s.book.geometry Mirrored))
 
 -- one of the cases applied, and its plan was carried out, so that nothing else was accessed
@@ -259,7 +252,7 @@ pub record CarriesOutPut (old : StoreState) (k : Key) (new : StoreState) : Type 
   pub cases : AccessesByCase old k new
   pub one : WasBroken old new ⊎ CarriesOutPlan old k new
 
--- a squeeze was carried out in its steps
+-- a squeeze was carried out
 abbrev pub CarriesOutSqueeze : StoreState → StoreState → Type 0
 CarriesOutSqueeze old new = (from to : ℕ) → IsFullMirrored old.book from → IsLowestFree old.book to
     → Squeezes from to old new

@@ -1,5 +1,5 @@
 -- What the slots of groups hold, and which block a key reads as.
-use Rattle.std.specs.Prelude.{◌≡◌, ◌≢◌, ℕ, ◌<◌, List, length, Option, None, Some}
+use Rattle.std.specs.Prelude.{◌≡◌, ◌≢◌, ℕ, ◌+◌, ◌*◌, ◌<◌, ◌≤◌, List, length, Option, None, Some}
 use Rattle.ar_disks.specs.Block.{zeros}
 use Rattle.ar_disks.specs.Disk.{DiskState}
 use Rattle.ar_disks.specs.Geometry.{block_len_of}
@@ -92,3 +92,31 @@ pub record BesideHold (old new : StoreState) (written : Slot) : Type 0 where
 -- with disk d lost, whatever it holds, every block keeps its contents
 pub record SurvivesLossOf (s : StoreState) (d : ℕ) : Type 0 where
   pub blocks : (disk : DiskState) (k : Key) → stands (store_of (without_disk s.disks d disk) s.book) k ≡ stands s k
+
+-- The block for a slot of a parity group to which the blocks of a mirrored group are copied: that of the mirrored slot
+-- with the same number, and the zero block behind the last one.
+pub record IsSource (from : Members) (i : ℕ) (s : SetState) (block : List ℕ) : Type 0 where
+  pub held : i < slots_of s.geometry Mirrored → MirrorHolds s from i block
+  pub zero : slots_of s.geometry Mirrored ≤ i → block ≡ zeros (block_len_of s.geometry)
+
+-- the three blocks of a stripe were read
+pub record AreSources (from : Members) (row : ℕ) (s : SetState) (a b c : List ℕ) : Type 0 where
+  pub first : (block : List ℕ) → IsSource from (3 * row) s block → a ≡ block
+  pub second : (block : List ℕ) → IsSource from (3 * row + 1) s block → b ≡ block
+  pub third : (block : List ℕ) → IsSource from (3 * row + 2) s block → c ≡ block
+
+-- a slot of a parity group holds now the block that was there for it
+pub record HoldsSource (from to : Members) (old new : SetState) (i : ℕ) : Type 0 where
+  pub holds : (block : List ℕ) → IsSource from i old block → ParityHolds new to i block
+
+-- A slot of a parity group holds the block for it: the one that the mirrored slot with the same number holds, or the
+-- zero block behind the last one.
+pub record HoldsCopy (from to : Members) (s : SetState) (i : ℕ) : Type 0 where
+  pub block : List ℕ
+  pub len : length block ≡ block_len_of s.geometry
+  pub source : IsSource from i s block
+  pub copy : ParityHolds s to i block
+
+-- each slot does
+abbrev pub HoldsCopies : Members → Members → SetState → Type 0
+HoldsCopies from to s = (i : ℕ) → i < slots_of s.geometry Parity → HoldsCopy from to s i

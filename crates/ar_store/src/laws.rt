@@ -1,5 +1,6 @@
 // Laws of the store's calls: what they access where no disk faults.
-ghost use Rattle.std.specs.Prelude.{◌≡◌, ◌≢◌, ℕ, [], ◌∷◌, ◌++◌, None, Some};
+ghost use Rattle.std.specs.Prelude.{◌≡◌, ◌≢◌, ℕ, ◌*◌, [], ◌∷◌, ◌++◌, None, Some};
+ghost use Rattle.ar_disks.specs.declared.geometry.Geometry.{Geometry};
 ghost use Rattle.ar_disks.specs.Geometry.{rows_of};
 ghost use Rattle.ar_disks.specs.declared.address.Key.{Key};
 ghost use Rattle.ar_disks.specs.declared.address.Members.{Members};
@@ -14,7 +15,7 @@ ghost use Rattle.ar_book.specs.Tables.{home, slots_of};
 ghost use Rattle.ar_store.specs.Store.{StoreState, class_in};
 ghost use Rattle.ar_store.specs.Plans.{get_plan, move_plan, slot_write, write_as, IsPutPlan, Squeezes};
 ghost use Rattle.ar_store.specs.Plans.{ReadsUsable, WritesUsable, ReadsUsableOf, WritesUsableAs};
-ghost use Rattle.ar_store.specs.Plans.{MakesAccesses, fill_kinds, copies_kinds};
+ghost use Rattle.ar_store.specs.Plans.{MakesAccesses, copies_kinds, reads_in, writes_in};
 ghost use Rattle.ar_store.specs.Plans.{CarriesOutPut, GoesToMirrored, GoesToParity, NeedsNoSqueeze};
 ghost use Rattle.ar_store.specs.Plans.{slot_read, LacksOnly, LacksOneOf};
 ghost use Rattle.ar_parity.specs.Row.{row_of, data_position, parity_position};
@@ -22,8 +23,7 @@ ghost use Rattle.ar_parity.specs.Row.{row_of, data_position, parity_position};
 /// Where no disk faults, and the extents in use are usable, whichever disk is missing: a get of a block without a home
 /// accesses nothing, of another one it is one read; the write of a mirrored slot is two writes, of one with parity
 /// two reads and then two writes; a move is one read, and then the accesses of a write of the new slot. With all disks
-/// present every extent is usable, and a squeeze is four writes for each row of an extent, and then a move of each slot
-/// of the mirrored group. A call has no effect.
+/// present every extent is usable. A call has no effect.
 pub fn store_accesses()
     ensures unplaced { (old : StoreState) (new : SetState) (k : Key) → home old.book k ≡ None
         → CarriesOut (get_plan old k) old.disks new → new ≡ old.disks }
@@ -53,10 +53,17 @@ pub fn store_accesses()
         → ReadsUsable class old m i }
     ensures healthy_writes { (class : Class) (old : SetState) (m : Members) (i : ℕ) → old.health ≡ Whole
         → WritesUsable class old m i }
-    ensures squeeze { (old new : StoreState) (from to : ℕ) → old.disks.health ≡ Whole
+{}
+
+/// A squeeze where no disk faults and all are present: stripe by stripe the reads of its blocks, and four writes. In
+/// all they are a read for each slot of the mirrored group, and four writes for each row of an extent. A call has no
+/// effect.
+pub fn squeeze_accesses()
+    ensures made { (old new : StoreState) (from to : ℕ) → old.disks.health ≡ Whole
         → NoneFaults old.disks new.disks → Squeezes from to old new
-        → MakesAccesses (fill_kinds (rows_of old.disks.geometry)
-        ++ copies_kinds (slots_of old.book.geometry Mirrored)) old.disks new.disks }
+        → MakesAccesses (copies_kinds old.disks.geometry (rows_of old.disks.geometry)) old.disks new.disks }
+    ensures reads { (g : Geometry) → reads_in (copies_kinds g (rows_of g)) ≡ slots_of g Mirrored }
+    ensures writes { (g : Geometry) → writes_in (copies_kinds g (rows_of g)) ≡ 4 * rows_of g }
 {}
 
 /// A put has one plan, that of the first case that applies; until the array has failed, it carries out this one. A call
@@ -80,7 +87,7 @@ pub fn put_accesses()
         → MakesAccesses (Read ∷ Read ∷ Write ∷ Write ∷ []) old.disks new.disks }
     ensures squeeze { (old new : StoreState) (k : Key) → old.disks.health ≡ Whole → NoneFaults old.disks new.disks
         → CarriesOutPut old k new → GoesToParity old.book k → (NeedsNoSqueeze old.book k → ⊥)
-        → MakesAccesses (fill_kinds (rows_of old.disks.geometry) ++ copies_kinds (slots_of old.book.geometry Mirrored)
+        → MakesAccesses (copies_kinds old.disks.geometry (rows_of old.disks.geometry)
         ++ Read ∷ Read ∷ Write ∷ Write ∷ []) old.disks new.disks }
 
     ensures mirrored_slot { (old new : StoreState) (k : Key) (slot : Slot) → WritesUsableAs Mirrored old slot

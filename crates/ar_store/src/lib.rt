@@ -16,11 +16,14 @@ mod space;
 mod squeeze;
 mod start;
 mod store;
+mod stripes;
 mod units;
 mod way;
 
 pub use form::{FourDisks, four_fullest};
-pub use laws::{a_put_has_one_plan, degraded_accesses, put_accesses, store_accesses};
+pub use laws::{
+    a_put_has_one_plan, degraded_accesses, put_accesses, squeeze_accesses, store_accesses,
+};
 pub use open::Opening;
 pub use space::Space;
 pub use store::Store;

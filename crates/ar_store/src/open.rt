@@ -20,15 +20,13 @@ pub enum Opening {
 impl<D: Disk> Space<D> {
     ghost use Rattle.std.specs.Prelude.{◌≡◌, ◌≢◌, ◌↔◌, ℕ, ◌<◌, ◌≤◌};
     ghost use Rattle.ar_extents.specs.declared.health.Health.TheVariants.{Broken};
-    ghost use Rattle.ar_extents.specs.Groups.{outcome_of};
     ghost use Rattle.ar_book.specs.declared.class.Class.TheVariants.{Free, Parity};
     ghost use Rattle.ar_book.specs.Tables.{free_groups};
-    ghost use Rattle.ar_book.specs.Changes.{opened};
     ghost use Rattle.ar_book.specs.Choices.{IsLowestFree};
     ghost use Rattle.ar_store.specs.Slots.{AllStand};
     ghost use Rattle.ar_extents.specs.Plans.{CarriesOut};
     ghost use Rattle.ar_store.specs.Store.{members_of};
-    ghost use Rattle.ar_store.specs.Plans.{open_plan, fill_plan};
+    ghost use Rattle.ar_store.specs.Plans.{open_plan};
     ghost use Rattle.ar_store.specs.Calls.{Opens, IfOpened, HoldsZeros};
     ghost use Rattle.ar_store.specs.Spaces.{store_in, IsReady, Stays};
 
@@ -64,25 +62,5 @@ impl<D: Disk> Space<D> {
                 }
             }
         }
-    }
-
-    /// Opens the only free group as a parity group, and fills it with zeros. Returns its number, and how the fill
-    /// ended. Each of its slots then holds the zero block, unless the array failed.
-    pub(crate) fn open_last(&mut self) -> (u32, Completion)
-        requires ready { IsReady self.old }
-        requires free { free_groups self.old.book ≡ 1 }
-        ensures outcome { result.1 ≡ outcome_of self.new.disks.health }
-        ensures lowest { IsLowestFree self.old.book result.0 }
-        ensures opened { self.new.book ≡ opened self.old.book result.0 Parity }
-        ensures zeros { HoldsZeros (store_in self.new) result.0 }
-        ensures stand { AllStand (store_in self.old) (store_in self.new) }
-        ensures plan { CarriesOut (fill_plan self.old.disks.geometry (members_of (store_in self.old) result.0))
-            self.old.disks self.new.disks }
-        ensures stays { Stays self.old self.new }
-    {
-        let group = self.book.open_last(Class::Parity);
-        let members = self.book.members(group);
-        let filled = ar_parity::open_zero(&mut self.disks, &members, &mut self.scratch);
-        (group, filled)
     }
 }

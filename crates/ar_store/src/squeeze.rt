@@ -1,45 +1,49 @@
 // A squeeze demotes a whole mirrored group to a parity group, which has half as many slots again:
 //
 // mirrored `from`, 2 n slots: [ 0 | 1 | .. | 2n-1 ]                                      then free
-//                               |   |         |      copied in slot order
+//                               |   |         |      copied stripe by stripe
 // parity `to`, 3 n slots:     [ 0 | 1 | .. | 2n-1 | 2n | .. | 3n-1 ]    2n.. are holes, which hold the zero block
+//
+// All stripes are written before the tables change, so a failure of the array leaves each home where it was.
 
 use crate::space::Space;
-use ar_book::Slot;
-use ar_disks::{Block, Completion, Disk};
+use crate::stripes::copy_group;
+use ar_book::{Class, Slot};
+use ar_disks::{Block, Completion, Disk, Key};
 use ar_index::Steps;
 
 impl<D: Disk> Space<D> {
-    ghost use Rattle.std.specs.Prelude.{◌≡◌, ◌≢◌, ◌<◌, length, None, IfSome, IfNone};
+    ghost use Rattle.std.specs.Prelude.{◌≡◌, ◌≢◌, ℕ, length, None, IfSome, IfNone};
+    ghost use Rattle.ar_disks.specs.Endings.{OnDone};
     ghost use Rattle.ar_disks.specs.Geometry.{block_len_of};
     ghost use Rattle.ar_disks.specs.declared.address.Key.{Key};
     ghost use Rattle.ar_extents.specs.declared.health.Health.TheVariants.{Broken};
     ghost use Rattle.ar_extents.specs.Groups.{outcome_of};
+    ghost use Rattle.ar_extents.specs.Plans.{CarriesOut};
     ghost use Rattle.ar_book.specs.declared.class.Class.TheVariants.{Free, Mirrored, Parity};
-    ghost use Rattle.ar_book.specs.Tables.{home, class_of, slots_of, free_groups};
-    ghost use Rattle.ar_book.specs.Choices.{HasUnplacedBlock};
-    ghost use Rattle.ar_store.specs.Slots.{AllStand};
-    ghost use Rattle.ar_store.specs.Calls.{HoldsZeros, HoldsZerosFrom, IsZerosFrom};
-    ghost use Rattle.ar_store.specs.Plans.{CarriesOutSqueeze, MovesInTurn};
-    ghost use Rattle.ar_store.specs.Placing.{slot_at, moved_first, IsVacant, IsSqueezed, HasNoHole, CanMove};
-    ghost use Rattle.ar_store.specs.Placing.{HasBegunSqueeze};
+    ghost use Rattle.ar_book.specs.Tables.{home, class_of, slots_of, free_groups, HasBlock};
+    ghost use Rattle.ar_book.specs.Changes.{assigned};
+    ghost use Rattle.ar_book.specs.Choices.{HasUnplacedBlock, IsFullMirrored, IsLowestFree};
+    ghost use Rattle.ar_store.specs.Store.{members_of};
+    ghost use Rattle.ar_store.specs.Slots.{AllStand, HoldsCopies, SlotHolds, stands};
+    ghost use Rattle.ar_store.specs.Calls.{LeavesHole, BreaksSqueeze};
+    ghost use Rattle.ar_store.specs.Plans.{squeeze_plan, CarriesOutSqueeze};
+    ghost use Rattle.ar_store.specs.Placing.{slot_at, moved_first, IsVacant, HasNoHole, CanMove};
     ghost use Rattle.ar_store.specs.Spaces.{store_in, IsReady, Stays};
 
-    /// Opens the only free group for parity, moves all blocks of the lowest full mirrored group there, and returns the
-    /// first hole behind them. None if the array failed.
+    /// Copies all blocks of the lowest full mirrored group to the only free group, which becomes a parity group and
+    /// their home, and returns the first hole behind them. None if the array failed; the tables are unchanged then.
     pub(crate) fn squeeze(&mut self, block: &mut Block) -> Option<Slot>
         requires ready { IsReady self.old }
         requires waiting { HasUnplacedBlock self.old.book }
         requires mirrored { HasNoHole self.old.book Mirrored }
         requires parity { HasNoHole self.old.book Parity }
         requires free { free_groups self.old.book ≡ 1 }
+        requires sound { self.old.disks.health ≢ Broken }
         requires whole { length block.old ≡ block_len_of self.old.disks.geometry }
 
-        ensures squeezed { IfSome result (IsSqueezed self.old.book self.new.book) }
-        ensures free { IfSome result (λ _. 0 < free_groups self.new.book) }
-        ensures zeros { IfSome result (IsZerosFrom (store_in self.new)) }
-        ensures none { IfNone result (self.new.disks.health ≡ Broken) }
-        ensures begun { HasBegunSqueeze self.old.book self.new.book }
+        ensures hole { IfSome result (LeavesHole (store_in self.old) (store_in self.new)) }
+        ensures none { IfNone result (BreaksSqueeze (store_in self.old) (store_in self.new)) }
 
         ensures unplaced { (k : Key) → home self.old.book k ≡ None → home self.new.book k ≡ None }
         ensures stand { AllStand (store_in self.old) (store_in self.new) }
@@ -48,55 +52,105 @@ impl<D: Disk> Space<D> {
         ensures len { length block.new ≡ length block.old }
     {
         let from = self.book.full_mirrored(&mut Steps::new());
-        let (to, filled) = self.open_last();
-        if let Completion::Broken = filled {
-            return None;
-        }
-        match self.move_all(from, to, block) {
+        let to = self.book.lowest_free();
+        match self.copy_blocks(from, to, block) {
             Completion::Done => {
+                let hole = self.move_homes(from);
                 self.squeezes = self.squeezes.saturating_add(1);
-                Some(Slot {
-                    group: to,
-                    slot: 2 * self.disks.geometry().rows(),
-                })
+                Some(hole)
             }
             Completion::Broken => None,
         }
     }
 
-    // Moves all blocks of a full mirrored group, in slot order, to the slots with the same numbers of a parity group.
-    fn move_all(&mut self, from: u32, to: u32, block: &mut Block) -> Completion
+    // Copies the blocks of a full mirrored group to the extents of a free one. The tables are unchanged.
+    fn copy_blocks(&mut self, from: u32, to: u32, block: &mut Block) -> Completion
         requires ready { IsReady self.old }
-        requires can { CanMove self.old.book from to }
+        requires full { IsFullMirrored self.old.book from }
+        requires free { IsLowestFree self.old.book to }
         requires sound { self.old.disks.health ≢ Broken }
         requires whole { length block.old ≡ block_len_of self.old.disks.geometry }
 
         ensures outcome { result ≡ outcome_of self.new.disks.health }
-        ensures moved { result ≡ Completion.Done → self.new.book
-            ≡ moved_first self.old.book from to (slots_of self.old.book.geometry Mirrored) }
-        ensures emptied { result ≡ Completion.Done → class_of self.new.book from ≡ Free }
-        ensures opened { result ≡ Completion.Done → class_of self.new.book to ≡ Parity }
-        ensures zeros { result ≡ Completion.Done → HoldsZeros (store_in self.old) to
-            → HoldsZerosFrom (store_in self.new) to (slots_of self.old.book.geometry Mirrored) }
-        ensures hole { result ≡ Completion.Done
-            → IsVacant self.new.book (slot_at to (slots_of self.old.book.geometry Mirrored)) }
-
-        ensures unplaced { (k : Key) → home self.old.book k ≡ None → home self.new.book k ≡ None }
+        ensures copies { OnDone result (HoldsCopies (members_of (store_in self.old) from)
+            (members_of (store_in self.old) to) self.new.disks) }
+        ensures book { self.new.book ≡ self.old.book }
+        ensures plan { CarriesOut (squeeze_plan self.old.disks.geometry (members_of (store_in self.old) from)
+            (members_of (store_in self.old) to)) self.old.disks self.new.disks }
         ensures stand { AllStand (store_in self.old) (store_in self.new) }
-        ensures turns { MovesInTurn from to (store_in self.old) (store_in self.new) }
         ensures stays { Stays self.old self.new }
         ensures len { length block.new ≡ length block.old }
     {
+        let source = self.book.members(from);
+        let target = self.book.members(to);
+        copy_group(&mut self.disks, &source, &target, &mut self.scratch, block)
+    }
+
+    // Opens the only free group, which stores copies of all blocks of a full mirrored group, for parity, and makes its
+    // slots their homes. Returns the first hole behind them. No disk is accessed.
+    fn move_homes(&mut self, from: u32) -> Slot
+        requires ready { IsReady self.old }
+        requires full { IsFullMirrored self.old.book from }
+        requires free { free_groups self.old.book ≡ 1 }
+        requires sound { self.old.disks.health ≢ Broken }
+        requires copies { (to : ℕ) → IsLowestFree self.old.book to → HoldsCopies (members_of (store_in self.old) from)
+            (members_of (store_in self.old) to) self.old.disks }
+
+        ensures hole { LeavesHole (store_in self.old) (store_in self.new) result }
+        ensures disks { self.new.disks ≡ self.old.disks }
+        ensures unplaced { (k : Key) → home self.old.book k ≡ None → home self.new.book k ≡ None }
+        ensures stand { AllStand (store_in self.old) (store_in self.new) }
+        ensures stays { Stays self.old self.new }
+    {
+        let to = self.book.open_last(Class::Parity);
+        self.move_all(from, to);
+        Slot {
+            group: to,
+            slot: 2 * self.disks.geometry().rows(),
+        }
+    }
+
+    // Makes the slots of an empty parity group the homes of all blocks of a full mirrored group, of which they hold
+    // copies, in slot order.
+    fn move_all(&mut self, from: u32, to: u32)
+        requires ready { IsReady self.old }
+        requires can { CanMove self.old.book from to }
+        requires sound { self.old.disks.health ≢ Broken }
+        requires copies { HoldsCopies (members_of (store_in self.old) from) (members_of (store_in self.old) to)
+            self.old.disks }
+
+        ensures moved { self.new.book
+            ≡ moved_first self.old.book from to (slots_of self.old.book.geometry Mirrored) }
+        ensures emptied { class_of self.new.book from ≡ Free }
+        ensures opened { class_of self.new.book to ≡ Parity }
+        ensures hole { IsVacant self.new.book (slot_at to (slots_of self.old.book.geometry Mirrored)) }
+
+        ensures disks { self.new.disks ≡ self.old.disks }
+        ensures unplaced { (k : Key) → home self.old.book k ≡ None → home self.new.book k ≡ None }
+        ensures stand { AllStand (store_in self.old) (store_in self.new) }
+        ensures stays { Stays self.old self.new }
+    {
         for slot in 0..2 * self.disks.geometry().rows() {
-            let home = Slot { group: from, slot };
-            let Some(key) = self.book.key_at(home) else {
+            let Some(key) = self.book.key_at(Slot { group: from, slot }) else {
                 unreachable!()
             };
-            match self.move_block(key, home, Slot { group: to, slot }, block) {
-                Completion::Done => {}
-                Completion::Broken => return Completion::Broken,
-            }
+            self.rehome(key, Slot { group: to, slot });
         }
-        Completion::Done
+    }
+
+    // Makes an empty slot, which holds the block that a key reads as, the key's home.
+    fn rehome(&mut self, key: Key, to: Slot)
+        requires ready { IsReady self.old }
+        requires block { HasBlock self.old.book key }
+        requires hole { IsVacant self.old.book to }
+        requires sound { self.old.disks.health ≢ Broken }
+        requires copy { SlotHolds (store_in self.old) to (stands (store_in self.old) key) }
+
+        ensures moved { self.new.book ≡ assigned self.old.book key to }
+        ensures disks { self.new.disks ≡ self.old.disks }
+        ensures stand { AllStand (store_in self.old) (store_in self.new) }
+        ensures stays { Stays self.old self.new }
+    {
+        self.book.assign(key, to, &mut Steps::new());
     }
 }

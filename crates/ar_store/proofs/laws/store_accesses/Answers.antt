@@ -1,6 +1,5 @@
 use Rattle.ar_store.proofs.Costs.{unplaced_made, get_made, mirrored_made, parity_made, moved_to_mirrored}
 use Rattle.ar_store.proofs.Costs.{moved_to_parity, whole_reads, whole_writes}
-use Rattle.ar_store.proofs.SqueezeCosts.{squeeze_made}
 use Rattle.ar_store.proofs.laws.store_accesses.Goals as goal
 
 pub returns-clause-unplaced : goal.returns-clause-unplaced
@@ -26,6 +25,3 @@ returns-clause-healthy_reads c = whole_reads
 
 pub returns-clause-healthy_writes : goal.returns-clause-healthy_writes
 returns-clause-healthy_writes c = whole_writes
-
-pub returns-clause-squeeze : goal.returns-clause-squeeze
-returns-clause-squeeze c = squeeze_made

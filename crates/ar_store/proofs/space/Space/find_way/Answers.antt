@@ -4,7 +4,7 @@ use Rattle.ar_book.specs.Tables.{Tables, home, free_groups}
 use Rattle.ar_store.specs.Store.{store_of}
 use Rattle.ar_store.specs.Slots.{AllStand}
 use Rattle.ar_store.specs.Kept.{IsSpace}
-use Rattle.ar_store.specs.Placing.{SameUnits, HasNoHole, HasBegunSqueeze}
+use Rattle.ar_store.specs.Placing.{SameUnits, HasNoHole, HasSqueezed}
 use Rattle.ar_store.specs.Plans.{CarriesOutSqueeze}
 use Rattle.ar_store.specs.Spaces.{store_in}
 use Rattle.ar_store.proofs.Fills.{accessed_refl}
@@ -60,6 +60,7 @@ squeeze-requires g c =
       mirrored = subst (λ (x : Tables). HasNoHole x Mirrored) (sym same) none.mirrored.none;
       parity = none.parity;
       free = ap (λ (x : Tables). free_groups x) same ∙ omega arith;
+      sound = c.requires.sound;
       whole = c.requires.whole;
     }
 
@@ -75,13 +76,13 @@ returns-in-Some-squeeze g c =
     let still = squeezed.unplaced c.args.key (ap (λ (x : Tables). home x c.args.key) same ∙ none.unplaced) in
     record {
       leads = leads_squeezed t u new.book c.args.key c.in-Some-squeeze.slot none.unplaced still none.mirrored
-          none.parity squeezed.squeezed;
-      way = squeezed.squeezed.empty;
+          none.parity squeezed.hole.squeezed;
+      way = squeezed.hole.squeezed.empty;
       prepared = inr
-          (inr (no_way t u c.args.key none, subst (λ (x : Tables). HasBegunSqueeze x new.book) same squeezed.begun));
-      zeros = λ _. squeezed.zeros;
+          (inr (no_way t u c.args.key none, subst (λ (x : Tables). HasSqueezed x new.book) same squeezed.hole.made));
+      zeros = λ _. squeezed.hole.zeros;
       home = still ∙ sym none.unplaced;
-      free = λ _. squeezed.free;
+      free = λ _. squeezed.hole.free;
       stand = subst (λ (x : Tables). AllStand (store_of s.disks x) (store_in new)) same squeezed.stand;
       search = inr (
         no_way t u c.args.key none,
@@ -108,12 +109,11 @@ returns-in-None-squeeze g c =
     let still = squeezed.unplaced c.args.key (ap (λ (x : Tables). home x c.args.key) same ∙ none.unplaced) in
     record {
       leads = tt;
-      way = squeezed.none;
-      prepared = inr
-          (inr (no_way t u c.args.key none, subst (λ (x : Tables). HasBegunSqueeze x new.book) same squeezed.begun));
+      way = squeezed.none.broken;
+      prepared = inl (squeezed.none.unmoved ∙ same);
       zeros = tt;
       home = still ∙ sym none.unplaced;
-      free = λ sound. absurd (sound squeezed.none);
+      free = λ sound. absurd (sound squeezed.none.broken);
       stand = subst (λ (x : Tables). AllStand (store_of s.disks x) (store_in new)) same squeezed.stand;
       search = inr (
         no_way t u c.args.key none,
