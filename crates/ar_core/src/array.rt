@@ -26,6 +26,8 @@ pub struct Array<D: Disk> {
     pub(crate) spare: Vec<u8>,
     // What the data of short READs are cut from, one after another. No contract sees it.
     pub(crate) room: BytesMut,
+    // The memory of the last long READ, for the next one of as many bytes. No contract sees it.
+    pub(crate) kept: BytesMut,
 }
 
 impl<D: Disk> Model for Array<D> {
@@ -65,6 +67,7 @@ impl<D: Disk> Array<D> {
             block,
             spare: Vec::new(alloc),
             room: BytesMut::new(alloc),
+            kept: BytesMut::new(alloc),
         })
     }
 }

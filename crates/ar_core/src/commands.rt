@@ -1,7 +1,7 @@
 // Commands to units. The checks come in this order: presence, UNIT ATTENTION, CDB, range, data length, health; a disk
 // is accessed only after all of them. BUSY replaces only a reply with bytes.
 ghost use Rattle.std.specs.Prelude.{◌≡◌, ◌≢◌, ◌⊎◌, ℕ, ◌+◌, ◌-◌, ◌*◌, ◌/◌, ◌≤◌, ◌<◌, ◌==◌, not, false, true, IfOk, OnOk};
-ghost use Rattle.std.specs.Prelude.{IsTrue, Ok, nat_lt, if◌then◌else◌, length, []};
+ghost use Rattle.std.specs.Prelude.{IfSome, IfNone, IsTrue, Ok, nat_lt, if◌then◌else◌, length, []};
 ghost use Rattle.ar_disks.specs.declared.address.Key.{Key};
 ghost use Rattle.ar_disks.specs.Geometry.{block_len_of, sectors_of};
 ghost use Rattle.ar_scsi.specs.declared.reply.Status.TheVariants.{Good, CheckCondition, Busy};
@@ -37,6 +37,9 @@ const SHORT: usize = 4_096;
 
 // The memory that `room` takes at a time, in bytes. Whoever keeps the data of one short READ keeps all of it.
 const ROOM: usize = 16_384;
+
+// The most bytes of a READ whose memory the array keeps for the next one of as many.
+const KEPT: usize = 1_048_576;
 
 impl<D: Disk> Array<D> {
     // Executes a command to the unit at `addr`, present or not.
@@ -185,6 +188,7 @@ impl<D: Disk> Array<D> {
             &mut self.block,
             &mut self.spare,
             &mut self.room,
+            &mut self.kept,
         )
     }
 
@@ -326,6 +330,7 @@ fn fetch_sectors<B: Backing>(
     block: &mut Block,
     spare: &mut Vec<u8>,
     room: &mut BytesMut,
+    kept: &mut BytesMut,
 ) -> Reply
     requires sound { B.is_broken blocks.old ≡ false }
     requires shape { geometry ≡ B.geometry blocks.old }
@@ -352,55 +357,14 @@ fn fetch_sectors<B: Backing>(
     ensures len { length block.new ≡ length block.old }
 {
     let len = count as usize * 512;
-    if len <= SHORT && spare.len() != len {
-        return fetch_short(blocks, geometry, addr, lba, count, block, room);
-    }
-    let Ok(mut out) = memory_for(alloc, len, spare) else {
+    let Ok(mut own) = find_memory(alloc, len, spare, room, kept) else {
         return Reply::busy();
     };
-    let read = read_sectors(blocks, geometry, addr, lba, count, block, &mut out);
-    reply_to_read(read, out)
-}
-
-// The same for a READ of at most `SHORT` bytes, which are cut from `room`. When too little of its memory is left, all
-// of it is used again if no reply holds a part of it, and else dropped for other memory: memory of their own for each,
-// zeroed, took a sixth of the time of such READs.
-fn fetch_short<B: Backing>(
-    blocks: &mut B,
-    geometry: Geometry,
-    addr: Addr,
-    lba: u32,
-    count: u32,
-    block: &mut Block,
-    room: &mut BytesMut,
-) -> Reply
-    requires sound { B.is_broken blocks.old ≡ false }
-    requires shape { geometry ≡ B.geometry blocks.old }
-    requires whole { length block.old ≡ block_len_of geometry }
-    requires known { (rb : ℕ) → rb * sectors_of geometry < lba + count → IsTrue (B.knows blocks.old (key_of addr rb)) }
-    requires small { lba + count ≤ 1048576 }
-    requires some { 0 < count }
-    requires few { count ≤ 8 }
-    ensures begun { ReadsFirst B.gets geometry addr lba count blocks.old blocks.new }
-    ensures got { result.status ≡ Good → InTurn B.gets (keys_in geometry addr lba count) blocks.old blocks.new }
-    ensures busy_read { result.status ≡ Busy
-        → (blocks.new ≡ blocks.old) ⊎ InTurn B.gets (keys_in geometry addr lba count) blocks.old blocks.new }
-    ensures stopped { result.status ≡ CheckCondition
-        → FailsReading B.gets B.is_broken geometry addr lba count blocks.old blocks.new }
-    ensures done { result.status ≡ Good
-        → result ≡ good (concat (sectors_in geometry (unit_block (B.block_at blocks.old) addr) lba count)) }
-    ensures busy { result.status ≡ Busy → result ≡ busy }
-    ensures failed { result.status ≡ CheckCondition → result ≡ check internal_target_failure }
-    ensures broken { result.status ≡ CheckCondition → IsTrue (B.is_broken blocks.new) }
-    ensures sound { result.status ≢ CheckCondition → B.is_broken blocks.new ≡ false }
-    ensures blocks { result.status ≢ CheckCondition → SameBlocks (B.block_at blocks.old) (B.block_at blocks.new) }
-    ensures keeps { KeepsBacking B.geometry B.knows B.is_broken B.follows blocks.old blocks.new }
-    ensures few { length result.payload ≤ 65535 * 512 }
-    ensures len { length block.new ≡ length block.old }
-{
-    if take_room(room, count as usize * 512).is_err() {
-        return Reply::busy();
-    }
+    let memory = match &mut own {
+        Some(memory) => memory,
+        None if len <= SHORT => &mut *room,
+        None => &mut *kept,
+    };
     let read = read_sectors(
         blocks,
         geometry,
@@ -408,70 +372,62 @@ fn fetch_short<B: Backing>(
         lba,
         count,
         block,
-        room.as_mut_slice(),
+        memory.as_mut_slice(),
     );
-    reply_from(read, room)
+    reply_to_read(read, memory)
 }
 
-// Makes `room` `len` bytes long. What it held is of no more use.
-fn take_room(room: &mut BytesMut, len: usize) -> Result<(), AllocError>
-    requires { len ≤ 4096 }
+// Memory of `len` bytes for the data of a READ: what was lent, if it has this length, or what is allocated for more than
+// `KEPT` bytes. None says that they are in `room`, if at most `SHORT`, and else in `kept`.
+fn find_memory(
+    alloc: Global,
+    len: usize,
+    spare: &mut Vec<u8>,
+    room: &mut BytesMut,
+    kept: &mut BytesMut,
+) -> Result<Option<BytesMut>, AllocError>
+    ensures own { IfOk result (λ made. IfSome made (λ memory. length memory.items ≡ len)) }
+    ensures short { IfOk result (λ made. IfNone made (len ≤ 4096 → length room.new.items ≡ len)) }
+    ensures long { IfOk result (λ made. IfNone made (4096 < len → length kept.new.items ≡ len)) }
+{
+    if spare.len() == len {
+        let lent = std::mem::replace(spare, Vec::new(alloc));
+        return Ok(Some(BytesMut::from_vec(lent)));
+    }
+    if len > KEPT {
+        return Ok(Some(BytesMut::from_vec(vec![in alloc; 0; len]?)));
+    }
+    if len <= SHORT {
+        take_room(alloc, room, len, ROOM)?;
+    } else {
+        take_room(alloc, kept, len, len)?;
+    }
+    Ok(None)
+}
+
+// Makes `room` `len` bytes long. What it held is of no more use. When too little of its memory is left, all of it is
+// used again if it has `size` bytes and no reply holds a part of it, and else dropped for `size` bytes of other memory:
+// memory of its own for each READ, zeroed, took a sixth of the time of a short one and a fifth of one of 64 KiB.
+fn take_room(alloc: Global, room: &mut BytesMut, len: usize, size: usize) -> Result<(), AllocError>
+    requires { len ≤ size }
     ensures { OnOk result (length room.new.items ≡ len) }
 {
     room.clear();
-    if room.capacity() < len {
-        room.reserve(ROOM)?;
+    if room.capacity() >= len || room.try_reclaim(size) && room.capacity() == size {
+        room.advance_mut(len);
+    } else {
+        *room = BytesMut::from_vec(vec![in alloc; 0; size]?);
+        room.truncate(len);
     }
-    room.advance_mut(len);
     Ok(())
 }
 
-// The reply to a READ whose transfer ended so, with the bytes of `room`.
-fn reply_from(read: Completion, room: &mut BytesMut) -> Reply
-    requires some { read ≡ Completion.Done → room.old.items ≢ [] }
-    requires few { read ≡ Completion.Done → length room.old.items ≤ 65535 * 512 }
-    ensures few { length result.payload ≤ 65535 * 512 }
-    ensures done { read ≡ Completion.Done → IsGiven (good room.old.items) result }
-    ensures broken { read ≡ Completion.Broken → result ≡ check internal_target_failure }
-    ensures whole { result.status ≡ Good → read ≡ Completion.Done }
-    ensures lost { result.status ≡ CheckCondition → read ≡ Completion.Broken }
-    ensures failed { result.status ≡ CheckCondition → result ≡ check internal_target_failure }
-{
-    match read {
-        Completion::Done => good_from(room),
-        Completion::Broken => Reply::check(Sense::INTERNAL_TARGET_FAILURE),
-    }
-}
-
-// GOOD with the bytes of `room`, or BUSY when the allocation to share them fails.
-fn good_from(room: &mut BytesMut) -> Reply
-    requires some { room.old.items ≢ [] }
-    ensures given { IsGiven (good room.old.items) result }
-    ensures passed { result.status ≢ CheckCondition }
-    ensures few { length result.payload ≤ length room.old.items }
-{
-    match room.freeze_to(room.len()) {
-        Ok(payload) => Reply::good(payload),
-        Err(_) => Reply::busy(),
-    }
-}
-
-// Memory of `len` bytes: what was lent if it has this length, else a new allocation.
-fn memory_for(alloc: Global, len: usize, spare: &mut Vec<u8>) -> Result<Vec<u8>, AllocError>
-    ensures { IfOk result (λ memory. length memory.items ≡ len) }
-{
-    if spare.len() == len {
-        return Ok(std::mem::replace(spare, Vec::new(alloc)));
-    }
-    vec![in alloc; 0; len]
-}
-
 // The reply to a READ whose transfer ended so, with these bytes.
-fn reply_to_read(read: Completion, bytes: Vec<u8>) -> Reply
-    requires some { read ≡ Completion.Done → bytes.items ≢ [] }
-    requires few { read ≡ Completion.Done → length bytes.items ≤ 65535 * 512 }
+fn reply_to_read(read: Completion, bytes: &mut BytesMut) -> Reply
+    requires some { read ≡ Completion.Done → bytes.old.items ≢ [] }
+    requires few { read ≡ Completion.Done → length bytes.old.items ≤ 65535 * 512 }
     ensures few { length result.payload ≤ 65535 * 512 }
-    ensures done { read ≡ Completion.Done → IsGiven (good bytes.items) result }
+    ensures done { read ≡ Completion.Done → IsGiven (good bytes.old.items) result }
     ensures broken { read ≡ Completion.Broken → result ≡ check internal_target_failure }
     ensures whole { result.status ≡ Good → read ≡ Completion.Done }
     ensures lost { result.status ≡ CheckCondition → read ≡ Completion.Broken }
@@ -483,6 +439,19 @@ fn reply_to_read(read: Completion, bytes: Vec<u8>) -> Reply
     }
 }
 
+// GOOD with `bytes`, or BUSY when the allocation to share them fails.
+fn good_with(bytes: &mut BytesMut) -> Reply
+    requires some { bytes.old.items ≢ [] }
+    ensures given { IsGiven (good bytes.old.items) result }
+    ensures passed { result.status ≢ CheckCondition }
+    ensures few { length result.payload ≤ length bytes.old.items }
+{
+    match bytes.freeze_to(bytes.len()) {
+        Ok(payload) => Reply::good(payload),
+        Err(_) => Reply::busy(),
+    }
+}
+
 // The reply to a WRITE whose transfer had this result.
 fn reply_to_write(stored: Completion) -> Reply
     ensures done { stored ≡ Completion.Done → result ≡ good [] }
@@ -491,18 +460,5 @@ fn reply_to_write(stored: Completion) -> Reply
     match stored {
         Completion::Done => Reply::good(Bytes::new()),
         Completion::Broken => Reply::check(Sense::INTERNAL_TARGET_FAILURE),
-    }
-}
-
-// GOOD with `bytes`, or BUSY when the allocation to share them fails.
-fn good_with(bytes: Vec<u8>) -> Reply
-    requires some { bytes.items ≢ [] }
-    ensures given { IsGiven (good bytes.items) result }
-    ensures passed { result.status ≢ CheckCondition }
-    ensures few { length result.payload ≤ length bytes.items }
-{
-    match Bytes::from_vec(bytes) {
-        Ok(payload) => Reply::good(payload),
-        Err(_) => Reply::busy(),
     }
 }
