@@ -33,8 +33,9 @@ pub record StoreFollows (old new : StoreState) : Type 0 where
   pub units : SameUnits old.book new.book
   pub accessed : IsAccessed old.disks new.disks
 
--- What a put leaves on a failed array: the block keeps its old home; the tables are at most prepared for it, with a
--- group that was opened for it still open; and an array that had failed before is unchanged.
+-- What a put leaves on a failed array: the block keeps its old home; the tables are unchanged, or prepared for it by a
+-- group that was opened, which stays open, or by a whole squeeze; and an array that had failed before is unchanged. If
+-- the array failed in the squeeze, the tables are unchanged (`Squeezes`).
 pub record BreaksPut (old : StoreState) (k : Key) (new : StoreState) : Type 0 where
   pub unmoved : home new.book k ≡ home old.book k
   pub prepared : MayHavePrepared old.book k new.book
@@ -72,8 +73,7 @@ pub record HoldsZerosFrom (s : StoreState) (group first : ℕ) : Type 0 where
   pub slots : (i : ℕ) → first ≤ i → i < 3 * rows_of s.disks.geometry
       → SlotHolds s (slot_at group i) (zeros (block_len_of s.disks.geometry))
 
--- A put that needed a squeeze wrote zeros behind the blocks that it moved: each slot behind the block's own holds the
--- zero block.
+-- After a put that needed a squeeze each slot behind the block's own holds the zero block.
 pub record LeavesZeros (old : StoreState) (k : Key) (new : StoreState) : Type 0 where
   pub behind :
       (from to : ℕ) → home old.book k ≡ None → HasNoHole old.book Mirrored → HasNoHole old.book Parity

@@ -139,16 +139,17 @@ abbrev pub fill_kinds : ℕ → List AccessKind
 fill_kinds zero = []
 fill_kinds (suc n) = Write ∷ Write ∷ Write ∷ Write ∷ fill_kinds n
 
--- the kinds of the accesses by which the blocks of a mirrored group's slots are written as n stripes: a read of each
--- slot that there is, and four writes a stripe
+-- the kinds of the accesses of a squeeze: those of `source_read`, a read or none
 abbrev pub source_kinds : Geometry → ℕ → List AccessKind
 source_kinds g i = if nat_lt i (slots_of g Mirrored) then Read ∷ [] else []
 
+-- those of a stripe: a read for each of its slots that has a mirrored one, and four writes
 abbrev pub copy_kinds : Geometry → ℕ → List AccessKind
 copy_kinds g row =
     source_kinds g (3 * row) ++ (source_kinds g (3 * row + 1) ++ source_kinds g (3 * row + 2))
     ++ Write ∷ Write ∷ Write ∷ Write ∷ []
 
+-- and those of the first n stripes
 abbrev pub copies_kinds : Geometry → ℕ → List AccessKind
 copies_kinds g zero = []
 copies_kinds g (suc n) = copies_kinds g n ++ copy_kinds g n
@@ -182,8 +183,9 @@ pub record FillsWithZeros (m : Members) (old new : SetState) : Type 0 where
   pub plan : CarriesOut (fill_plan old.geometry m) old new
   pub zeros : (i : ℕ) → i < 3 * rows_of new.geometry → ClassHolds Parity new m i (zeros (block_len_of new.geometry))
 
--- A squeeze: a free group's stripes were written with the blocks of a mirrored group, and then the tables moved these.
--- If the array failed, the tables are unchanged.
+-- The accesses of a squeeze, and what becomes of the tables: for each stripe of a free group, blocks of a mirrored group
+-- are read, and the stripe is written; then the tables move the blocks. If the array failed, the tables are unchanged.
+-- The contents are specified by `OthersStand` and `LeavesZeros`, and not here.
 pub record Squeezes (from to : ℕ) (old new : StoreState) : Type 0 where
   pub plan : CarriesOut (squeeze_plan old.disks.geometry (members_of old from) (members_of old to)) old.disks new.disks
   pub moved : new.disks.health ≢ AllBroken → new.book ≡ squeezed old.book from to

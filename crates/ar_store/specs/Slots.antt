@@ -99,13 +99,13 @@ pub record IsSource (from : Members) (i : ℕ) (s : SetState) (block : List ℕ)
   pub held : i < slots_of s.geometry Mirrored → MirrorHolds s from i block
   pub zero : slots_of s.geometry Mirrored ≤ i → block ≡ zeros (block_len_of s.geometry)
 
--- the three blocks of a stripe were read
+-- these are the blocks for the three slots of a stripe
 pub record AreSources (from : Members) (row : ℕ) (s : SetState) (a b c : List ℕ) : Type 0 where
   pub first : (block : List ℕ) → IsSource from (3 * row) s block → a ≡ block
   pub second : (block : List ℕ) → IsSource from (3 * row + 1) s block → b ≡ block
   pub third : (block : List ℕ) → IsSource from (3 * row + 2) s block → c ≡ block
 
--- a slot of a parity group holds now the block that was there for it
+-- a slot of a parity group holds the block that was its source before the call
 pub record HoldsSource (from to : Members) (old new : SetState) (i : ℕ) : Type 0 where
   pub holds : (block : List ℕ) → IsSource from i old block → ParityHolds new to i block
 

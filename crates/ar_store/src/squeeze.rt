@@ -4,7 +4,7 @@
 //                               |   |         |      copied stripe by stripe
 // parity `to`, 3 n slots:     [ 0 | 1 | .. | 2n-1 | 2n | .. | 3n-1 ]    2n.. are holes, which hold the zero block
 //
-// All stripes are written before the tables change, so a failure of the array leaves each home where it was.
+// All stripes are written before the tables change, so if the array fails in a squeeze, each home stays where it was.
 
 use crate::space::Space;
 use crate::stripes::copy_group;

@@ -30,7 +30,7 @@ pub(crate) enum Way {
 }
 
 impl<D: Disk> Space<D> {
-    /// Finds a slot for a block of a unit; a squeeze, if needed, moves blocks through the buffer `block`.
+    /// Finds a slot for a block of a unit; a squeeze, if needed, overwrites the buffer `block`.
     pub(crate) fn find_way(&mut self, key: Key, block: &mut Block) -> Way
         requires ready { IsReady self.old }
         requires unit { HasBlock self.old.book key }
