@@ -13,7 +13,7 @@ use ar_extents::DiskSet;
 
 /// Writes a whole stripe: the blocks of its three slots, in slot order, and then their XOR as its parity, each unless
 /// its member is missing. Nothing is read, and what the stripe held before is of no matter. The parity is computed in
-/// `first`.
+/// `first`, which is overwritten.
 ///
 /// After `Broken`, the stripe's row has unspecified bytes.
 pub fn put_stripe<D: Disk>(
