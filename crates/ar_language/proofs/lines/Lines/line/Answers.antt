@@ -1,8 +1,8 @@
 use Rattle.ar_language.proofs.LineLemmas.{printable_is_text}
 use Rattle.ar_language.proofs.lines.Lines.line.Goals as goal
 
-pub unreachable-requires : goal.unreachable-requires
-unreachable-requires g c =
+pub from_utf8_unchecked-requires : goal.from_utf8_unchecked-requires
+from_utf8_unchecked-requires g c =
     let whole = c.args.self.now.whole in
     let text = printable_is_text c.args.self.now.line.items whole.printable in
-    c.in-Err.ensures.cases.0 (rw c.as_slice.ensures.value text)
+    rw c.as_slice.ensures.value text
