@@ -345,8 +345,8 @@ fn put(rt: &impl Abort, store: &mut Store<FuseDisk>, alloc: Global, rb: u32, byt
     answer_of(store.put(key, from.bytes()))
 }
 
-// The byte of a block, where the first block has this one.
-fn counted_up(first: u8, rb: u32) -> u8 {
+/// The byte of a block, where the first block has this one.
+pub fn counted_up(first: u8, rb: u32) -> u8 {
     first.wrapping_add((rb % 256) as u8)
 }
 

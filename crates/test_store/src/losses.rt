@@ -1,10 +1,12 @@
 // A disk lost at each of its calls while blocks and extents are moved, and how many calls it gets.
-use crate::calls::{Answer, Call, Step, play};
+use crate::calls::{Answer, Call, Step, counted_up, play};
 use crate::fixtures::{FOUR_GROUPS, Shape, THREE_GROUPS, WHOLE};
 use crate::moves::{DEMOTED_AND_CLEANED, DEMOTED_AND_PROMOTED};
 use crate::placing::{FILLED, PROMOTED, SQUEEZED};
-use Answer::{Added, Byte, Count, Done, GivenUp, Idle, Is, Tried};
-use Call::{Add, Balance, Get, GetEach, Loose, Make, Put, PutEach, Try};
+use Answer::{Added, At, Broken, Byte, Count, Done, GivenUp, Idle, Is, Nowhere, Tried, Used};
+use Call::{Add, Balance, Get, GetEach, Group, Grow, Home, Loose, Make, Place, Put, PutEach, Try};
+use ar_book::Class;
+use ar_disks::Geometry;
 use ar_extents::Health;
 use std::alloc::Global;
 use std::process::Abort;
@@ -55,9 +57,9 @@ const GIVEN_UP: [Step; 8] = [
     (Get(0), Byte(1)),
 ];
 
-// The disks where one of them passes so many calls.
+// The disks where one of them passes `calls` calls.
 fn fused(shape: Shape, lost: u8, calls: u64) -> Shape {
-    let mut fuses = [WHOLE; 5];
+    let mut fuses = shape.fuses;
     fuses[usize::from(lost % 5)] = calls;
     Shape { fuses, ..shape }
 }
@@ -94,9 +96,8 @@ fn are_lost_at_each_call(
 // of the disks are then:
 //
 //     eight blocks are written mirrored            4   4   4   4
-//     two groups are filled with zeros             4   4   4   4
-//     eight blocks are read to be moved            4   0   4   0
-//     they are written to the first four slots    16   8   4   4
+//     they are read to be copied                   4   0   4   0
+//     four stripes are written whole               4   4   4   4
 //     four blocks are written to the last two      0   8   4   4
 //     twelve blocks are read                       2   2   4   4
 #[test]
@@ -105,9 +106,125 @@ fn a_disk_is_lost_at_any_call_of_two_squeezes(rt: HostRuntime) {
         &rt,
         rt.alloc(),
         THREE_GROUPS,
-        &[(0, 30), (1, 26), (2, 24), (3, 20)],
+        &[(0, 14), (1, 18), (2, 20), (3, 16)],
         &[&FILLED, &SQUEEZED, &AS_WRITTEN],
     );
+}
+
+// A squeeze alone: a mirrored group is full and the other one free, so that one more block needs it. Small disks get
+// these calls:
+//
+//     four blocks are written mirrored             2   2   2   2
+//     they are read to be copied                   2   0   2   0
+//     two stripes are written whole                2   2   2   2
+const TWO_GROUPS: Shape = Shape {
+    extents: 2,
+    ..THREE_GROUPS
+};
+
+const TWO_LARGE_GROUPS: Shape = Shape {
+    geometry: Geometry::PAPER,
+    ..TWO_GROUPS
+};
+
+// Which calls of each small disk are in the squeeze.
+const IN_SQUEEZE: [(u8, u64, u64); 4] = [(0, 2, 6), (1, 2, 4), (2, 2, 6), (3, 2, 4)];
+
+// The slots of a mirrored group.
+fn slots(shape: Shape) -> u16 {
+    2 * shape.geometry.rows()
+}
+
+// The sectors of `blocks` blocks.
+fn sectors(shape: Shape, blocks: u32) -> u32 {
+    blocks.saturating_mul(shape.geometry.sectors())
+}
+
+fn full(shape: Shape) -> [Step; 3] {
+    let blocks = u32::from(slots(shape));
+    [
+        (Make(sectors(shape, blocks)), Is(true)),
+        (PutEach(1), Done),
+        (Grow(sectors(shape, blocks + 1)), Is(true)),
+    ]
+}
+
+// The block goes to the first hole behind those that were moved. A block that is placed in the second reads as zeros.
+fn squeezed(shape: Shape) -> [Step; 8] {
+    let blocks = u32::from(slots(shape));
+    [
+        (Put(blocks, counted_up(1, blocks)), Done),
+        (Group(0), Used(Class::Free, 0)),
+        (Home(0), At(1, 0)),
+        (Home(blocks), At(1, slots(shape))),
+        (GetEach(1), Done),
+        (Grow(sectors(shape, blocks + 2)), Is(true)),
+        (Place(blocks + 1), Done),
+        (Get(blocks + 1), Byte(0)),
+    ]
+}
+
+// Each home is as before the put.
+fn unmoved(shape: Shape) -> [Step; 6] {
+    let blocks = u32::from(slots(shape));
+    [
+        (Put(blocks, 0xAA), Broken),
+        (Group(0), Used(Class::Mirrored, slots(shape))),
+        (Group(1), Used(Class::Free, 0)),
+        (Home(0), At(0, 0)),
+        (
+            Home(blocks.saturating_sub(1)),
+            At(0, slots(shape).saturating_sub(1)),
+        ),
+        (Home(blocks), Nowhere),
+    ]
+}
+
+fn loses_one(rt: &impl Abort, alloc: Global, shape: Shape, lost: u8, passed: u64) {
+    let shape = fused(shape, lost, passed);
+    let health = play(rt, alloc, shape, &[&full(shape), &squeezed(shape)]);
+    is_health(rt, health, Health::Out(lost), passed);
+}
+
+fn loses_two(rt: &impl Abort, alloc: Global, shape: Shape, first: (u8, u64), second: (u8, u64)) {
+    let shape = fused(fused(shape, first.0, first.1), second.0, second.1);
+    let health = play(rt, alloc, shape, &[&full(shape), &unmoved(shape)]);
+    is_health(rt, health, Health::Broken, first.1);
+}
+
+// Of large groups the eleventh stripe is the last with blocks, and the first call of a disk in the squeeze its 17th.
+#[test]
+fn a_disk_is_lost_at_any_call_of_a_squeeze(rt: HostRuntime) {
+    for (lost, first, end) in IN_SQUEEZE {
+        for passed in first..end {
+            loses_one(&rt, rt.alloc(), TWO_GROUPS, lost, passed);
+        }
+    }
+    loses_one(&rt, rt.alloc(), TWO_LARGE_GROUPS, 0, 16);
+    loses_one(&rt, rt.alloc(), TWO_LARGE_GROUPS, 3, 26);
+}
+
+// With one disk lost no other one gets fewer calls, so both are lost in the squeeze. Of large groups the second is lost
+// in the last stripe.
+#[test]
+fn a_second_loss_in_a_squeeze_leaves_each_home(rt: HostRuntime) {
+    for (lost, first, end) in IN_SQUEEZE {
+        for passed in first..end {
+            loses_two_small(&rt, rt.alloc(), (lost, passed));
+        }
+    }
+    loses_two(&rt, rt.alloc(), TWO_LARGE_GROUPS, (0, 16), (3, 31));
+}
+
+// One disk is lost, and each higher one at each of its calls in the squeeze.
+fn loses_two_small(rt: &impl Abort, alloc: Global, lost: (u8, u64)) {
+    for (second, first, end) in IN_SQUEEZE {
+        if second > lost.0 {
+            for passed in first..end {
+                loses_two(rt, alloc, TWO_GROUPS, lost, (second, passed));
+            }
+        }
+    }
 }
 
 //     the block is written mirrored                1   1   0   0
