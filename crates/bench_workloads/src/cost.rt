@@ -141,15 +141,14 @@ impl Round {
     }
 
     // Of three blocks two are written mirrored and one at the parity level, into a hole that a squeeze left. A squeeze
-    // moves as many blocks as a mirrored group has, and leaves half as many holes. It begins by writing zeros to four
-    // extents.
+    // moves as many blocks as a mirrored group has, and leaves half as many holes. It writes a stripe for each hole.
     fn fill(self) -> [Moves; 4] {
         let third = self.blocks / 3;
         [
             self.written(third.saturating_mul(2), 2),
             self.updated(third),
-            zeroed(third.saturating_mul(4)),
-            moved(third.saturating_mul(2)),
+            squeezed(third),
+            Moves::NONE,
         ]
     }
 
@@ -251,7 +250,20 @@ fn zeroed(times: u32) -> Moves {
     }
 }
 
-// So many blocks are moved to the parity level: each is read where it stood, and written in place of zeros.
+// `stripes` stripes are written whole by squeezes. On average a stripe has two blocks that are read where they were and
+// one of zeros. Its parity is their sum.
+fn squeezed(stripes: u32) -> Moves {
+    Moves {
+        times: stripes,
+        reads: 2,
+        kept: 2,
+        sums: 2,
+        writes: 4,
+        ..Moves::NONE
+    }
+}
+
+// `times` blocks are moved to the parity level: each is read where it stood, and written in place of zeros.
 fn moved(times: u32) -> Moves {
     Moves {
         times,

@@ -22,8 +22,9 @@ fn has_moves(rt: &impl Abort, round: Round, wanted: [Moves; 4]) {
     assert!(rt; round.moves() == wanted, "the moves of {name}");
 }
 
-// Four groups of small extents hold 18 blocks in three of them. The first 12 stand mirrored. Three squeezes, each of 8
-// rows of zeros and 4 blocks that are moved, leave two holes each for the others.
+// Four groups of small extents hold 18 blocks in three of them. The first 12 are written mirrored. Three squeezes leave
+// two holes each for the others. Each reads four blocks and writes two stripes of four rows, whose parity is the sum of
+// three blocks.
 #[test]
 fn a_fill_with_its_squeezes(rt: HostRuntime) {
     let direct = Moves {
@@ -40,23 +41,18 @@ fn a_fill_with_its_squeezes(rt: HostRuntime) {
         sent: 1,
         ..Moves::NONE
     };
-    let zeroed = Moves {
-        times: 24,
-        writes: 1,
-        ..Moves::NONE
-    };
-    let moved = Moves {
-        times: 12,
-        reads: 3,
-        kept: 1,
+    let squeezed = Moves {
+        times: 6,
+        reads: 2,
+        kept: 2,
         sums: 2,
-        writes: 2,
+        writes: 4,
         ..Moves::NONE
     };
     has_moves(
         &rt,
         round(Workload::Fill, 18, 1),
-        [direct, late, zeroed, moved],
+        [direct, late, squeezed, Moves::NONE],
     );
 }
 
