@@ -34,7 +34,7 @@ use Rattle.ar_book.proofs.Homes.{key_home}
 use Rattle.ar_store.specs.declared.space.Space.{Space}
 use Rattle.ar_store.specs.Store.{StoreState, store_of, members_of}
 use Rattle.ar_store.specs.Slots.{ClassHolds, SlotHolds, HoldsBlock, SlotsHold, AllStand, stands}
-use Rattle.ar_store.specs.Slots.{HoldsSource, HoldsCopy, HoldsCopies}
+use Rattle.ar_store.specs.Slots.{HoldsSources, HoldsCopy, HoldsCopies}
 use Rattle.ar_store.specs.Calls.{IsAccessed, IsZerosFrom}
 use Rattle.ar_store.specs.Kept.{IsSpace}
 use Rattle.ar_store.specs.Placing.{slot_at, moved_first, IsVacant, IsSqueezed, SameUnits}
@@ -95,8 +95,7 @@ free_leaves a b t g space free access keeps =
 -- each of its slots holds a copy
 module _ (a b : SetState) (t : Tables) (from to : ℕ) (space : IsSpace (store_of a t)) (full : IsFullMirrored t from)
     (free : IsLowestFree t to) (access : IsAccessed a b) (keeps : Keeps (IsOutside (group_in t.groups to).members) a b)
-    (copied : (i : ℕ) → i < slots_of a.geometry Parity
-    → HoldsSource (group_in t.groups from).members (group_in t.groups to).members a b i) where
+    (copied : HoldsSources (group_in t.groups from).members (group_in t.groups to).members a b) where
   one : Members
   one = (group_in t.groups from).members
 
@@ -250,13 +249,11 @@ copies_zeros a u from to g n members class is copies = record {
 pub copies_done : (o : Completion) (a b : SetState) (t : Tables) (from to : ℕ) (m n : Members) → IsSpace (store_of a t)
     → IsFullMirrored t from → IsLowestFree t to → m ≡ (group_in t.groups from).members
     → n ≡ (group_in t.groups to).members → IsAccessed a b → Keeps (IsOutside n) a b
-    → OnDone o ((i : ℕ) → i < slots_of a.geometry Parity → HoldsSource m n a b i)
-    → OnDone o (HoldsCopies (group_in t.groups from).members (group_in t.groups to).members b)
+    → OnDone o (HoldsSources m n a b) → OnDone o (HoldsCopies (group_in t.groups from).members (group_in t.groups to).members b)
 copies_done NotDone a b t from to m n space full free is_m is_n access keeps copied = tt
 copies_done Done a b t from to m n space full free is_m is_n access keeps copied =
-    let P : Members → Type 0 = λ x. (i : ℕ) → i < slots_of a.geometry Parity → HoldsSource x n a b i in
-    let Q : Members → Type 0 =
-    λ x. (i : ℕ) → i < slots_of a.geometry Parity → HoldsSource (group_in t.groups from).members x a b i in
+    let P : Members → Type 0 = λ x. HoldsSources x n a b in
+    let Q : Members → Type 0 = λ x. HoldsSources (group_in t.groups from).members x a b in
     copies_held a b t from to space full free access (subst (λ (x : Members). Keeps (IsOutside x) a b) is_n keeps)
     (subst Q is_n (subst P is_m copied))
 
@@ -273,13 +270,16 @@ copies_for d t u from to is free copies g is_g =
 pub squeezed_by : (a c : StoreState) (b : SetState) (t : Tables) (from to : ℕ) (hole : Slot)
     → IsFullMirrored a.book from → IsLowestFree a.book to
     → CarriesOut (squeeze_plan a.disks.geometry (members_of a from) (members_of a to)) a.disks b
-    → b.health ≢ Broken → t ≡ a.book → c.disks ≡ b → IsSqueezed t c.book hole → CarriesOutSqueeze a c
-squeezed_by a c b t from to hole full free plan sound is disks made =
+    → HoldsSources (members_of a from) (members_of a to) a.disks b → b.health ≢ Broken → t ≡ a.book → c.disks ≡ b
+    → IsSqueezed t c.book hole → CarriesOutSqueeze a c
+squeezed_by a c b t from to hole full free plan copied sound is disks made =
     let tables = (subst (λ (x : Tables). IsSqueezed x c.book hole) is made).tables from to full free in
     only_squeeze a c from to full free (record {
       plan = subst
           (λ (d : SetState). CarriesOut (squeeze_plan a.disks.geometry (members_of a from) (members_of a to)) a.disks d)
           (sym disks) plan;
+      copied = λ _.
+          subst (λ (d : SetState). HoldsSources (members_of a from) (members_of a to) a.disks d) (sym disks) copied;
       moved = λ _. tables.0;
       unmoved = λ broken. absurd (sound (ap (λ (d : SetState). d.health) (sym disks) ∙ broken));
     })
@@ -289,7 +289,12 @@ pub squeeze_failed : (a c : StoreState) (from to : ℕ) → IsFullMirrored a.boo
     → c.disks.health ≡ Broken → c.book ≡ a.book → CarriesOutSqueeze a c
 squeeze_failed a c from to full free plan broken same =
     only_squeeze a c from to full free
-    (record { plan = plan; moved = λ sound. absurd (sound broken); unmoved = λ _. same })
+    (record {
+      plan = plan;
+      copied = λ sound. absurd (sound broken);
+      moved = λ sound. absurd (sound broken);
+      unmoved = λ _. same;
+    })
 
 -- the opened group keeps its members while blocks move there
 pub moved_members : (t u v : Tables) (from to : ℕ) → u ≡ opened t to Parity

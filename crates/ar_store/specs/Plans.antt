@@ -26,7 +26,7 @@ use Rattle.ar_book.specs.Choices.{IsLowestFree, IsFullMirrored}
 use Rattle.ar_store.specs.declared.way.Way.{Way}
 use Rattle.ar_store.specs.declared.way.Way.TheVariants.{Home, Hole, Broken}
 use Rattle.ar_store.specs.Store.{StoreState, members_of, class_in}
-use Rattle.ar_store.specs.Slots.{ClassHolds}
+use Rattle.ar_store.specs.Slots.{ClassHolds, HoldsSources}
 use Rattle.ar_store.specs.Placing.{slot_at, squeezed, HasNoHole, HasNoWay, IsLowestHole}
 use Rattle.ar_store.specs.Calls.{WasBroken}
 
@@ -183,11 +183,11 @@ pub record FillsWithZeros (m : Members) (old new : SetState) : Type 0 where
   pub plan : CarriesOut (fill_plan old.geometry m) old new
   pub zeros : (i : ℕ) → i < 3 * rows_of new.geometry → ClassHolds Parity new m i (zeros (block_len_of new.geometry))
 
--- The accesses of a squeeze, and what becomes of the tables: for each stripe of a free group, blocks of a mirrored group
--- are read, and the stripe is written; then the tables move the blocks. If the array failed, the tables are unchanged.
--- The contents are specified by `OthersStand` and `LeavesZeros`, and not here.
+-- A squeeze: for each stripe of a free group, blocks of a mirrored group are read, and the stripe is written with them;
+-- then the tables move the blocks. If the array failed, the tables are unchanged.
 pub record Squeezes (from to : ℕ) (old new : StoreState) : Type 0 where
   pub plan : CarriesOut (squeeze_plan old.disks.geometry (members_of old from) (members_of old to)) old.disks new.disks
+  pub copied : new.disks.health ≢ AllBroken → HoldsSources (members_of old from) (members_of old to) old.disks new.disks
   pub moved : new.disks.health ≢ AllBroken → new.book ≡ squeezed old.book from to
   pub unmoved : new.disks.health ≡ AllBroken → new.book ≡ old.book
 

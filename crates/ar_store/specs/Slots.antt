@@ -117,6 +117,10 @@ pub record HoldsCopy (from to : Members) (s : SetState) (i : ℕ) : Type 0 where
   pub source : IsSource from i s block
   pub copy : ParityHolds s to i block
 
--- each slot does
+-- each slot of a parity group holds the block that was its source before the call
+abbrev pub HoldsSources : Members → Members → SetState → SetState → Type 0
+HoldsSources from to old new = (i : ℕ) → i < slots_of old.geometry Parity → HoldsSource from to old new i
+
+-- each slot holds the block for it
 abbrev pub HoldsCopies : Members → Members → SetState → Type 0
 HoldsCopies from to s = (i : ℕ) → i < slots_of s.geometry Parity → HoldsCopy from to s i

@@ -8,14 +8,14 @@ use ar_disks::{Block, Completion, Disk, Key};
 use ar_index::Steps;
 
 impl<D: Disk> Space<D> {
-    ghost use Rattle.std.specs.Prelude.{◌≡◌, ◌≤◌, ℕ, List, length, Some};
+    ghost use Rattle.std.specs.Prelude.{◌≡◌, ◌≤◌, length, Some};
     ghost use Rattle.ar_disks.specs.Geometry.{block_len_of};
     ghost use Rattle.ar_extents.specs.Groups.{outcome_of};
     ghost use Rattle.ar_book.specs.Tables.{home, free_groups, HasBlock};
     ghost use Rattle.ar_book.specs.Changes.{assigned, stamped};
-    ghost use Rattle.ar_store.specs.Slots.{stands, AllStand, OthersStand, BesideHold, SlotHolds};
+    ghost use Rattle.ar_store.specs.Slots.{stands, AllStand, OthersStand, BesideHold};
     ghost use Rattle.ar_store.specs.Placing.{IsVacant, IsReadyFor, placed_by, put_in};
-    ghost use Rattle.ar_store.specs.Store.{store_of, class_in};
+    ghost use Rattle.ar_store.specs.Store.{class_in};
     ghost use Rattle.ar_extents.specs.Plans.{CarriesOut};
     ghost use Rattle.ar_store.specs.Plans.{move_plan, WritesSlotOf, WritesWay};
     ghost use Rattle.ar_store.specs.Calls.{BesideWay};
@@ -42,8 +42,6 @@ impl<D: Disk> Space<D> {
 
         ensures stand { AllStand (store_in self.old) (store_in self.new) }
         ensures beside { BesideHold (store_in self.old) (store_in self.new) to }
-        ensures holds { result ≡ Completion.Done → (held : List ℕ) → SlotHolds (store_in self.old) from held
-            → SlotHolds (store_of self.new.disks self.old.book) to held }
         ensures plan { CarriesOut (move_plan (store_in self.old) key to) self.old.disks self.new.disks }
         ensures stays { Stays self.old self.new }
         ensures len { length block.new ≡ length block.old }
@@ -68,7 +66,6 @@ impl<D: Disk> Space<D> {
         ensures free { free_groups self.old.book ≤ free_groups self.new.book }
 
         ensures here { result ≡ Completion.Done → stands (store_in self.new) key ≡ from.now }
-        ensures holds { SlotHolds (store_of self.new.disks self.old.book) to from.now }
         ensures others { OthersStand (store_in self.old) (store_in self.new) key }
         ensures beside { BesideHold (store_in self.old) (store_in self.new) to }
         ensures writes { WritesSlotOf (class_in (store_in self.old) to.group) to

@@ -25,7 +25,7 @@ impl<D: Disk> Space<D> {
     ghost use Rattle.ar_book.specs.Changes.{assigned};
     ghost use Rattle.ar_book.specs.Choices.{HasUnplacedBlock, IsFullMirrored, IsLowestFree};
     ghost use Rattle.ar_store.specs.Store.{members_of};
-    ghost use Rattle.ar_store.specs.Slots.{AllStand, HoldsCopies, SlotHolds, stands};
+    ghost use Rattle.ar_store.specs.Slots.{AllStand, HoldsSources, HoldsCopies, SlotHolds, stands};
     ghost use Rattle.ar_store.specs.Calls.{LeavesHole, BreaksSqueeze};
     ghost use Rattle.ar_store.specs.Plans.{squeeze_plan, CarriesOutSqueeze};
     ghost use Rattle.ar_store.specs.Placing.{slot_at, moved_first, IsVacant, HasNoHole, CanMove};
@@ -72,6 +72,8 @@ impl<D: Disk> Space<D> {
         requires whole { length block.old ≡ block_len_of self.old.disks.geometry }
 
         ensures outcome { result ≡ outcome_of self.new.disks.health }
+        ensures copied { OnDone result (HoldsSources (members_of (store_in self.old) from)
+            (members_of (store_in self.old) to) self.old.disks self.new.disks) }
         ensures copies { OnDone result (HoldsCopies (members_of (store_in self.old) from)
             (members_of (store_in self.old) to) self.new.disks) }
         ensures book { self.new.book ≡ self.old.book }

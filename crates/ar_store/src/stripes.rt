@@ -13,11 +13,9 @@ ghost use Rattle.ar_extents.specs.Groups.{IsGroup, IsOutside, outcome_of};
 ghost use Rattle.ar_extents.specs.Plans.{CarriesOut};
 ghost use Rattle.ar_parity.specs.Group.{KeepsButRow};
 ghost use Rattle.ar_parity.specs.Row.{row_of};
-ghost use Rattle.ar_book.specs.declared.class.Class.TheVariants.{Parity};
-ghost use Rattle.ar_book.specs.Tables.{slots_of};
 ghost use Rattle.ar_store.specs.Calls.{IsAccessed};
 ghost use Rattle.ar_store.specs.Plans.{source_read, sources_plan, copy_plan, squeeze_plan};
-ghost use Rattle.ar_store.specs.Slots.{IsSource, AreSources, HoldsSource};
+ghost use Rattle.ar_store.specs.Slots.{IsSource, AreSources, HoldsSource, HoldsSources};
 
 use ar_disks::{Block, Completion, Disk, Members, Scratch};
 use ar_extents::DiskSet;
@@ -41,8 +39,7 @@ pub(crate) fn copy_group<D: Disk>(
     requires whole { length block.old ≡ block_len_of disks.old.geometry }
 
     ensures outcome { result ≡ outcome_of disks.new.health }
-    ensures copied { OnDone result ((slot : ℕ) → slot < slots_of disks.old.geometry Parity
-        → HoldsSource from.now to.now disks.old disks.new slot) }
+    ensures copied { OnDone result (HoldsSources from.now to.now disks.old disks.new) }
     ensures plan { CarriesOut (squeeze_plan disks.old.geometry from.now to.now) disks.old disks.new }
     ensures keeps { Keeps (IsOutside to.now) disks.old disks.new }
     ensures accessed { IsAccessed disks.old disks.new }

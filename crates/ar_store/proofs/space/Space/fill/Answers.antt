@@ -43,7 +43,6 @@ returns-in-Done g c =
       unfilled = λ broke. absurd (done_not_broken broke);
       free = fills.free;
       here = λ _. fills.here (done_sound b.health answer);
-      holds = subst (λ (x : StoreState). SlotHolds x c.args.to c.args.from.now) now wrote.here;
       others = fills.others;
       beside = beside_filled s.disks b s.book c.assign.new.self c.args.key c.args.to c.requires.ready.space
           c.requires.block c.requires.hole
@@ -68,7 +67,6 @@ returns-in-Broken g c =
       unfilled = λ _. wrote.book;
       free = same_free s.book new.book wrote.book;
       here = λ done. absurd (done_not_broken (sym done));
-      holds = subst (λ (x : Tables). SlotHolds (store_of new.disks x) c.args.to c.args.from.now) wrote.book wrote.here;
       others = none_stands (store_in s) (store_in new) c.args.key (broken_is new.disks.health answer);
       beside = beside_same (store_in s) (store_in new) c.args.to wrote.others;
       writes = wrote.writes;

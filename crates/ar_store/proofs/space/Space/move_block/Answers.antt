@@ -9,8 +9,6 @@ use Rattle.ar_extents.proofs.Outcomes.{sound_done, broken_is}
 use Rattle.ar_store.specs.Placing.{IsVacant}
 use Rattle.ar_store.specs.Spaces.{store_in}
 use Rattle.ar_store.proofs.Fills.{moved_stand, beside_then, beside_read, done_not_broken, same_free}
-use Rattle.ar_store.specs.Slots.{SlotHolds}
-use Rattle.ar_store.specs.Store.{store_of}
 use Rattle.ar_store.proofs.Stays.{stays_then}
 use Rattle.ar_store.proofs.Planned.{moved_by, moved_none}
 use Rattle.ar_store.proofs.space.Space.move_block.Goals as goal
@@ -63,10 +61,6 @@ returns-in-Done g c =
           (λ sound. fill.here (fill.outcome ∙ sound_done new.disks.health sound)) fill.others;
       beside = beside_then s.disks mid.disks s.book mid.book (store_in new) c.args.to read.book
           read.stays.accessed.follows read.keeps fill.beside;
-      holds = λ _ held has.
-          let R : Tables → Type 0 = λ x. SlotHolds (store_of new.disks x) c.args.to c.read_at.new.into in
-          let S : List ℕ → Type 0 = λ bytes. SlotHolds (store_of new.disks s.book) c.args.to bytes in
-          subst S (c.in-Done.ensures.given held has) (subst R read.book fill.holds);
       plan = moved_by (store_in s) (store_in mid) new.disks c.args.key c.args.from c.args.to c.requires.home read.book
           read.stays.accessed.follows.geometry read.plan fill.writes.plan;
       stays = stays_then s mid new read.stays fill.stays;
@@ -85,7 +79,6 @@ returns-in-Broken g c =
       stand = read.stand;
       beside = beside_read c.args.self.now.disks mid.disks c.args.self.now.book mid.book c.args.to read.book
           read.stays.accessed.follows read.keeps;
-      holds = λ done. absurd (done_not_broken (sym done));
       plan = moved_none (store_in c.args.self.now) (store_in mid) c.args.key c.args.from c.args.to
           c.requires.home
           (broken_is mid.disks.health (sym c.in-Broken.is ∙ read.outcome)) read.plan;

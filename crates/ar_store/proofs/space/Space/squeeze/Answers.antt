@@ -18,8 +18,8 @@ returns-in-Done-clause-steps g c =
     let moved = c.move_homes-hole.ensures in
     squeezed_by (store_in c.args.self.now) (store_in new) b.disks b.book c.full_mirrored-from.result
     c.lowest_free-to.result c.move_homes-hole.result c.full_mirrored-from.ensures.full c.lowest_free-to.ensures
-    copied.plan (done_sound b.disks.health (sym c.in-Done.is ∙ copied.outcome)) copied.book moved.disks
-    moved.hole.squeezed
+    copied.plan c.in-Done.ensures.copied (done_sound b.disks.health (sym c.in-Done.is ∙ copied.outcome)) copied.book
+    moved.disks moved.hole.squeezed
 
 pub returns-in-Broken-clause-steps : goal.returns-in-Broken-clause-steps
 returns-in-Broken-clause-steps g c =
