@@ -377,8 +377,8 @@ fn fetch_sectors<B: Backing>(
     reply_to_read(read, memory)
 }
 
-// Memory of `len` bytes for the data of a READ: what was lent, if it has this length, or what is allocated for more than
-// `KEPT` bytes. None says that they are in `room`, if at most `SHORT`, and else in `kept`.
+// Memory of `len` bytes for the data of a READ: what was lent, if it has this length, or what is allocated for more
+// than `KEPT` bytes. None says that they are in `room`, if at most `SHORT`, and else in `kept`.
 fn find_memory(
     alloc: Global,
     len: usize,

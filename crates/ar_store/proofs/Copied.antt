@@ -249,7 +249,8 @@ copies_zeros a u from to g n members class is copies = record {
 pub copies_done : (o : Completion) (a b : SetState) (t : Tables) (from to : ℕ) (m n : Members) → IsSpace (store_of a t)
     → IsFullMirrored t from → IsLowestFree t to → m ≡ (group_in t.groups from).members
     → n ≡ (group_in t.groups to).members → IsAccessed a b → Keeps (IsOutside n) a b
-    → OnDone o (HoldsSources m n a b) → OnDone o (HoldsCopies (group_in t.groups from).members (group_in t.groups to).members b)
+    → OnDone o (HoldsSources m n a b)
+    → OnDone o (HoldsCopies (group_in t.groups from).members (group_in t.groups to).members b)
 copies_done NotDone a b t from to m n space full free is_m is_n access keeps copied = tt
 copies_done Done a b t from to m n space full free is_m is_n access keeps copied =
     let P : Members → Type 0 = λ x. HoldsSources x n a b in

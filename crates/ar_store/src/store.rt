@@ -119,8 +119,8 @@ impl<D: Disk> Store<D> {
     /// Writes the block of `key` from `from`, a block of the store's length, and gives it the next write sequence
     /// number (its `stamp`). There is always a slot for it: `Puts` states which, and `CarriesOutPut` which accesses are
     /// made. Returns `Broken` exactly if the array has failed after the call: the block then keeps its old home, other
-    /// homes have changed only if the array failed after all copies of a squeeze (`BreaksPut`, `Squeezes`), and an array
-    /// that had failed before is unchanged.
+    /// homes have changed only if the array failed after all copies of a squeeze (`BreaksPut`, `Squeezes`), and an
+    /// array that had failed before is unchanged.
     pub fn put(&mut self, key: Key, from: &[u8]) -> Completion
         requires block { HasBlock self.old.book key }
         requires whole { length from.now ≡ block_len_of self.old.disks.geometry }
