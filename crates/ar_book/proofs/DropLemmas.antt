@@ -31,7 +31,7 @@ use Rattle.ar_book.proofs.FreeGroups.{free_in, vacated_free}
 use Rattle.ar_book.proofs.UnitLemmas.{found_in}
 
 -- the value that is there
-some_value : (o : Option Key) → IsSome o → (k : Key) × (o ≡ Some k)
+pub some_value : (o : Option Key) → IsSome o → (k : Key) × (o ≡ Some k)
 some_value None e = absurd (true≢false (sym e))
 some_value (Some k) e = (k, refl)
 

@@ -28,5 +28,6 @@ pub mod Searches
 pub mod Ages
 pub mod Stays
 pub mod IndexAfter
+pub mod GroupMoves
 pub mod UnitPlaces
 pub mod Listing

@@ -1,6 +1,6 @@
 -- Each call as a function of the tables.
-use Rattle.std.specs.Prelude.{◌≡◌, ℕ, ◌+◌, ◌-◌, ◌*◌, ◌==◌, min, true, false, if◌then◌else◌, List, [], ◌∷◌, ◌++◌, length}
-use Rattle.std.specs.Prelude.{slice_set, replicate, fold, Option, None, Some}
+use Rattle.std.specs.Prelude.{◌≡◌, ℕ, zero, suc, ◌+◌, ◌-◌, ◌*◌, ◌==◌, ◌<◌, min, true, false, if◌then◌else◌, List, []}
+use Rattle.std.specs.Prelude.{◌∷◌, ◌++◌, length, slice_set, replicate, fold, Option, None, Some, IsSome}
 use Rattle.std.specs.Map.{set_value, remove_entry}
 use Rattle.ar_disks.specs.Geometry.{rows_of}
 use Rattle.ar_disks.specs.Members.{with_member}
@@ -10,10 +10,11 @@ use Rattle.ar_disks.specs.declared.address.Place.{Place}
 use Rattle.ar_disks.specs.declared.address.Members.{Members}
 use Rattle.ar_disks.specs.declared.geometry.Geometry.{Geometry}
 use Rattle.ar_book.specs.declared.class.Class.{Class}
-use Rattle.ar_book.specs.declared.class.Class.TheVariants.{Free}
+use Rattle.ar_book.specs.declared.class.Class.TheVariants.{Free, Mirrored, Parity}
 use Rattle.ar_book.specs.declared.class.Slot.{Slot}
 use Rattle.ar_disks.specs.Addresses.{same_addr}
-use Rattle.ar_book.specs.Tables.{GroupState, UnitTableState, Tables, group_in, unit_in, home, used, blocks_of}
+use Rattle.ar_book.specs.Tables.{GroupState, UnitTableState, Tables, group_in, unit_in, key_at, home, used, blocks_of}
+use Rattle.ar_book.specs.Tables.{class_of, slots_of}
 
 -- the group with a block in a slot
 abbrev pub with_key : GroupState → ℕ → Key → GroupState
@@ -50,6 +51,29 @@ assigned t k s = record t { groups = vacated (named t.groups s k) (home t k); un
 -- occupied; nothing else differs, its stamp neither
 pub record Moved (t : Tables) (key : Key) (to : Slot) (new : Tables) : Type 0 where
   pub tables : new ≡ assigned t key to
+
+-- the slot with a number in a group
+abbrev pub slot_at : ℕ → ℕ → Slot
+slot_at group slot = record { group = group; slot = slot }
+
+-- the tables with the block that a slot named, if any, mapped to another slot
+abbrev pub moved_from : Tables → Option Key → Slot → Tables
+moved_from t None to = t
+moved_from t (Some k) to = assigned t k to
+
+-- the tables with the blocks of the group's first n slots mapped to the slots with the same numbers of another
+abbrev pub moved_first : Tables → ℕ → ℕ → ℕ → Tables
+moved_first t from to zero = t
+moved_first t from to (suc n) = moved_from (moved_first t from to n) (key_at t (slot_at from n)) (slot_at to n)
+
+-- all blocks of a full mirrored group can move to an empty parity group
+pub record CanMove (t : Tables) (from to : ℕ) : Type 0 where
+  pub from_there : from < length t.groups
+  pub to_there : to < length t.groups
+  pub mirrored : class_of t from ≡ Mirrored
+  pub full : (i : ℕ) → i < slots_of t.geometry Mirrored → IsSome (key_at t (slot_at from i))
+  pub opened : class_of t to ≡ Parity
+  pub empty : (i : ℕ) → key_at t (slot_at to i) ≡ None
 
 -- the block has no home, and the one that it had is emptied
 abbrev pub released : Tables → Key → Tables

@@ -37,6 +37,10 @@ pub record Tables : Type 0 where
   pub units : List (Addr × UnitTableState)
   pub puts : ℕ
 
+-- the tables of these groups and units, without a stamp
+abbrev pub tables_of : Geometry → List GroupState → List (Addr × UnitTableState) → Tables
+tables_of g groups units = record { geometry = g; groups = groups; units = units; puts = 0 }
+
 -- what a number that no group has reads as: a free group without a slot
 abbrev pub no_group : GroupState
 no_group =

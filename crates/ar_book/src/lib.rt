@@ -9,6 +9,7 @@ mod directory;
 mod group;
 mod groups;
 mod index;
+mod moving;
 mod oldest;
 mod places;
 mod refusal;

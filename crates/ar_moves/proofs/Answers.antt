@@ -3,13 +3,13 @@ use Rattle.std.proofs.Common.{◌≡◌, ◌≢◌, ◌≤◌, ◌⊎◌, ℕ, r
 use Rattle.ar_disks.specs.declared.address.Key.{Key}
 use Rattle.ar_book.specs.declared.class.Slot.{Slot}
 use Rattle.ar_book.specs.Tables.{Tables, free_groups}
-use Rattle.ar_book.specs.Changes.{Moved as TablesMoved}
+use Rattle.ar_book.specs.Changes.{Moved as TablesMoved, slot_at}
 use Rattle.ar_book.proofs.AfterAssign.{assigned_free_groups}
 use Rattle.ar_extents.specs.declared.health.Health.TheVariants.{Broken as AllBroken}
 use Rattle.ar_book.specs.declared.class.Class.TheVariants.{Parity}
 use Rattle.ar_store.specs.Store.{StoreState}
 use Rattle.ar_store.specs.Slots.{AllStand, BesideHold}
-use Rattle.ar_store.specs.Placing.{SameUnits, slot_at, IsLowestHole, HasNoHole}
+use Rattle.ar_store.specs.Placing.{SameUnits, IsLowestHole, HasNoHole}
 use Rattle.ar_store.specs.Calls.{IsAccessed, IsOpened, BreaksOpening}
 use Rattle.ar_store.proofs.Changes.{units_then}
 use Rattle.ar_store.proofs.Fills.{accessed_then, stand_then}

@@ -13,13 +13,13 @@ use Rattle.ar_book.specs.declared.class.Class.TheVariants.{Free, Mirrored, Parit
 use Rattle.ar_book.specs.declared.class.Level.TheVariants.{Mirrored as MirroredLevel}
 use Rattle.ar_book.specs.declared.class.Slot.{Slot}
 use Rattle.ar_book.specs.Tables.{Tables, home, level, level_of, class_of, free_groups}
-use Rattle.ar_book.specs.Changes.{opened}
+use Rattle.ar_book.specs.Changes.{opened, slot_at}
 use Rattle.ar_book.specs.Book.{TablesAgree}
 use Rattle.ar_book.specs.Choices.{IsLowestFree}
 use Rattle.ar_book.proofs.AfterOpen.{opened_class, opened_class_other}
 use Rattle.ar_book.proofs.Homes.{home_level, key_home}
 use Rattle.ar_store.specs.Store.{StoreState, store_of, class_in, members_of}
-use Rattle.ar_store.specs.Placing.{slot_at, IsLowestHole, HasNoHole}
+use Rattle.ar_store.specs.Placing.{IsLowestHole, HasNoHole}
 use Rattle.ar_store.specs.Plans.{move_plan, fill_plan, MakesAccesses, ReadsUsableOf, WritesUsableAs, fill_kinds}
 use Rattle.ar_store.proofs.Costs.{makes, moved_to_mirrored, moved_to_parity, whole_reads, whole_writes}
 use Rattle.ar_store.proofs.SqueezeCosts.{calm_first, calm_second, still_whole, made_then, stripes_kinds}

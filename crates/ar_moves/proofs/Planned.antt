@@ -12,12 +12,12 @@ use Rattle.ar_book.specs.declared.class.Class.{Class}
 use Rattle.ar_book.specs.declared.class.Class.TheVariants.{Parity}
 use Rattle.ar_book.specs.declared.class.Slot.{Slot}
 use Rattle.ar_book.specs.Tables.{Tables, group_in, class_of, free_groups}
-use Rattle.ar_book.specs.Changes.{opened}
+use Rattle.ar_book.specs.Changes.{opened, slot_at}
 use Rattle.ar_book.specs.Book.{TablesAgree}
 use Rattle.ar_book.specs.Choices.{IsMirrored, IsLowestFree}
 use Rattle.ar_book.proofs.AfterOpen.{opened_class, opened_members}
 use Rattle.ar_store.specs.Store.{StoreState, store_of, members_of}
-use Rattle.ar_store.specs.Placing.{slot_at, IsLowestHole, HasNoHole}
+use Rattle.ar_store.specs.Placing.{IsLowestHole, HasNoHole}
 use Rattle.ar_store.specs.Calls.{IsOpened, HoldsZeros}
 use Rattle.ar_store.specs.Plans.{move_plan, fill_plan, FillsWithZeros}
 use Rattle.ar_store.specs.Slots.{ClassHolds}

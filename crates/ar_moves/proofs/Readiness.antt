@@ -9,7 +9,7 @@ use Rattle.ar_book.specs.declared.class.Class.{Class}
 use Rattle.ar_book.specs.declared.class.Class.TheVariants.{Free, Mirrored, Parity}
 use Rattle.ar_book.specs.declared.class.Slot.{Slot}
 use Rattle.ar_book.specs.Tables.{Tables, home, slots_of}
-use Rattle.ar_book.specs.Changes.{opened}
+use Rattle.ar_book.specs.Changes.{opened, slot_at}
 use Rattle.ar_book.specs.Choices.{IsHole}
 use Rattle.ar_book.specs.Book.{TablesAgree}
 use Rattle.ar_book.proofs.AfterOpen.{opened_hole}
@@ -17,7 +17,7 @@ use Rattle.ar_book.proofs.Homes.{hole_slot, key_home}
 use Rattle.ar_store.specs.Store.{StoreState, members_of, class_in}
 use Rattle.ar_store.specs.Slots.{ClassHolds, SlotHolds, BesideHold}
 use Rattle.ar_store.specs.Kept.{IsKept}
-use Rattle.ar_store.specs.Placing.{slot_at, IsVacant}
+use Rattle.ar_store.specs.Placing.{IsVacant}
 use Rattle.ar_store.specs.Calls.{IsOpened, HoldsZeros}
 use Rattle.ar_moves.specs.Demotion.{HoldsZerosBeside}
 use Rattle.ar_moves.specs.Cleaning.{NamesCleaning, NamesCleaningOf}

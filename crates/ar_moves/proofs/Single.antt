@@ -9,7 +9,7 @@ use Rattle.ar_book.specs.declared.class.Class.{Class}
 use Rattle.ar_book.specs.declared.class.Class.TheVariants.{Mirrored, Parity}
 use Rattle.ar_book.specs.declared.class.Slot.{Slot}
 use Rattle.ar_book.specs.Tables.{Tables, UnitTableState, key_at, HasBlock}
-use Rattle.ar_book.specs.Changes.{opened}
+use Rattle.ar_book.specs.Changes.{opened, slot_at}
 use Rattle.ar_book.specs.Choices.{IsUpTo, IsNoNewer, IsLowestFree, place_of}
 use Rattle.ar_book.specs.Book.{TablesAgree}
 use Rattle.ar_book.specs.Cleaning.{IsNoFuller, IsFirstBlock, IsLowestHoleBeside}
@@ -19,7 +19,7 @@ use Rattle.ar_book.proofs.UnitLemmas.{has_by_block}
 use Rattle.ar_book.proofs.UnitPlaces.{some_place}
 use Rattle.ar_extents.specs.declared.health.Health.TheVariants.{Broken as AllBroken}
 use Rattle.ar_store.specs.Store.{StoreState}
-use Rattle.ar_store.specs.Placing.{slot_at, HasNoHole}
+use Rattle.ar_store.specs.Placing.{HasNoHole}
 use Rattle.ar_store.specs.Calls.{BreaksOpening}
 use Rattle.ar_moves.specs.Demotion.{IsOldestMirrored, IsSlotFor, LeavesReady}
 use Rattle.ar_moves.specs.Cleaning.{NamesCleaningOf, NamesCleaning}

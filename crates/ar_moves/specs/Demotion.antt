@@ -6,11 +6,11 @@ use Rattle.ar_disks.specs.declared.address.Key.{Key}
 use Rattle.ar_book.specs.declared.class.Class.TheVariants.{Parity}
 use Rattle.ar_book.specs.declared.class.Slot.{Slot}
 use Rattle.ar_book.specs.Tables.{Tables, free_groups}
-use Rattle.ar_book.specs.Changes.{Moved}
+use Rattle.ar_book.specs.Changes.{Moved, slot_at}
 use Rattle.ar_book.specs.Choices.{IsMirrored, IsNoNewer, IsLowestFree}
 use Rattle.ar_store.specs.Store.{StoreState}
 use Rattle.ar_store.specs.Slots.{SlotHolds, BesideHold}
-use Rattle.ar_store.specs.Placing.{slot_at, IsLowestHole, HasNoHole}
+use Rattle.ar_store.specs.Placing.{IsLowestHole, HasNoHole}
 use Rattle.ar_store.specs.Calls.{IsOpened}
 use Rattle.ar_extents.specs.Plans.{CarriesOut}
 use Rattle.ar_store.specs.Plans.{move_plan}

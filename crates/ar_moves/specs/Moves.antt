@@ -6,10 +6,10 @@ use Rattle.ar_extents.specs.declared.health.Health.TheVariants.{Broken as AllBro
 use Rattle.ar_book.specs.declared.class.Class.TheVariants.{Parity}
 use Rattle.ar_book.specs.declared.class.Slot.{Slot}
 use Rattle.ar_book.specs.Tables.{Tables}
-use Rattle.ar_book.specs.Changes.{opened, Moved as TablesMoved}
+use Rattle.ar_book.specs.Changes.{opened, Moved as TablesMoved, slot_at}
 use Rattle.ar_store.specs.Store.{StoreState, store_of, members_of}
 use Rattle.ar_store.specs.Slots.{AllStand}
-use Rattle.ar_store.specs.Placing.{slot_at, SameUnits}
+use Rattle.ar_store.specs.Placing.{SameUnits}
 use Rattle.ar_extents.specs.Plans.{CarriesOut}
 use Rattle.ar_store.specs.Plans.{move_plan, FillsWithZeros}
 use Rattle.ar_store.specs.Calls.{IsAccessed}

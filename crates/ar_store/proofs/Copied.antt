@@ -1,6 +1,6 @@
 -- What a squeeze makes of the slots: all stripes of a free group are written, and then its slots become homes.
 use Rattle.std.proofs.Common.{◌≡◌, ◌≢◌, inl, inr, ℕ, ◌*◌, ◌<◌, ◌≤◌, List, length, Some, sym, ap, subst, ◌∙◌}
-use Rattle.std.proofs.Common.{refl, arith}
+use Rattle.std.proofs.Common.{zero, suc, Option, None, IsSome, refl, arith}
 use Rattle.std.proofs.lemmas.Bool.{cases_lt}
 use Rattle.std.proofs.lemmas.Bool.Decides.{eqb_tells}
 use Rattle.ar_disks.specs.Block.{zeros}
@@ -24,31 +24,30 @@ use Rattle.ar_mirror.specs.Holds.{Holds as MirrorHolds}
 use Rattle.ar_mirror.proofs.Frames.{disjoint_holds as mirror_disjoint}
 use Rattle.ar_parity.specs.Group.{Holds as ParityHolds}
 use Rattle.ar_book.specs.declared.class.Class.{Class}
-use Rattle.ar_book.specs.declared.class.Class.TheVariants.{Mirrored, Parity}
+use Rattle.ar_book.specs.declared.class.Class.TheVariants.{Free, Mirrored, Parity}
 use Rattle.ar_book.specs.declared.class.Slot.{Slot}
-use Rattle.ar_book.specs.Tables.{Tables, group_in, class_of, key_at, slots_of, HasBlock}
-use Rattle.ar_book.specs.Changes.{assigned, opened}
-use Rattle.ar_book.specs.Choices.{IsFullMirrored, IsLowestFree}
-use Rattle.ar_book.proofs.AfterOpen.{opened_members}
-use Rattle.ar_book.proofs.Homes.{key_home}
-use Rattle.ar_store.specs.declared.space.Space.{Space}
+use Rattle.ar_book.specs.Tables.{Tables, group_in, class_of, key_at, home, slots_of, HasBlock}
+use Rattle.ar_book.specs.Changes.{assigned, opened, slot_at, moved_first, CanMove}
+use Rattle.ar_book.specs.Choices.{IsEmpty, IsFullMirrored, IsLowestFree}
+use Rattle.ar_book.proofs.AfterOpen.{opened_group_count, opened_members, opened_key, opened_class, opened_class_other}
+use Rattle.ar_book.proofs.GroupMoves.{IsMoving, moving, move_next, slot_there}
+use Rattle.ar_book.proofs.Homes.{key_home, key_block}
 use Rattle.ar_store.specs.Store.{StoreState, store_of, members_of}
 use Rattle.ar_store.specs.Slots.{ClassHolds, SlotHolds, HoldsBlock, SlotsHold, AllStand, stands}
 use Rattle.ar_store.specs.Slots.{HoldsSources, HoldsCopy, HoldsCopies}
 use Rattle.ar_store.specs.Calls.{IsAccessed, IsZerosFrom}
 use Rattle.ar_store.specs.Kept.{IsSpace}
-use Rattle.ar_store.specs.Placing.{slot_at, moved_first, IsVacant, IsSqueezed, SameUnits}
+use Rattle.ar_store.specs.Placing.{IsVacant, IsSqueezed, SameUnits}
 use Rattle.ar_store.specs.Plans.{squeeze_plan, CarriesOutSqueeze}
-use Rattle.ar_store.specs.Spaces.{store_in}
 use Rattle.ar_store.proofs.Options.{some_value}
 use Rattle.ar_store.proofs.Classes.{class_disjoint}
 use Rattle.ar_store.proofs.Spaces.{groups_apart, held_then, space_accessed}
-use Rattle.ar_store.proofs.Standing.{all_stand, stands_held}
+use Rattle.ar_store.proofs.Standing.{all_stand, stands_held, stands_whole}
 use Rattle.ar_store.proofs.Changes.{space_moved, others_moved, block_moved, units_assigned, units_opened}
-use Rattle.ar_store.proofs.Changes.{mirrored_not_free}
+use Rattle.ar_store.proofs.Changes.{mirrored_not_free, units_refl, units_then}
 use Rattle.ar_store.proofs.Fills.{accessed_refl}
 use Rattle.ar_store.proofs.Openings.{HoldsWhole, space_filled, stand_filled}
-use Rattle.ar_store.proofs.Squeezing.{IsSqueezing, same_free}
+use Rattle.ar_store.proofs.Squeezing.{same_free}
 use Rattle.ar_store.proofs.Planned.{first_members, only_squeeze}
 
 -- the group that is copied isn't the one that it is copied to
@@ -193,39 +192,103 @@ rehomed a t u k to space has vacant len holds is =
       };
     })
 
--- groups keep their members while blocks move
-pub members_moved : {X : Type 0} (old now : Space X) (from to i g : ℕ) → IsSqueezing old now from to i
-    → members_of (store_in now) g ≡ members_of (store_in old) g
-members_moved old now from to i g so_far =
-    ap (λ (x : Tables). (group_in x.groups g).members) so_far.moving.tables ∙ first_members old.book from to i g
-
 -- the slot with the same number holds the next block
-pub copy_stands : {X : Type 0} (old now : Space X) (from to i : ℕ) (k : Key) → IsSqueezing old now from to i
-    → now.disks ≡ old.disks → i < slots_of old.book.geometry Mirrored → key_at now.book (slot_at from i) ≡ Some k
-    → HoldsCopies (members_of (store_in old) from) (members_of (store_in old) to) old.disks
-    → SlotHolds (store_in now) (slot_at to i) (stands (store_in now) k)
-copy_stands old now from to i k so_far disks inside names copies =
-    let s = store_in now in
-    let space = so_far.stays.ready.space in
-    let held_now : HoldsCopies (members_of (store_in old) from) (members_of (store_in old) to) now.disks =
-    subst (λ (d : SetState). HoldsCopies (members_of (store_in old) from) (members_of (store_in old) to) d) (sym disks)
-    copies in
-    let geometry : old.book.geometry ≡ now.disks.geometry = sym so_far.moving.geometry ∙ space.geometry in
-    let fits : i < slots_of now.disks.geometry Mirrored =
-    subst (λ (g : Geometry). i < slots_of g Mirrored) geometry inside in
-    let held = held_now i (omega arith) in
-    let P : Members → Type 0 = λ m. ClassHolds Mirrored now.disks m i held.block in
-    let Q : Class → Type 0 = λ c. ClassHolds c now.disks (members_of s from) i held.block in
-    let R : Members → Type 0 = λ m. ClassHolds Parity now.disks m i held.block in
-    let S : Class → Type 0 = λ c. ClassHolds c now.disks (members_of s to) i held.block in
+copy_stands : (a : SetState) (t u : Tables) (from to i : ℕ) (k : Key) → IsMoving t from to i u
+    → IsSpace (store_of a u) → a.health ≢ Broken → i < slots_of t.geometry Mirrored
+    → key_at u (slot_at from i) ≡ Some k
+    → HoldsCopies (group_in t.groups from).members (group_in t.groups to).members a
+    → SlotHolds (store_of a u) (slot_at to i) (stands (store_of a u) k)
+copy_stands a t u from to i k so_far space sound inside names copies =
+    let s = store_of a u in
+    let geometry : t.geometry ≡ a.geometry = sym so_far.geometry ∙ space.geometry in
+    let fits : i < slots_of a.geometry Mirrored = subst (λ (g : Geometry). i < slots_of g Mirrored) geometry inside in
+    let held = copies i (omega arith) in
+    let P : Members → Type 0 = λ m. ClassHolds Mirrored a m i held.block in
+    let Q : Class → Type 0 = λ c. ClassHolds c a (group_in u.groups from).members i held.block in
+    let R : Members → Type 0 = λ m. ClassHolds Parity a m i held.block in
+    let S : Class → Type 0 = λ c. ClassHolds c a (group_in u.groups to).members i held.block in
     let source : SlotHolds s (slot_at from i) held.block =
-    subst Q (sym (so_far.moving.open_from inside))
-    (subst P (sym (members_moved old now from to i from so_far)) (held.source.held fits)) in
+    subst Q (sym (so_far.open_from inside)) (subst P (sym (so_far.members from)) (held.source.held fits)) in
     let copy : SlotHolds s (slot_at to i) held.block =
-    subst S (sym so_far.moving.opened) (subst R (sym (members_moved old now from to i to so_far)) held.copy) in
-    let reads = stands_held s k (slot_at from i) held.block space so_far.sound
-    (key_home now.book space.tables (slot_at from i) k names) source in
+    subst S (sym so_far.opened) (subst R (sym (so_far.members to)) held.copy) in
+    let reads = stands_held s k (slot_at from i) held.block space sound
+    (key_home u space.tables (slot_at from i) k names) source in
     subst (λ (block : List ℕ). SlotHolds s (slot_at to i) block) (sym reads) copy
+
+-- the first i blocks have moved to slots that hold copies of them
+first_rehomed : (a : SetState) (t : Tables) (from to i : ℕ) → IsSpace (store_of a t) → CanMove t from to
+    → a.health ≢ Broken → HoldsCopies (group_in t.groups from).members (group_in t.groups to).members a
+    → i ≤ slots_of t.geometry Mirrored → IsRehomed a t (moved_first t from to i)
+first_rehomed a t from to zero space can sound copies le =
+    record { space = space; units = units_refl t; stand = record { blocks = λ _ k. refl } }
+first_rehomed a t from to (suc i) space can sound copies le =
+    let u = moved_first t from to i in
+    let before = first_rehomed a t from to i space can sound copies (omega arith) in
+    let so_far = moving t from to i space.tables can (omega arith) in
+    let next = move_next t u from to i space.tables can so_far (omega arith) in
+    let vacant : IsVacant u (slot_at to i) = record { there = next.there; empty = next.empty } in
+    let step = rehomed a u (assigned u next.key (slot_at to i)) next.key (slot_at to i) before.space
+    (key_block u so_far.agree (slot_at from i) next.key next.names) vacant
+    (stands_whole (store_of a u) next.key before.space sound)
+    (copy_stands a t u from to i next.key so_far before.space sound (omega arith) next.names copies) refl in
+    subst (λ (x : Tables). IsRehomed a t x) (sym next.next) (record {
+      space = step.space;
+      units = units_then t u (assigned u next.key (slot_at to i)) before.units step.units;
+      stand = record { blocks = λ _ k. step.stand.blocks sound k ∙ before.stand.blocks sound k };
+    })
+
+-- All blocks have moved from one group to another, which was free and is opened for them.
+pub record HasMoved (a : SetState) (t u v : Tables) (from to : ℕ) : Type 0 where
+  pub after : IsRehomed a t v
+  pub emptied : class_of v from ≡ Free
+  pub opened : class_of v to ≡ Parity
+  pub hole : IsVacant v (slot_at to (slots_of u.geometry Mirrored))
+  pub unplaced : (k : Key) → home t k ≡ None → home v k ≡ None
+
+-- the group that was opened can take them
+pub opened_can : (t u : Tables) (from to : ℕ) → IsFullMirrored t from → IsLowestFree t to → u ≡ opened t to Parity
+    → IsEmpty u to → CanMove u from to
+opened_can t u from to full free is empty =
+    let P : Tables → Type 0 = λ x. IsEmpty x to → CanMove x from to in
+    subst P (sym is) (λ none. record {
+      from_there = subst (λ n. from < n) (sym (opened_group_count t to Parity)) full.there;
+      to_there = subst (λ n. to < n) (sym (opened_group_count t to Parity)) free.there;
+      mirrored = opened_class_other t to Parity from (from_to_apart t from to full free) ∙ full.mirrored;
+      full = λ i lt.
+          subst (λ (o : Option Key). IsSome o) (sym (opened_key t to Parity (slot_at from i))) (full.full i lt);
+      opened = opened_class t to Parity free.there;
+      empty = none;
+    }) empty
+
+pub has_moved : (a : SetState) (t u v : Tables) (from to : ℕ) → IsSpace (store_of a t) → a.health ≢ Broken
+    → IsFullMirrored t from → IsLowestFree t to → u ≡ opened t to Parity → IsEmpty u to
+    → HoldsCopies (group_in t.groups from).members (group_in t.groups to).members a
+    → v ≡ moved_first u from to (slots_of u.geometry Mirrored) → HasMoved a t u v from to
+has_moved a t u v from to space sound full free is empty copies made =
+    let all = slots_of u.geometry Mirrored in
+    let can = opened_can t u from to full free is empty in
+    let opening = opened_copy a t u from to space free is copies in
+    let same : (g : ℕ) → (group_in u.groups g).members ≡ (group_in t.groups g).members = λ g.
+    ap (λ (x : Tables). (group_in x.groups g).members) is ∙ opened_members t to Parity g in
+    let P : Members → Type 0 = λ m. HoldsCopies m (group_in t.groups to).members a in
+    let Q : Members → Type 0 = λ m. HoldsCopies (group_in u.groups from).members m a in
+    let held = subst Q (sym (same to)) (subst P (sym (same from)) copies) in
+    let moves = subst (λ (x : Tables). IsRehomed a u x) (sym made)
+    (first_rehomed a u from to all opening.space can sound held (omega arith)) in
+    let moved = subst (λ (x : Tables). IsMoving u from to all x) (sym made)
+    (moving u from to all opening.space.tables can (omega arith)) in
+    let hole = slot_there u v from to all can moved (omega arith) in
+    record {
+      after = record {
+        space = moves.space;
+        units = units_then t u v opening.units moves.units;
+        stand = record { blocks = λ _ k. moves.stand.blocks sound k ∙ opening.stand.blocks sound k };
+      };
+      emptied = moved.freed (omega arith);
+      opened = moved.opened;
+      hole = record { there = hole; empty = moved.empty all (omega arith) };
+      unplaced = λ k none. moved.unplaced k (ap (λ (x : Tables). home x k) is ∙ none);
+    }
 
 -- the slots behind the last block hold zeros
 pub copies_zeros : (a : SetState) (u : Tables) (from to : Members) (g n : ℕ) → (group_in u.groups g).members ≡ to

@@ -11,8 +11,9 @@ use Rattle.ar_book.specs.declared.class.Slot.{Slot}
 use Rattle.ar_book.specs.Tables.{GroupState, Tables, group_in, class_of, key_at, slots_of, is_free, free_groups}
 use Rattle.ar_book.specs.Choices.{IsLowestFree, IsFullMirrored, HasUnplacedBlock}
 use Rattle.ar_book.specs.Book.{TablesAgree}
+use Rattle.ar_book.specs.Changes.{slot_at}
 use Rattle.ar_book.proofs.CountLemmas.{some_mirrored, full_group}
-use Rattle.ar_store.specs.Placing.{slot_at, IsLowestHole, HasNoHole}
+use Rattle.ar_store.specs.Placing.{IsLowestHole, HasNoHole}
 
 -- the lowest number below n of which P holds
 record IsLowest (P : ℕ → Type 0) (n m : ℕ) : Type 0 where

@@ -11,8 +11,9 @@ use Rattle.ar_book.specs.declared.class.Level.TheVariants.{Unplaced, Mirrored as
 use Rattle.ar_book.specs.declared.class.Slot.{Slot}
 use Rattle.ar_book.specs.Tables.{home, level, slots_of, free_groups}
 use Rattle.ar_book.specs.Choices.{IsLowestFree, IsFullMirrored}
+use Rattle.ar_book.specs.Changes.{slot_at}
 use Rattle.ar_store.specs.Store.{StoreState, members_of}
-use Rattle.ar_store.specs.Placing.{slot_at, IsLowestHole, HasNoHole}
+use Rattle.ar_store.specs.Placing.{IsLowestHole, HasNoHole}
 use Rattle.ar_store.specs.Plans.{write_as, squeezing_plan, CarriesOutPut}
 use Rattle.ar_store.specs.Plans.{IsPutPlan, in_place, to_mirrored_hole, to_opened_group, in_parity_place}
 use Rattle.ar_store.specs.Plans.{to_parity_hole, by_squeeze}

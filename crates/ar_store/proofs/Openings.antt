@@ -21,7 +21,7 @@ use Rattle.ar_book.specs.declared.class.Class.TheVariants.{Free, Mirrored, Parit
 use Rattle.ar_book.specs.declared.class.Slot.{Slot}
 use Rattle.ar_book.specs.Tables.{Tables, group_in, class_of, home, free_groups}
 use Rattle.ar_book.specs.Book.{TablesAgree}
-use Rattle.ar_book.specs.Changes.{opened}
+use Rattle.ar_book.specs.Changes.{opened, slot_at}
 use Rattle.ar_book.specs.Choices.{IsLowestFree}
 use Rattle.ar_book.proofs.Homes.{home_key, home_slot, key_slot}
 use Rattle.ar_book.proofs.AfterOpen.{opened_group_count, opened_members, opened_key, opened_class, opened_class_other}
@@ -30,7 +30,7 @@ use Rattle.ar_store.specs.declared.open.Opening.TheVariants.{Opened, Idle, Broke
 use Rattle.ar_store.specs.Store.{store_of}
 use Rattle.ar_store.specs.Slots.{ClassHolds, SlotHolds, HoldsBlock, stands, AllStand}
 use Rattle.ar_store.specs.Kept.{IsSpace}
-use Rattle.ar_store.specs.Placing.{slot_at, SameUnits, MayOpen}
+use Rattle.ar_store.specs.Placing.{SameUnits, MayOpen}
 use Rattle.ar_store.specs.Calls.{IsAccessed, HoldsZeros}
 use Rattle.ar_store.proofs.Classes.{class_disjoint}
 use Rattle.ar_store.proofs.Spaces.{groups_apart, slot_group}

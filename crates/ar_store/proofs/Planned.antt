@@ -12,7 +12,7 @@ use Rattle.ar_book.specs.declared.class.Class.TheVariants.{Free, Mirrored, Parit
 use Rattle.ar_book.specs.declared.class.Level.TheVariants.{Mirrored as MirroredLevel, Parity as ParityLevel}
 use Rattle.ar_book.specs.declared.class.Slot.{Slot}
 use Rattle.ar_book.specs.Tables.{Tables, group_in, class_of, home, level_of, slots_of}
-use Rattle.ar_book.specs.Changes.{opened}
+use Rattle.ar_book.specs.Changes.{opened, slot_at, moved_from, moved_first}
 use Rattle.ar_book.specs.Choices.{IsFullMirrored, IsLowestFree}
 use Rattle.ar_book.proofs.Homes.{home_level}
 use Rattle.ar_book.proofs.AfterAssign.{assigned_members}
@@ -20,7 +20,7 @@ use Rattle.ar_book.proofs.AfterOpen.{opened_class, opened_members}
 use Rattle.ar_store.specs.declared.way.Way.{Way}
 use Rattle.ar_store.specs.declared.way.Way.TheVariants.{Home, Hole, Broken}
 use Rattle.ar_store.specs.Store.{StoreState, members_of, class_in}
-use Rattle.ar_store.specs.Placing.{slot_at, moved_from, moved_first, squeezed, LeadsHome, LeadsToHole, Leads}
+use Rattle.ar_store.specs.Placing.{squeezed, LeadsHome, LeadsToHole, Leads}
 use Rattle.ar_store.specs.Placing.{IsReadyFor, HasNoWay, LeavesOpened}
 use Rattle.ar_store.specs.Calls.{IsZerosOnWay}
 use Rattle.ar_store.specs.Plans.{slot_write, home_read, get_plan, write_of, move_plan, fill_plan, open_plan, WritesSlot}

@@ -12,9 +12,10 @@ use Rattle.ar_book.specs.declared.class.Level.TheVariants.{Unplaced, Mirrored as
 use Rattle.ar_book.specs.declared.class.Slot.{Slot}
 use Rattle.ar_book.specs.Tables.{home, level, slots_of, free_groups, HasBlock}
 use Rattle.ar_book.specs.Choices.{HasUnplacedBlock}
+use Rattle.ar_book.specs.Changes.{slot_at}
 use Rattle.ar_store.specs.Store.{StoreState, members_of}
 use Rattle.ar_store.specs.Kept.{IsKept}
-use Rattle.ar_store.specs.Placing.{slot_at, HasNoHole}
+use Rattle.ar_store.specs.Placing.{HasNoHole}
 use Rattle.ar_store.specs.Calls.{WasBroken}
 use Rattle.ar_store.specs.Plans.{slot_write, write_as, squeeze_plan, squeezing_plan, SqueezesThenWrites}
 use Rattle.ar_store.specs.Plans.{AccessesByCase, CarriesOutPlan, CarriesOutPut}

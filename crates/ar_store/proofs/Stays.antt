@@ -1,9 +1,8 @@
 -- What calls of a space leave, one after another.
 use Rattle.ar_store.specs.declared.space.Space.{Space}
-use Rattle.ar_store.specs.Slots.{AllStand}
-use Rattle.ar_store.specs.Spaces.{store_in, IsReady, Stays}
+use Rattle.ar_store.specs.Spaces.{IsReady, Stays}
 use Rattle.ar_store.proofs.Changes.{units_refl, units_then}
-use Rattle.ar_store.proofs.Fills.{accessed_refl, accessed_then, stand_then}
+use Rattle.ar_store.proofs.Fills.{accessed_refl, accessed_then}
 
 -- no call
 pub stays_refl : {X : Type 0} (s : Space X) → IsReady s → Stays s s
@@ -16,8 +15,3 @@ stays_then a b c ab bc = record {
   units = units_then a.book b.book c.book ab.units bc.units;
   accessed = accessed_then a.disks b.disks c.disks ab.accessed bc.accessed;
 }
-
-pub all_then : {X : Type 0} (a b c : Space X) → Stays b c → AllStand (store_in a) (store_in b)
-    → AllStand (store_in b) (store_in c)
-    → AllStand (store_in a) (store_in c)
-all_then a b c bc first second = stand_then (store_in a) (store_in b) (store_in c) bc.accessed.follows first second

@@ -10,16 +10,17 @@ use Rattle.ar_book.specs.declared.class.Slot.{Slot}
 use Rattle.ar_book.specs.Tables.{Tables, home, level, level_in, level_of, class_of, slots_of, free_groups, HasBlock}
 use Rattle.ar_book.specs.Book.{TablesAgree}
 use Rattle.ar_book.proofs.Homes.{home_key, home_level, key_class}
-use Rattle.ar_book.specs.Changes.{stamped, opened}
+use Rattle.ar_book.specs.Changes.{stamped, opened, slot_at}
 use Rattle.ar_book.specs.Choices.{HasUnplacedBlock, IsUpTo, IsHole, IsLowestFree}
 use Rattle.ar_book.proofs.Keys.{make_slot}
 use Rattle.ar_book.proofs.AfterOpen.{opened_group_count, opened_class, opened_empty}
-use Rattle.ar_store.proofs.Squeezing.{mirrored_some, same_free}
+use Rattle.ar_book.proofs.GroupMoves.{mirrored_some}
+use Rattle.ar_store.proofs.Squeezing.{same_free}
 use Rattle.ar_extents.specs.Set.{SetState}
 use Rattle.ar_store.specs.Store.{store_of}
 use Rattle.ar_store.specs.declared.way.Way.{Way}
 use Rattle.ar_store.specs.declared.way.Way.TheVariants.{Home, Hole, Broken}
-use Rattle.ar_store.specs.Placing.{slot_at, HasNoHole, IsLowestHole, LeadsHome, LeadsToHole, Leads, Puts}
+use Rattle.ar_store.specs.Placing.{HasNoHole, IsLowestHole, LeadsHome, LeadsToHole, Leads, Puts}
 use Rattle.ar_store.specs.Placing.{IsMirroredHole, HasNoMirroredHole, HasNoWay, WantsGroup, MayHavePrepared, IsSqueezed}
 use Rattle.ar_store.specs.Placing.{IsVacant, IsThere, IsWayIn, MayOpen, IsReadyFor, placed_by, put_in}
 

@@ -18,13 +18,13 @@ use Rattle.ar_book.specs.declared.class.Class.TheVariants.{Free, Mirrored, Parit
 use Rattle.ar_book.specs.declared.class.Slot.{Slot}
 use Rattle.ar_book.specs.declared.class.Level.TheVariants.{Unplaced}
 use Rattle.ar_book.specs.Tables.{Tables, class_of, level, slots_of, free_groups}
-use Rattle.ar_book.specs.Changes.{stamped}
+use Rattle.ar_book.specs.Changes.{stamped, slot_at}
 use Rattle.ar_store.specs.declared.way.Way.{Way}
 use Rattle.ar_store.specs.declared.way.Way.TheVariants.{Home, Hole, Broken}
 use Rattle.ar_store.specs.Store.{StoreState, store_of, class_in}
 use Rattle.ar_store.specs.Slots.{SlotHolds, BesideHold}
 use Rattle.ar_store.specs.Kept.{IsSpace}
-use Rattle.ar_store.specs.Placing.{slot_at, HasNoHole, IsVacant, IsReadyFor, IsWayIn, Leads, MayOpen}
+use Rattle.ar_store.specs.Placing.{HasNoHole, IsVacant, IsReadyFor, IsWayIn, Leads, MayOpen}
 use Rattle.ar_store.specs.Calls.{HoldsZerosFrom, LeavesZeros, IsZerosOnWay, BesideWay}
 use Rattle.ar_store.proofs.Ways.{unplaced_not_mirrored, unplaced_not_parity}
 

@@ -10,7 +10,7 @@ use Rattle.ar_book.specs.declared.class.Class.{Class}
 use Rattle.ar_book.specs.declared.class.Class.TheVariants.{Mirrored, Parity}
 use Rattle.ar_book.specs.declared.class.Slot.{Slot}
 use Rattle.ar_book.specs.Tables.{Tables, home, slots_of, free_groups}
-use Rattle.ar_book.specs.Changes.{opened}
+use Rattle.ar_book.specs.Changes.{opened, slot_at}
 use Rattle.ar_book.specs.Choices.{IsFullMirrored, IsLowestFree}
 use Rattle.ar_store.specs.declared.open.Opening.{Opening}
 use Rattle.ar_store.specs.declared.open.Opening.TheVariants.{Opened, Idle, Broken as NotOpened}
@@ -18,7 +18,7 @@ use Rattle.ar_store.specs.declared.way.Way.{Way}
 use Rattle.ar_store.specs.declared.way.Way.TheVariants.{Home, Hole, Broken as NoWay}
 use Rattle.ar_store.specs.Store.{StoreState, class_in}
 use Rattle.ar_store.specs.Slots.{SlotHolds, BesideHold}
-use Rattle.ar_store.specs.Placing.{slot_at, HasNoHole, HasNoWay, SameUnits, MayHavePrepared, LeavesOpened, IsSqueezed}
+use Rattle.ar_store.specs.Placing.{HasNoHole, HasNoWay, SameUnits, MayHavePrepared, LeavesOpened, IsSqueezed}
 use Rattle.ar_store.specs.Placing.{HasSqueezed}
 
 -- Rows were read and written: disks failed only by faults, and unassigned extents stay so. An extent that isn't used,

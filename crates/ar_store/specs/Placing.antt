@@ -1,5 +1,5 @@
 -- Where a put writes its block, and how that changes the tables.
-use Rattle.std.specs.Prelude.{◌≡◌, ◌≢◌, ◌⊎◌, ℕ, zero, suc, ◌<◌, ◌≤◌, length, Option, None, Some, IsSome}
+use Rattle.std.specs.Prelude.{◌≡◌, ◌≢◌, ◌⊎◌, ℕ, ◌<◌, ◌≤◌, length, None, Some}
 use Rattle.std.specs.Map.{keys_of}
 use Rattle.ar_disks.specs.declared.address.Addr.{Addr}
 use Rattle.ar_disks.specs.declared.address.Key.{Key}
@@ -11,14 +11,9 @@ use Rattle.ar_extents.specs.declared.health.Health.TheVariants.{Broken as AllBro
 use Rattle.ar_store.specs.Store.{StoreState}
 use Rattle.ar_store.specs.declared.way.Way.{Way}
 use Rattle.ar_store.specs.declared.way.Way.TheVariants.{Home, Hole, Broken}
-use Rattle.ar_book.specs.Tables.{Tables, HasSlot, key_at, home, level, slots_of, class_of, free_groups, unit_in}
-use Rattle.ar_book.specs.Tables.{reserved}
-use Rattle.ar_book.specs.Changes.{assigned, stamped, opened}
+use Rattle.ar_book.specs.Tables.{Tables, HasSlot, key_at, home, level, slots_of, free_groups, unit_in, reserved}
+use Rattle.ar_book.specs.Changes.{assigned, stamped, opened, slot_at, moved_first}
 use Rattle.ar_book.specs.Choices.{IsHole, IsUpTo, IsLowestFree, IsFullMirrored}
-
--- the slot with a number in a group
-abbrev pub slot_at : ℕ → ℕ → Slot
-slot_at group slot = record { group = group; slot = slot }
 
 -- the first hole of a class in slot order
 pub record IsLowestHole (t : Tables) (c : Class) (s : Slot) : Type 0 where
@@ -33,16 +28,6 @@ pub record IsVacant (t : Tables) (s : Slot) : Type 0 where
 -- no group of a class has a hole
 pub record HasNoHole (t : Tables) (c : Class) : Type 0 where
   pub none : (s : Slot) → IsHole t c s → ⊥
-
--- the tables with the block that a slot named, if any, mapped to another slot
-abbrev pub moved_from : Tables → Option Key → Slot → Tables
-moved_from t None to = t
-moved_from t (Some k) to = assigned t k to
-
--- the tables with the blocks of the group's first n slots mapped to the slots with the same numbers of another
-abbrev pub moved_first : Tables → ℕ → ℕ → ℕ → Tables
-moved_first t from to zero = t
-moved_first t from to (suc n) = moved_from (moved_first t from to n) (key_at t (slot_at from n)) (slot_at to n)
 
 -- The squeeze: a free group is opened for parity, and all blocks of a mirrored group move there in slot order. The
 -- mirrored group is free then, and the parity group has as many holes as it has slots more.
@@ -131,15 +116,6 @@ pub record IsSqueezed (t new : Tables) (s : Slot) : Type 0 where
   pub empty : IsVacant new s
   pub tables : (from to : ℕ) → IsFullMirrored t from → IsLowestFree t to
       → (new ≡ squeezed t from to) × (s ≡ slot_at to (slots_of t.geometry Mirrored))
-
--- all blocks of a full mirrored group can move to an empty parity group
-pub record CanMove (t : Tables) (from to : ℕ) : Type 0 where
-  pub from_there : from < length t.groups
-  pub to_there : to < length t.groups
-  pub mirrored : class_of t from ≡ Mirrored
-  pub full : (i : ℕ) → i < slots_of t.geometry Mirrored → IsSome (key_at t (slot_at from i))
-  pub opened : class_of t to ≡ Parity
-  pub empty : (i : ℕ) → key_at t (slot_at to i) ≡ None
 
 -- the lowest of two or more free groups was opened as mirrored
 pub record HasOpened (t new : Tables) : Type 0 where

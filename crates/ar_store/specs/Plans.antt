@@ -23,11 +23,12 @@ use Rattle.ar_book.specs.declared.class.Level.TheVariants.{Unplaced, Mirrored as
 use Rattle.ar_book.specs.declared.class.Slot.{Slot}
 use Rattle.ar_book.specs.Tables.{Tables, home, level, slots_of, free_groups}
 use Rattle.ar_book.specs.Choices.{IsLowestFree, IsFullMirrored}
+use Rattle.ar_book.specs.Changes.{slot_at}
 use Rattle.ar_store.specs.declared.way.Way.{Way}
 use Rattle.ar_store.specs.declared.way.Way.TheVariants.{Home, Hole, Broken}
 use Rattle.ar_store.specs.Store.{StoreState, members_of, class_in}
 use Rattle.ar_store.specs.Slots.{ClassHolds, HoldsSources}
-use Rattle.ar_store.specs.Placing.{slot_at, squeezed, HasNoHole, HasNoWay, IsLowestHole}
+use Rattle.ar_store.specs.Placing.{squeezed, HasNoHole, HasNoWay, IsLowestHole}
 use Rattle.ar_store.specs.Calls.{WasBroken}
 
 -- the read of a slot of four extents in the layout of a class, and its write

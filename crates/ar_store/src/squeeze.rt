@@ -9,7 +9,7 @@
 use crate::space::Space;
 use crate::stripes::copy_group;
 use ar_book::{Class, Slot};
-use ar_disks::{Block, Completion, Disk, Key};
+use ar_disks::{Block, Completion, Disk};
 use ar_index::Steps;
 
 impl<D: Disk> Space<D> {
@@ -20,15 +20,14 @@ impl<D: Disk> Space<D> {
     ghost use Rattle.ar_extents.specs.declared.health.Health.TheVariants.{Broken};
     ghost use Rattle.ar_extents.specs.Groups.{outcome_of};
     ghost use Rattle.ar_extents.specs.Plans.{CarriesOut};
-    ghost use Rattle.ar_book.specs.declared.class.Class.TheVariants.{Free, Mirrored, Parity};
-    ghost use Rattle.ar_book.specs.Tables.{home, class_of, slots_of, free_groups, HasBlock};
-    ghost use Rattle.ar_book.specs.Changes.{assigned};
+    ghost use Rattle.ar_book.specs.declared.class.Class.TheVariants.{Mirrored, Parity};
+    ghost use Rattle.ar_book.specs.Tables.{home, free_groups};
     ghost use Rattle.ar_book.specs.Choices.{HasUnplacedBlock, IsFullMirrored, IsLowestFree};
     ghost use Rattle.ar_store.specs.Store.{members_of};
-    ghost use Rattle.ar_store.specs.Slots.{AllStand, HoldsSources, HoldsCopies, SlotHolds, stands};
+    ghost use Rattle.ar_store.specs.Slots.{AllStand, HoldsSources, HoldsCopies};
     ghost use Rattle.ar_store.specs.Calls.{LeavesHole, BreaksSqueeze};
     ghost use Rattle.ar_store.specs.Plans.{squeeze_plan, CarriesOutSqueeze};
-    ghost use Rattle.ar_store.specs.Placing.{slot_at, moved_first, IsVacant, HasNoHole, CanMove};
+    ghost use Rattle.ar_store.specs.Placing.{HasNoHole};
     ghost use Rattle.ar_store.specs.Spaces.{store_in, IsReady, Stays};
 
     /// Copies all blocks of the lowest full mirrored group to the only free group, which becomes a parity group and
@@ -105,54 +104,10 @@ impl<D: Disk> Space<D> {
         ensures stays { Stays self.old self.new }
     {
         let to = self.book.open_last(Class::Parity);
-        self.move_all(from, to);
+        self.book.move_group(from, to, &mut Steps::new());
         Slot {
             group: to,
             slot: 2 * self.disks.geometry().rows(),
         }
-    }
-
-    // Makes the slots of an empty parity group the homes of all blocks of a full mirrored group, of which they hold
-    // copies, in slot order.
-    fn move_all(&mut self, from: u32, to: u32)
-        requires ready { IsReady self.old }
-        requires can { CanMove self.old.book from to }
-        requires sound { self.old.disks.health ≢ Broken }
-        requires copies { HoldsCopies (members_of (store_in self.old) from) (members_of (store_in self.old) to)
-            self.old.disks }
-
-        ensures moved { self.new.book
-            ≡ moved_first self.old.book from to (slots_of self.old.book.geometry Mirrored) }
-        ensures emptied { class_of self.new.book from ≡ Free }
-        ensures opened { class_of self.new.book to ≡ Parity }
-        ensures hole { IsVacant self.new.book (slot_at to (slots_of self.old.book.geometry Mirrored)) }
-
-        ensures disks { self.new.disks ≡ self.old.disks }
-        ensures unplaced { (k : Key) → home self.old.book k ≡ None → home self.new.book k ≡ None }
-        ensures stand { AllStand (store_in self.old) (store_in self.new) }
-        ensures stays { Stays self.old self.new }
-    {
-        for slot in 0..2 * self.disks.geometry().rows() {
-            let Some(key) = self.book.key_at(Slot { group: from, slot }) else {
-                unreachable!()
-            };
-            self.rehome(key, Slot { group: to, slot });
-        }
-    }
-
-    // Makes an empty slot, which holds the block that a key reads as, the key's home.
-    fn rehome(&mut self, key: Key, to: Slot)
-        requires ready { IsReady self.old }
-        requires block { HasBlock self.old.book key }
-        requires hole { IsVacant self.old.book to }
-        requires sound { self.old.disks.health ≢ Broken }
-        requires copy { SlotHolds (store_in self.old) to (stands (store_in self.old) key) }
-
-        ensures moved { self.new.book ≡ assigned self.old.book key to }
-        ensures disks { self.new.disks ≡ self.old.disks }
-        ensures stand { AllStand (store_in self.old) (store_in self.new) }
-        ensures stays { Stays self.old self.new }
-    {
-        self.book.assign(key, to, &mut Steps::new());
     }
 }

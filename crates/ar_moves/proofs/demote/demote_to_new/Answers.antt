@@ -1,8 +1,8 @@
 use Rattle.std.proofs.Common.{inr, refl, sym, subst}
-use Rattle.ar_store.specs.Placing.{slot_at}
 use Rattle.ar_moves.specs.Moves.{IsMovedTo}
 use Rattle.ar_book.specs.declared.class.Class.TheVariants.{Parity}
 use Rattle.ar_book.specs.Tables.{Tables}
+use Rattle.ar_book.specs.Changes.{slot_at}
 use Rattle.ar_moves.specs.Demotion.{DemotesTo, HoldsZerosBeside, MayHaveOpened}
 use Rattle.ar_moves.proofs.Answers.{if_moved_then, leaves_then, hole_made, ready_for, opens_slot, cut_tables}
 use Rattle.ar_moves.proofs.Answers.{cut_nothing, moved_beside}
