@@ -357,14 +357,12 @@ fn fetch_sectors<B: Backing>(
     ensures len { length block.new ≡ length block.old }
 {
     let len = count as usize * 512;
-    let Ok(mut own) = find_memory(alloc, len, spare, room, kept) else {
+    let is_lent = spare.len() == len;
+    let is_short = len <= SHORT && !is_lent;
+    let memory = if is_short { &mut *room } else { &mut *kept };
+    if take_memory(alloc, memory, len, spare).is_err() {
         return Reply::busy();
-    };
-    let memory = match &mut own {
-        Some(memory) => memory,
-        None if len <= SHORT => &mut *room,
-        None => &mut *kept,
-    };
+    }
     let read = read_sectors(
         blocks,
         geometry,
@@ -374,50 +372,49 @@ fn fetch_sectors<B: Backing>(
         block,
         memory.as_mut_slice(),
     );
-    reply_to_read(read, memory)
+    let reply = reply_to_read(read, memory);
+    if is_lent || len > KEPT {
+        // The reply alone holds it.
+        *memory = BytesMut::new(alloc);
+    }
+    reply
 }
 
-// Memory of `len` bytes for the data of a READ: what was lent, if it has this length, or what is allocated for more
-// than `KEPT` bytes. None says that they are in `room`, if at most `SHORT`, and else in `kept`.
-fn find_memory(
+// Makes `memory` `len` bytes long: by what was lent, if it has this length. What it held is of no more use.
+fn take_memory(
     alloc: Global,
+    memory: &mut BytesMut,
     len: usize,
     spare: &mut Vec<u8>,
-    room: &mut BytesMut,
-    kept: &mut BytesMut,
-) -> Result<Option<BytesMut>, AllocError>
-    ensures own { IfOk result (λ made. IfSome made (λ memory. length memory.items ≡ len)) }
-    ensures short { IfOk result (λ made. IfNone made (len ≤ 4096 → length room.new.items ≡ len)) }
-    ensures long { IfOk result (λ made. IfNone made (4096 < len → length kept.new.items ≡ len)) }
+) -> Result<(), AllocError>
+    ensures { OnOk result (length memory.new.items ≡ len) }
 {
     if spare.len() == len {
-        let lent = std::mem::replace(spare, Vec::new(alloc));
-        return Ok(Some(BytesMut::from_vec(lent)));
+        *memory = BytesMut::from_vec(std::mem::replace(spare, Vec::new(alloc)));
+        return Ok(());
     }
-    if len > KEPT {
-        return Ok(Some(BytesMut::from_vec(vec![in alloc; 0; len]?)));
-    }
-    if len <= SHORT {
-        take_room(alloc, room, len, ROOM)?;
-    } else {
-        take_room(alloc, kept, len, len)?;
-    }
-    Ok(None)
+    let size = if len <= SHORT { ROOM } else { len };
+    cut_memory(alloc, memory, len, size)
 }
 
-// Makes `room` `len` bytes long. What it held is of no more use. When too little of its memory is left, all of it is
-// used again if it has `size` bytes and no reply holds a part of it, and else dropped for `size` bytes of other memory:
-// memory of its own for each READ, zeroed, took a sixth of the time of a short one and a fifth of one of 64 KiB.
-fn take_room(alloc: Global, room: &mut BytesMut, len: usize, size: usize) -> Result<(), AllocError>
+// Makes `memory` `len` bytes long: by the next ones of its `size` bytes. When too few of them are left, all of them are
+// used again if no reply holds a part of them, and else dropped for `size` bytes of other memory: memory of its own for
+// each READ, zeroed, took a sixth of the time of a short one and a fifth of one of 64 KiB.
+fn cut_memory(
+    alloc: Global,
+    memory: &mut BytesMut,
+    len: usize,
+    size: usize,
+) -> Result<(), AllocError>
     requires { len ≤ size }
-    ensures { OnOk result (length room.new.items ≡ len) }
+    ensures { OnOk result (length memory.new.items ≡ len) }
 {
-    room.clear();
-    if room.capacity() >= len || room.try_reclaim(size) && room.capacity() == size {
-        room.advance_mut(len);
+    memory.clear();
+    if memory.capacity() >= len || memory.try_reclaim(size) && memory.capacity() == size {
+        memory.advance_mut(len);
     } else {
-        *room = BytesMut::from_vec(vec![in alloc; 0; size]?);
-        room.truncate(len);
+        *memory = BytesMut::from_vec(vec![in alloc; 0; size]?);
+        memory.truncate(len);
     }
     Ok(())
 }
