@@ -1,12 +1,12 @@
 -- What each change leaves of the book's invariant.
-use Rattle.std.proofs.Common.{◌≡◌, ℕ, ◌<◌, None, Some, length, sym, ap, ◌∙◌}
+use Rattle.std.proofs.Common.{◌≡◌, ℕ, ◌^◌, ◌<◌, List, None, Some, length, sym, ap, ◌∙◌, arith}
 use Rattle.std.proofs.lemmas.Option.{none-some}
 use Rattle.ar_disks.specs.declared.address.Key.{Key}
 use Rattle.ar_book.specs.declared.class.Slot.{Slot}
-use Rattle.ar_book.specs.Tables.{Tables, group_in, key_in, key_at, home, HasBlock, HasSlot}
+use Rattle.ar_book.specs.Tables.{GroupState, Tables, group_in, key_in, key_at, home, HasBlock, HasSlot}
 use Rattle.ar_book.specs.Changes.{named, assigned, released}
 use Rattle.ar_book.specs.Book.{TablesAgree, BookAgrees}
-use Rattle.ar_book.proofs.GroupLemmas.{there_group, there_slot, named_other}
+use Rattle.ar_book.proofs.GroupLemmas.{there_group, there_slot, named_other, few_groups}
 use Rattle.ar_book.proofs.UnitLemmas.{homed_reserved}
 use Rattle.ar_book.proofs.PlaceLemmas.{assigned_agrees, released_agrees}
 
@@ -38,3 +38,8 @@ released_kept t n k ok block = record {
   tables = released_agrees t k ok.tables block;
   total = ok.total ∙ sym (homed_reserved t.units k None block);
 }
+
+-- a group's number is below the one that stands for none, as long as there are as many groups
+pub still_few : (t : Tables) (new : List GroupState) → TablesAgree t → length new ≡ length t.groups
+    → length new < 2 ^ 32
+still_few t new ok same = omega (arith, few_groups t.geometry t.groups ok.groups)

@@ -98,7 +98,7 @@ impl Book {
         requires { 0 < free_groups self.now }
         ensures { IsLowestFree self.now result }
     {
-        match self.index.best().free {
+        match self.index.best().free.get() {
             Some(number) => number,
             None => unreachable!(),
         }

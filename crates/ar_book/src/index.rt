@@ -1,7 +1,7 @@
 // Keeps the search tree in step with the tables: the leaf of a group is what one scan of its slots finds. A change of a
 // group costs at most one scan and one climb.
-ghost use Rattle.std.specs.Prelude.{◌≡◌, ◌≢◌, ℕ, ◌+◌, ◌*◌, ◌<◌, ◌≤◌, length, slice_index_or, slice_set, true, false};
-ghost use Rattle.std.specs.Prelude.{Some, None, IfSome, IfNone};
+ghost use Rattle.std.specs.Prelude.{◌≡◌, ◌≢◌, ℕ, ◌+◌, ◌-◌, ◌*◌, ◌^◌, ◌<◌, ◌≤◌, length, slice_index_or, slice_set, true};
+ghost use Rattle.std.specs.Prelude.{false, Some, None, IfSome, IfNone};
 ghost use Rattle.std.specs.Option.{ForSome, MatchOption};
 ghost use Rattle.std.specs.Map.{lookup};
 ghost use Rattle.ar_disks.specs.Addresses.{same_addr};
@@ -15,7 +15,7 @@ ghost use Rattle.ar_book.specs.Index.{IsBlanked, IsLeafOrBlank, HaveChoices};
 use crate::group::slots_of;
 use crate::{Class, Group, Slot, UnitTable, Units};
 use ar_disks::{Addr, Geometry, Key};
-use ar_index::{Age, Choices, Steps, Tree};
+use ar_index::{Age, Choices, Lowest, Steps, Tree};
 
 // A unit's address and its table.
 type HeldUnit<'a> = (Addr, &'a UnitTable);
@@ -71,24 +71,26 @@ fn oldest_in(slots: &[Option<Key>], units: &Units, steps: &mut Steps) -> Option<
 }
 
 // The group's number, if it has an empty slot (a hole).
-fn if_open(group: &Group, number: u32, geometry: Geometry) -> Option<u32>
+fn if_open(group: &Group, number: u32, geometry: Geometry) -> Lowest
+    requires { number < 2 ^ 32 - 1 }
     ensures { result ≡ spec.if_open geometry number group.now }
 {
-    if group.used() < slots_of(geometry, group.class()) as usize {
+    Lowest::of(if group.used() < slots_of(geometry, group.class()) as usize {
         Some(number)
     } else {
         None
-    }
+    })
 }
 
 /// The leaf of a free group.
 pub(crate) fn free_leaf(number: u32) -> Choices
+    requires { number < 2 ^ 32 - 1 }
     ensures { result ≡ spec.free_leaf number }
 {
     Choices {
-        mirrored: None,
-        parity: None,
-        free: Some(number),
+        mirrored: Lowest::of(None),
+        parity: Lowest::of(None),
+        free: Lowest::of(Some(number)),
         oldest: None,
     }
 }
@@ -102,6 +104,7 @@ pub(crate) fn choices_of(
     units: &Units,
     steps: &mut Steps,
 ) -> Choices
+    requires { number < 2 ^ 32 - 1 }
     ensures choices { result ≡ spec.choices_of geometry units.now.entries number group.now }
     // Only a mirrored group is scanned.
     ensures still { group.now.class ≢ Class.Mirrored → steps.new.count ≡ steps.old.count }
@@ -112,14 +115,14 @@ pub(crate) fn choices_of(
         Class::Free => free_leaf(number),
         Class::Mirrored => Choices {
             mirrored: if_open(group, number, geometry),
-            parity: None,
-            free: None,
+            parity: Lowest::of(None),
+            free: Lowest::of(None),
             oldest: oldest_in(group.slots(), units, steps),
         },
         Class::Parity => Choices {
-            mirrored: None,
+            mirrored: Lowest::of(None),
             parity: if_open(group, number, geometry),
-            free: None,
+            free: Lowest::of(None),
             oldest: None,
         },
     }
@@ -134,6 +137,7 @@ pub(crate) fn refresh(
     number: u32,
     steps: &mut Steps,
 )
+    requires few { length groups.now.items < 2 ^ 32 }
     requires there { number < length groups.now.items }
     requires leaves { length (leaves index.old) ≡ length groups.now.items }
     requires right { IsRight (place_in units.now.entries) index.old }
@@ -158,6 +162,7 @@ pub(crate) fn refresh_home(
     home: Option<Slot>,
     steps: &mut Steps,
 )
+    requires few { length groups.now.items < 2 ^ 32 }
     requires there { ForSome home (λ slot. slot.group < length groups.now.items) }
     requires leaves { length (leaves index.old) ≡ length groups.now.items }
     requires right { IsRight (place_in units.now.entries) index.old }
@@ -281,6 +286,7 @@ pub(crate) fn refresh_blank(
     steps: &mut Steps,
     homes: &[Option<Slot>],
 )
+    requires few { length groups.now.items < 2 ^ 32 }
     requires there { AreInside homes.now (length groups.now.items) }
     requires leaves { length (leaves index.old) ≡ length groups.now.items }
     requires right { IsRight (place_in units.now.entries) index.old }

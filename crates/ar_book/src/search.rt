@@ -19,8 +19,8 @@ fn open_of(best: &Choices, class: Class) -> Option<u32>
 {
     match class {
         Class::Free => None,
-        Class::Mirrored => best.mirrored,
-        Class::Parity => best.parity,
+        Class::Mirrored => best.mirrored.get(),
+        Class::Parity => best.parity.get(),
     }
 }
 

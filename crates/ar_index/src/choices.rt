@@ -2,6 +2,7 @@
 ghost use Rattle.std.specs.Prelude.{◌≡◌, ◌≢◌, true, false};
 ghost use Rattle.ar_index.specs.Choices.{place_in, comes_no_later};
 
+use crate::Lowest;
 use ar_disks::{Addr, Key};
 use indexmap::IndexMap;
 
@@ -19,9 +20,9 @@ pub struct Age {
 /// with one, the lowest free group, and the oldest mirrored block.
 #[derive(Clone, Copy, Debug, PartialEq, Eq)]
 pub struct Choices {
-    pub mirrored: Option<u32>,
-    pub parity: Option<u32>,
-    pub free: Option<u32>,
+    pub mirrored: Lowest,
+    pub parity: Lowest,
+    pub free: Lowest,
     pub oldest: Option<Age>,
 }
 
@@ -59,17 +60,6 @@ fn is_no_later<V>(key: Key, other: Key, units: &IndexMap<Addr, V>) -> bool
     let own = place_of(units, key.addr);
     let others = place_of(units, other.addr);
     own < others || (own == others && key.rb <= other.rb)
-}
-
-fn is_same_number(one: Option<u32>, other: Option<u32>) -> bool
-    ensures same { result ≡ true → one ≡ other }
-    ensures another { result ≡ false → one ≢ other }
-{
-    match (one, other) {
-        (Some(one), Some(other)) => one == other,
-        (None, None) => true,
-        _ => false,
-    }
 }
 
 // Whether two blocks with the same stamp are one. Kept out of line, so that comparing two ages mostly ends with their
@@ -111,9 +101,9 @@ impl Choices {
         ensures { result ≡ nothing }
     {
         Choices {
-            mirrored: None,
-            parity: None,
-            free: None,
+            mirrored: Lowest::of(None),
+            parity: Lowest::of(None),
+            free: Lowest::of(None),
             oldest: None,
         }
     }
@@ -122,19 +112,21 @@ impl Choices {
     pub fn is_nothing(&self) -> bool
         ensures { result ≡ is_nothing self.now }
     {
-        self.mirrored.is_none()
-            && self.parity.is_none()
-            && self.free.is_none()
+        !self.mirrored.is_some()
+            && !self.parity.is_some()
+            && !self.free.is_some()
             && self.oldest.is_none()
     }
 
     /// In what the choices differ from `former`.
+    // Made part of its callers, which have both at hand.
+    #[inline(always)]
     pub(crate) fn change(&self, former: &Choices) -> Change
         ensures { IsChangedTo former.now self.now result }
     {
-        let has_same_numbers = is_same_number(self.mirrored, former.mirrored)
-            && is_same_number(self.parity, former.parity)
-            && is_same_number(self.free, former.free);
+        let has_same_numbers = self.mirrored.is_same(former.mirrored)
+            && self.parity.is_same(former.parity)
+            && self.free.is_same(former.free);
         if has_same_numbers {
             Change::of_oldest(self.oldest, former.oldest)
         } else {

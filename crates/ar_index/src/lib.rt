@@ -3,10 +3,12 @@
 #![tactic(auto)]
 
 mod choices;
+mod lowest;
 mod nodes;
 mod steps;
 mod tree;
 
 pub use choices::{Age, Choices};
+pub use lowest::Lowest;
 pub use steps::Steps;
 pub use tree::Tree;

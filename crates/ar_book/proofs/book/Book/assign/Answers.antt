@@ -14,7 +14,7 @@ use Rattle.ar_book.proofs.IndexAfter.{assigned_leaves, few_home, named_long, vac
 use Rattle.std.proofs.Common.{◌≡◌, sym, subst, ◌∙◌, None, Some}
 use Rattle.ar_book.specs.contracts.book.Book.{the_view}
 use Rattle.ar_book.specs.Tables.{Tables, key_at, home, HasBlock, HasSlot}
-use Rattle.ar_book.proofs.KeptLemmas.{former_group, former_slot, assigned_kept}
+use Rattle.ar_book.proofs.KeptLemmas.{former_group, former_slot, assigned_kept, still_few}
 use Rattle.ar_book.proofs.book.Book.assign.Goals as goal
 
 pub vacate_slot-requires-clause-group : goal.vacate_slot-requires-clause-group
@@ -35,6 +35,11 @@ vacate_slot-requires-clause-slot c = λ q e.
     (subst (λ x. key_at x c.args.slot ≡ None) (sym c.self.view_is) c.requires.empty)
     q (sym c.home_in-former.ensures ∙ e))
 
+pub refresh-requires-clause-few : goal.refresh-requires-clause-few
+refresh-requires-clause-few c =
+    still_few (the_view c.self.inside) _ c.self.invariant.kept.tables
+    (ap length c.name_slot.ensures ∙ named_size c.self.inside.groups.items c.args.slot c.args.key)
+
 pub refresh-requires-clause-there : goal.refresh-requires-clause-there
 refresh-requires-clause-there c =
     rw (c.name_slot.ensures, named_size)
@@ -43,6 +48,12 @@ refresh-requires-clause-there c =
 pub refresh-requires-clause-leaves : goal.refresh-requires-clause-leaves
 refresh-requires-clause-leaves c =
     rw (c.name_slot.ensures, named_size) (index_length (the_view c.self.inside) _ _ c.self.invariant)
+
+pub refresh_home-requires-clause-few : goal.refresh_home-requires-clause-few
+refresh_home-requires-clause-few c =
+    still_few (the_view c.self.inside) _ c.self.invariant.kept.tables
+    (ap length c.vacate_slot.ensures ∙ vacated_size c.name_slot.new.groups.items c.home_in-former.result
+    ∙ ap length c.name_slot.ensures ∙ named_size c.self.inside.groups.items c.args.slot c.args.key)
 
 pub refresh_home-requires-clause-there : goal.refresh_home-requires-clause-there
 refresh_home-requires-clause-there c = λ q e.

@@ -14,6 +14,7 @@ use Rattle.ar_book.specs.contracts.book.Book.{the_view}
 use Rattle.ar_disks.specs.Addresses.{same_addr}
 use Rattle.ar_book.specs.Tables.{Tables, UnitTableState, unit_in, key_at, home, level, stamp_of}
 use Rattle.ar_book.proofs.RefusalLemmas.{reserved_fits}
+use Rattle.ar_book.proofs.KeptLemmas.{still_few}
 use Rattle.ar_book.proofs.DropLemmas.{unit_homes, found_is, found_there, homes_fit, dropped_kept, dropped_key_other}
 use Rattle.ar_book.proofs.DropLemmas.{dropped_home_other, dropped_level_other, dropped_stamp_other, dropped_order}
 use Rattle.ar_book.proofs.book.Book.drop_unit.Goals as goal
@@ -127,6 +128,11 @@ blank : (c : goal.After-homes-3) → (i : ℕ)
     (length (unit_in c.self.inside.units.entries c.args.addr).homes) c.self.inside.index c.blank_all.new.index i
 blank c i = subst (λ hs. IsBlanked hs (length hs) c.self.inside.index c.blank_all.new.index i) (same_homes c)
     (c.blank_all.ensures.blank i)
+
+pub refresh_blank-requires-clause-few : goal.refresh_blank-requires-clause-few
+refresh_blank-requires-clause-few c =
+    still_few (the_view c.self.inside) _ c.self.invariant.kept.tables
+    (ap length c.vacate_all.ensures ∙ vacated_all_size c.homes-2.result.now c.self.inside.groups.items)
 
 pub refresh_blank-requires-clause-there : goal.refresh_blank-requires-clause-there
 refresh_blank-requires-clause-there c = λ j s e.

@@ -2,6 +2,7 @@ use Rattle.std.proofs.Common.{◌≡◌, ◌∙◌, ◌++◌, ◌∷◌, [], len
 use Rattle.ar_book.specs.Index.{free_leaf, leaves_of}
 use Rattle.ar_book.proofs.IndexAfter.{formed_leaves}
 use Rattle.ar_book.proofs.RefusalLemmas.{at_ok}
+use Rattle.ar_book.proofs.GroupLemmas.{few_groups}
 use Rattle.std.proofs.Common.{sym, subst, arith}
 use Rattle.ar_book.specs.contracts.book.Book.{the_view}
 use Rattle.ar_book.specs.Tables.{Tables}
@@ -25,6 +26,14 @@ invariant_of-self-else-is_err c =
     ∙ ap (λ x. leaves_of t.geometry t.units t.groups ++ x ∷ []) leaf ∙ sym (formed_leaves t c.args.members) in
     rw (c.in_ok-push.ensures.items, c.in_ok-group.ensures, c.rows.ensures)
     (record { kept = kept; leaves = added; right = rw c.map.ensures at c.push-2.ensures.right })
+
+pub free_leaf-requires : goal.free_leaf-requires
+free_leaf-requires c =
+    let t : Tables = the_view c.self.inside in
+    let few = few_groups t.geometry t.groups c.self.invariant.kept.tables.groups in
+    let number : c.groups-number.result ≡ length t.groups =
+    c.groups-number.ensures.count ∙ ap (λ (x : Tables). length x.groups) (sym c.self.view_is) in
+    omega arith
 
 pub push-requires-2 : goal.push-requires-2
 push-requires-2 c = rw c.map.ensures c.self.invariant.right

@@ -12,7 +12,7 @@ unreachable-requires c =
     lowest_none (the_view c.self.inside)
     (ap (λ l. (search_all (place_in c.self.inside.units.entries) l).free) (sym c.self.invariant.leaves)
     ∙ ap (λ x. x.free) (sym (c.best.ensures (place_in c.self.inside.units.entries) c.self.invariant.right))
-    ∙ c.in-None.is) in
+    ∙ sym c.get.ensures ∙ c.in-None.is) in
     let same : free_groups (the_view c.self.inside) ≡ free_groups c.args.self.now = ap free_groups c.self.view_is in
     omega (arith, c.requires)
 
@@ -22,4 +22,4 @@ returns c =
     (lowest_found (the_view c.self.inside) c.in-Some.number
     (ap (λ l. (search_all (place_in c.self.inside.units.entries) l).free) (sym c.self.invariant.leaves)
     ∙ ap (λ x. x.free) (sym (c.best.ensures (place_in c.self.inside.units.entries) c.self.invariant.right))
-    ∙ c.in-Some.is))
+    ∙ sym c.get.ensures ∙ c.in-Some.is))

@@ -4,6 +4,7 @@ use Rattle.ar_disks.specs.Geometry.{rows_of}
 use Rattle.ar_book.specs.contracts.book.Book.{the_view}
 use Rattle.ar_book.specs.Tables.{Tables}
 use Rattle.ar_book.proofs.IndexLemmas.{index_length, same_order}
+use Rattle.ar_book.proofs.KeptLemmas.{still_few}
 use Rattle.ar_book.proofs.GroupMoves.{can_move, moved_all, moved_tables, moved_leaves}
 use Rattle.ar_book.proofs.book.Book.move_group.Goals as goal
 
@@ -13,6 +14,7 @@ refresh-requires c =
     let moved = moved_all t c.args.self.now c.move_slots.new.groups.items c.move_slots.new.units.entries c.args.from
     c.args.to c.self.invariant.kept.tables c.self.view_is c.requires.can c.move_slots.ensures.moved in
     record {
+      few = still_few t _ c.self.invariant.kept.tables moved.groups;
       there = subst (λ n. c.args.to < n) (sym moved.groups)
           (can_move t c.args.self.now c.args.from c.args.to c.self.view_is c.requires.can).to_there;
       leaves = index_length t _ _ c.self.invariant ∙ sym moved.groups;
@@ -25,6 +27,7 @@ refresh-requires-2 c =
     let moved = moved_all t c.args.self.now c.move_slots.new.groups.items c.move_slots.new.units.entries c.args.from
     c.args.to c.self.invariant.kept.tables c.self.view_is c.requires.can c.move_slots.ensures.moved in
     record {
+      few = still_few t _ c.self.invariant.kept.tables moved.groups;
       there = subst (λ n. c.args.from < n) (sym moved.groups)
           (can_move t c.args.self.now c.args.from c.args.to c.self.view_is c.requires.can).from_there;
       leaves = ap length c.refresh.ensures.set ∙ length-set _ _ _ ∙ index_length t _ _ c.self.invariant

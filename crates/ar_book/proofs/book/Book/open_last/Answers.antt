@@ -9,6 +9,7 @@ use Rattle.ar_book.specs.Tables.{Tables}
 use Rattle.ar_book.specs.Choices.{IsLowestFree}
 use Rattle.ar_book.proofs.GroupChanges.{opened_kept}
 use Rattle.ar_book.proofs.AfterOpen.{opened_empty}
+use Rattle.ar_book.proofs.KeptLemmas.{still_few}
 use Rattle.ar_book.proofs.book.Book.open_last.Goals as goal
 
 pub invariant_of-self : goal.invariant_of-self
@@ -23,6 +24,11 @@ invariant_of-self c =
           c.self.invariant.leaves (rw c.open_class.ensures at c.refresh.ensures.set);
       right = c.refresh.ensures.right;
     })
+
+pub refresh-requires-clause-few : goal.refresh-requires-clause-few
+refresh-requires-clause-few c =
+    still_few (the_view c.self.inside) _ c.self.invariant.kept.tables
+    (ap length c.open_class.ensures ∙ length-set _ _ _)
 
 pub refresh-requires-clause-leaves : goal.refresh-requires-clause-leaves
 refresh-requires-clause-leaves c =

@@ -10,7 +10,7 @@ use Rattle.std.proofs.Common.{None, sym, subst, ◌∙◌}
 use Rattle.ar_book.specs.contracts.book.Book.{the_view}
 use Rattle.ar_book.specs.Tables.{Tables, home, HasBlock}
 use Rattle.ar_book.proofs.GroupLemmas.{there_group, there_slot}
-use Rattle.ar_book.proofs.KeptLemmas.{released_kept}
+use Rattle.ar_book.proofs.KeptLemmas.{released_kept, still_few}
 use Rattle.ar_book.proofs.book.Book.release.Goals as goal
 
 pub vacate_slot-requires-clause-group : goal.vacate_slot-requires-clause-group
@@ -22,6 +22,11 @@ pub vacate_slot-requires-clause-slot : goal.vacate_slot-requires-clause-slot
 vacate_slot-requires-clause-slot c = λ q e.
     there_slot c.self.inside.groups.items q c.args.key
     (c.self.invariant.kept.tables.agree.to_slot c.args.key q (sym c.home_in-home.ensures ∙ e))
+
+pub refresh_home-requires-clause-few : goal.refresh_home-requires-clause-few
+refresh_home-requires-clause-few c =
+    still_few (the_view c.self.inside) _ c.self.invariant.kept.tables
+    (ap length c.vacate_slot.ensures ∙ vacated_size c.self.inside.groups.items c.home_in-home.result)
 
 pub refresh_home-requires-clause-there : goal.refresh_home-requires-clause-there
 refresh_home-requires-clause-there c = λ q e.
