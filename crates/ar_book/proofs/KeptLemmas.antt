@@ -39,7 +39,7 @@ released_kept t n k ok block = record {
   total = ok.total ∙ sym (homed_reserved t.units k None block);
 }
 
--- a group's number is below the one that stands for none, as long as there are as many groups
+-- as many groups as the book has are fewer than 2 ^ 32, so each number is below the one that stands for none
 pub still_few : (t : Tables) (new : List GroupState) → TablesAgree t → length new ≡ length t.groups
     → length new < 2 ^ 32
 still_few t new ok same = omega (arith, few_groups t.geometry t.groups ok.groups)

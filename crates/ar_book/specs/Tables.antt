@@ -37,7 +37,7 @@ pub record Tables : Type 0 where
   pub units : List (Addr × UnitTableState)
   pub puts : ℕ
 
--- the tables of these groups and units, without a stamp
+-- the tables of these groups and units, as if no write sequence number had been given
 abbrev pub tables_of : Geometry → List GroupState → List (Addr × UnitTableState) → Tables
 tables_of g groups units = record { geometry = g; groups = groups; units = units; puts = 0 }
 

@@ -147,6 +147,9 @@ pub(crate) fn refresh(
     ensures right { IsRight (place_in units.now.entries) index.new }
     ensures few { length groups.now.items ≤ 4096
         → steps.new.count ≤ steps.old.count + (length (group_in groups.now.items number).slots + 12) }
+    // Only a mirrored group is scanned.
+    ensures unscanned { length groups.now.items ≤ 4096 → (group_in groups.now.items number).class ≢ Class.Mirrored
+        → steps.new.count ≤ steps.old.count + 12 }
     ensures on { steps.old.count ≤ steps.new.count }
 {
     let choices = choices_of(&groups[number as usize], number, geometry, units, steps);

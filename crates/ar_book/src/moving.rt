@@ -1,5 +1,6 @@
 // All blocks of a full mirrored group move to an empty parity group, slot by slot. Only then is each of the two groups
-// refreshed in the search tree, once: refreshed after each move, each group would be scanned as often as it has blocks.
+// refreshed in the search tree, once. Neither is mirrored then, so that no slot is scanned: refreshed after each move,
+// the mirrored group would be scanned for each of its blocks.
 ghost use Rattle.std.specs.Prelude.{◌≡◌, ◌+◌, ◌*◌, ◌≤◌, length};
 ghost use Rattle.ar_disks.specs.Geometry.{rows_of};
 ghost use Rattle.ar_book.specs.declared.class.Class.TheVariants.{Mirrored};
@@ -14,7 +15,8 @@ use crate::{Book, Class, Group, Slot, Units};
 use ar_disks::Geometry;
 use ar_index::Steps;
 
-// Moves the blocks of a full mirrored group to the slots of an empty one with the same numbers. Counts a step for each.
+// Moves the blocks of a full mirrored group to the slots of an empty parity group with the same numbers. Counts a step
+// for each block.
 fn move_slots(
     groups: &mut Vec<Group>,
     units: &mut Units,
@@ -48,9 +50,9 @@ impl Book {
     pub fn move_group(&mut self, from: u32, to: u32, steps: &mut Steps)
         requires can { CanMove self.old from to }
         ensures moved { self.new ≡ moved_first self.old from to (slots_of self.old.geometry Mirrored) }
-        // A step for each block that moves, and one scan and one climb for each group.
+        // A step for each block that moves, and a climb for each group.
         ensures few { length self.old.groups ≤ 4096 → steps.new.count ≤ steps.old.count
-            + (8 * rows_of self.old.geometry + 24) }
+            + (2 * rows_of self.old.geometry + 24) }
         ensures on { steps.old.count ≤ steps.new.count }
     {
         let (groups, units) = (&mut self.groups, &mut self.units);

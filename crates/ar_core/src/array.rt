@@ -26,7 +26,8 @@ pub struct Array<D: Disk> {
     pub(crate) spare: Vec<u8>,
     // What the data of short READs are cut from, one after another. No contract sees it.
     pub(crate) room: BytesMut,
-    // The memory of the last long READ, for the next one of as many bytes. No contract sees it.
+    // The memory of the last long READ, for the next one of as many bytes; none after a READ into lent memory or of
+    // more than 1 MiB. No contract sees it.
     pub(crate) kept: BytesMut,
 }
 

@@ -32,7 +32,7 @@ use ar_volume::{Backing, read_sectors, write_sectors};
 use bytes::{Bytes, BytesMut};
 use std::alloc::{AllocError, Global};
 
-// The most bytes of a READ whose data are cut from `room`.
+// The most bytes of a READ whose data are cut from `room`, if no memory was lent for it.
 const SHORT: usize = 4_096;
 
 // The memory that `room` takes at a time, in bytes. Whoever keeps the data of one short READ keeps all of it.
@@ -374,13 +374,14 @@ fn fetch_sectors<B: Backing>(
     );
     let reply = reply_to_read(read, memory);
     if is_lent || len > KEPT {
-        // The reply alone holds it.
+        // It isn't kept: the reply alone holds it, or nothing does.
         *memory = BytesMut::new(alloc);
     }
     reply
 }
 
-// Makes `memory` `len` bytes long: by what was lent, if it has this length. What it held is of no more use.
+// Makes `memory` `len` bytes long: the lent memory if that has this length, or else by `cut_memory`. What it held is of
+// no more use.
 fn take_memory(
     alloc: Global,
     memory: &mut BytesMut,
@@ -397,9 +398,9 @@ fn take_memory(
     cut_memory(alloc, memory, len, size)
 }
 
-// Makes `memory` `len` bytes long: by the next ones of its `size` bytes. When too few of them are left, all of them are
-// used again if no reply holds a part of them, and else dropped for `size` bytes of other memory: memory of its own for
-// each READ, zeroed, took a sixth of the time of a short one and a fifth of one of 64 KiB.
+// Makes `memory` `len` bytes long, by the next bytes of it that no reply holds. If too few are left, all of it is used
+// again if it has `size` bytes and no reply holds a part of it, and else dropped for `size` bytes of other memory:
+// memory of its own for each READ, zeroed, took a sixth of the time of a short one and a fifth of one of 64 KiB.
 fn cut_memory(
     alloc: Global,
     memory: &mut BytesMut,

@@ -5,7 +5,7 @@ ghost use Rattle.std.specs.Option.{option_or, unwrap_or, ForSome};
 
 use std::marker::Model;
 
-/// What stands for no group. There are fewer groups.
+/// What stands for no group. Each group's number is below it.
 const NONE: u32 = u32::MAX;
 
 /// The number of a group, or none. A contract sees it as an `Option`.
@@ -23,7 +23,7 @@ impl Model for Lowest {
 }
 
 impl Lowest {
-    /// A group's number, or none.
+    /// The number of a group, below 2^32 - 1, or none.
     pub fn of(number: Option<u32>) -> Lowest
         requires { ForSome number (λ n. n < 4294967295) }
         ensures { result ≡ number }
@@ -58,7 +58,7 @@ impl Lowest {
         if self.code == NONE { other } else { self }
     }
 
-    /// Whether both are the same group, or none.
+    /// Whether both are the same group, or both are none.
     pub(crate) fn is_same(self, other: Lowest) -> bool
         ensures same { result ≡ true → self ≡ other }
         ensures another { result ≡ false → self ≢ other }

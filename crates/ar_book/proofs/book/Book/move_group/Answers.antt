@@ -2,6 +2,7 @@ use Rattle.std.proofs.Common.{◌≡◌, ◌<◌, ◌∙◌, length, sym, subst,
 use Rattle.std.proofs.lemmas.List.{length-set}
 use Rattle.ar_disks.specs.Geometry.{rows_of}
 use Rattle.ar_book.specs.contracts.book.Book.{the_view}
+use Rattle.ar_book.specs.declared.class.Class.TheVariants.{Free, Mirrored, Parity}
 use Rattle.ar_book.specs.Tables.{Tables}
 use Rattle.ar_book.proofs.IndexLemmas.{index_length, same_order}
 use Rattle.ar_book.proofs.KeptLemmas.{still_few}
@@ -62,8 +63,8 @@ returns-clause-few c most =
     let count : length t.groups ≡ length c.args.self.now.groups = ap (λ (x : Tables). length x.groups) c.self.view_is in
     let rows : rows_of t.geometry ≡ rows_of c.args.self.now.geometry =
     ap (λ (x : Tables). rows_of x.geometry) c.self.view_is in
-    let first = c.refresh.ensures.few (omega (arith, moved.groups)) in
-    let second = c.refresh-2.ensures.few (omega (arith, moved.groups)) in
-    let one = moved.agree.groups.long c.args.to (omega (arith, moved.groups, can.to_there)) in
-    let two = moved.agree.groups.long c.args.from (omega (arith, moved.groups, can.from_there)) in
-    omega (arith, first, second, one, two, rows)
+    let first = c.refresh.ensures.unscanned (omega (arith, moved.groups))
+    (λ same. let e : Parity ≡ Mirrored = sym moved.opened ∙ same in absurd (cc)) in
+    let second = c.refresh-2.ensures.unscanned (omega (arith, moved.groups))
+    (λ same. let e : Free ≡ Mirrored = sym (moved.freed (omega arith)) ∙ same in absurd (cc)) in
+    omega (arith, first, second, rows)
