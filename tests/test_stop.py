@@ -1,0 +1,73 @@
+"""An operator's `stop`: beside hosts that are busy, that read slowly, that watch; and with an output that can't be written."""
+import contextlib
+import os
+import threading
+import time
+
+from tests.harness import Case, Ended, exactly, read_10
+
+
+class Stop(Case):
+    def test_under_load(self):
+        """Four hosts that ask without pause lose no reply that they are owed."""
+        server, counts = self.serve(*(f"{host}:0:8" for host in range(4))), [0] * 4
+
+        def ask(number):
+            host = server.log_in(number)
+            with contextlib.suppress(OSError):
+                while host.is_ready():
+                    counts[number] += 1
+            host.close()
+
+        threads = [threading.Thread(target=ask, args=(number,)) for number in range(4)]
+        for thread in threads:
+            thread.start()
+        time.sleep(1)
+        said = server.told("stop\n")
+        for thread in threads:
+            thread.join(30)
+        self.wants(said, "stopped\n", "a stop under load")
+        self.ends(server, counts)
+        self.holds(min(counts) > 20, "each host had more than 20 replies", counts)
+
+    def test_beside_a_slow_reader(self):
+        """A host that takes a reply of 32 MiB a few bytes at a time doesn't hold up a stop."""
+        server = self.serve("--geometry", "paper", "--extents", "16", "0:0:65535")
+        host, has_stopped = self.kept(server.log_in(0)), threading.Event()
+        host.sends(read_10(0, 65535))
+
+        def take_slowly():
+            with contextlib.suppress(OSError):
+                while not has_stopped.wait(0.01) and host.link.recv(4096):
+                    pass
+
+        reader = threading.Thread(target=take_slowly)
+        reader.start()
+        time.sleep(0.5)
+        begun = time.monotonic()
+        try:
+            self.stops(server, [1, 0, 0, 0])
+        finally:
+            passed = time.monotonic() - begun
+            has_stopped.set()
+            reader.join()
+        self.holds(4 < passed < 10, "a slow reader is waited for 4 to 10 s", f"{passed:.1f} s")
+
+    def test_beside_an_idle_host(self):
+        server = self.serve("0:0:8")
+        host = self.kept(server.log_in(0))
+        self.wants(host.is_ready(), True, "TEST UNIT READY")
+        begun = time.monotonic()
+        self.stops(server, [1, 0, 0, 0])
+        self.wants(exactly(host.link, 1), b"", "what an idle host is told")
+        self.holds(time.monotonic() - begun < 5, "an idle session ends within 5 s", time.monotonic() - begun)
+
+    def test_without_output(self):
+        """A stop whose report can't be printed."""
+        read_end, write_end = os.pipe()
+        server = self.serve(stdout=write_end)
+        os.close(write_end)
+        os.read(read_end, 64)
+        os.close(read_end)
+        self.wants(server.told("stop\n"), "fault: write fault\n", "a stop")
+        self.wants(server.ended(), Ended(1, "", "write fault\n"), "the server")

@@ -1,0 +1,95 @@
+"""Who logs in too late or says nothing is let go, and keeps nobody out."""
+import contextlib
+import socket
+import struct
+import time
+
+from tests.harness import ACCEPTED, LOGIN, Case, Initiator, connected, rest_of
+
+
+def sends_slowly(link, text):
+    """Sends a byte at a time, until the other side has closed."""
+    with contextlib.suppress(OSError):
+        for byte in text:
+            link.sendall(bytes([byte]))
+            time.sleep(0.3)
+
+
+def closes(link):
+    """Whether the other side closes, and writes nothing before."""
+    try:
+        return link.recv(1) == b""
+    except ConnectionResetError:
+        return True
+
+
+class Timeouts(Case):
+    def passes(self, begun, least, most, what):
+        passed = time.monotonic() - begun
+        self.holds(least <= passed < most, f"{what} in {least} to {most} s", f"{passed:.1f} s")
+
+    def test_silent_hosts_with_a_log(self):
+        """A connection that never logs in, a login that comes a byte at a time, a session that falls silent."""
+        server, begun = self.serve("--login-timeout", "1", "--idle-timeout", "2", "--log"), time.monotonic()
+        silent, slow = connected(server.port), connected(server.port)
+        host = server.log_in(3)
+        sends_slowly(slow, LOGIN)
+        self.wants(rest_of(silent), b"", "what a silent connection is told")
+        self.passes(begun, 1, 5, "a silent connection ends")
+        self.wants(rest_of(slow), b"", "what a slow login is told")
+        self.passes(begun, 1, 5, "a slow login ends")
+        self.wants(rest_of(host.link), b"", "what a silent session is told")
+        self.passes(begun, 2, 6, "a silent session ends")
+        for link in silent, slow, host:
+            link.close()
+        self.wants(server.told("stop\n"), "stopped\n", "a stop")
+        error = self.ends(server, [0, 0, 0, 0], error=None).error
+        said = sorted(line.split("] ")[-1].split(", ")[0] for line in error.splitlines())
+        wanted = [f"session {number} {word}" for number, word in ((1, "ended: Read"), (1, "started"), (2, "ended: Read"))]
+        wanted += ["session 2 started", "session 3 host 3 ended: Read", "session 3 started"]
+        self.wants(said, wanted, "the log")
+
+    def test_silent_clients(self):
+        """Eight that don't log in, and a session of each host that says nothing or stops in the middle of a frame."""
+        server = self.serve("--login-timeout", "1", "--idle-timeout", "1", "0:0:8")
+        operator, begun = self.kept(server.operator()), time.monotonic()
+        idle = [self.kept(connected(server.port)) for _ in range(8)]
+        for link in idle[::2]:
+            link.sendall(b"ARAI")
+        seated = [self.kept(server.log_in(host)) for host in range(4)]
+        self.wants([host.greeting for host in seated], [ACCEPTED] * 4, "logins beside clients that don't")
+        seated[0].link.sendall(bytes.fromhex("0000001900"))
+        said = [closes(link) for link in [*idle, *(host.link for host in seated)]]
+        self.wants(said, [True] * 12, "whether each is let go without a word")
+        self.passes(begun, 0.9, 20, "silent clients are let go")
+        again = server.log_in(0)
+        self.wants(again.greeting, ACCEPTED, "a login after a silent session of its host")
+        again.close()
+        self.wants(operator.waits("sessions", []), [], "sessions at the end")
+        self.stops(server, [0, 0, 0, 0])
+
+    def test_slow_initiators(self):
+        """An initiator whose login comes a byte at a time, and one that is logged in for longer than a login may take."""
+        server = self.serve("--login-timeout", "1", doors=("operator", "iscsi"))
+        slow, begun = self.kept(connected(server.iscsi_port)), time.monotonic()
+        quick = self.kept(Initiator(server.iscsi_port))
+        said = quick.log_in("InitiatorName=iqn.2026-11.example:host", "SessionType=Discovery")
+        self.wants((said.opcode, said.login_status), (0x23, b"\0\0"), "the login of a quick initiator")
+        # (a Login Request, with the first ten bytes of 100 that it announces)
+        slow.sendall(struct.pack(">BBHI", 0x43, 0x87, 0, 100) + bytes(40))
+        sends_slowly(slow, b"InitiatorN")
+        self.wants(rest_of(slow), b"", "what a slow initiator is told")
+        self.passes(begun, 1, 5, "a slow login ends")
+        self.wants(quick.ping().opcode, 0x20, "the answer to a NOP-Out of an initiator that is logged in")
+        quick.close()
+        self.stops(server, [0, 0, 0, 0])
+
+    def test_half_a_login_that_ends(self):
+        """The end of a client's input in the middle of its login ends the connection at once."""
+        server, begun = self.serve("--login-timeout", "30"), time.monotonic()
+        with connected(server.port) as link:
+            link.sendall(LOGIN[:5])
+            link.shutdown(socket.SHUT_WR)
+            self.wants(rest_of(link), b"", "what half a login is told")
+        self.passes(begun, 0, 10, "half a login ends")
+        self.stops(server, [0, 0, 0, 0])
