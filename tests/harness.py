@@ -19,7 +19,9 @@ crates/NAME/out/NAME, or of the folder that the variable PROGRAMS names.
 import collections
 import contextlib
 import http.client
+import json
 import os
+import re
 import resource
 import signal
 import socket
@@ -482,6 +484,14 @@ class Server(Running):
 
     def get(self, path, method="GET"):
         return get(self.http_port, path, method)
+
+    def status_json(self):
+        return json.loads(self.get("/status.json")[2])
+
+    def sample(self, name):
+        """The value of a metric, as text; None where it isn't there."""
+        found = re.search(rf"^{re.escape(name)} (\d+)$", self.get("/metrics")[2], re.MULTILINE)
+        return found and found[1]
 
     def initiator(self, number):
         """A session over iSCSI with a host's target."""

@@ -5,7 +5,8 @@ from tests.harness import Case, Ended, connected, exactly, free_port, program, r
 
 # The answer to a client's closing line.
 CLOSED = b"fault: unknown word\n"
-# Of an operator's client: its lines, whether its input ends, what the door answers before it closes, and how the client ends.
+# Of an operator's client: its lines, whether its input ends, what the door answers before it closes, and how the client
+# ends.
 OPERATORS = [
     ("health\n", False, b"whole\n", (1, "whole\n", "session fault\n")),
     ("health\n", True, b"", (1, "", "session fault\n")),
@@ -76,7 +77,7 @@ class Client(Case):
             self.wants(client.ended(), Ended(*wanted), "the client")
 
     def test_an_operators_client(self):
-        """Its lines are answered; a line that is none ends it with status 1; `stop` ends the service and an idle session."""
+        """Its lines are answered; a line that is none gives status 1; `stop` ends the service and an idle session."""
         server = self.serve("0:0:8")
         host = self.kept(server.log_in(0))
         words = [program("ar_client"), "--operator", "--port", server.operator_port]

@@ -1,8 +1,8 @@
 """A served array is operated while four hosts compare all that they read with what they wrote.
 
-Disks fail in the middle of an access, are replaced and rebuilt, disks are added and balanced, units grow, and others are
-created and deleted beside them. No host may read a wrong byte, and with one disk missing at a time none may be told of a
-failure. Then two disks fail at once: each reply is right, or says that the data are lost.
+Disks fail in the middle of an access, are replaced and rebuilt, disks are added and balanced, units grow, and others
+are created and deleted beside them. No host may read a wrong byte, and with one disk missing at a time none may be told
+of a failure. Then two disks fail at once: each reply is right, or says that the data are lost.
 
     DRILL_SEED=7 DRILL_MINUTES=60 python3 -m unittest -k drill
 
@@ -63,7 +63,8 @@ class Drill(Case):
 
     def served(self, audit):
         options = ["--disks", DISKS, "--extents", EXTENTS, "--cache", CACHE]
-        return self.serve(*options, *(f"{host}:{lun}:{SECTORS}" for host in range(HOSTS) for lun in range(UNITS)), audit=audit)
+        units = [f"{host}:{lun}:{SECTORS}" for host in range(HOSTS) for lun in range(UNITS)]
+        return self.serve(*options, *units, audit=audit)
 
     def told(self, operator, line, *wanted):
         self.wants(operator.asks(line), list(wanted or ["ok"]), line)
@@ -74,7 +75,8 @@ class Drill(Case):
     def ends_with(self, server, requests):
         """Looks that a server has ended well, with these commands in its report."""
         ended = self.ends(server)
-        counts = [re.fullmatch(rf"host {host} commands (\d+)", line) for host, line in enumerate(ended.out.splitlines()[:HOSTS])]
+        lines = enumerate(ended.out.splitlines()[:HOSTS])
+        counts = [re.fullmatch(rf"host {host} commands (\d+)", line) for host, line in lines]
         self.holds(len(counts) == HOSTS and all(counts), "a report with a line for each host", ended.out)
         total = sum(int(count[1]) for count in counts)
         self.holds(total in requests, f"{requests} commands in the report", total)
@@ -145,7 +147,8 @@ class Drill(Case):
         self.wants(load.is_running(), True, "whether the hosts go on until the operator ends")
         self.wants(server.told("stop\n"), "stopped\n", "a stop")
         counts = load.ends()
-        self.wants((counts.get("attentions"), counts.get("broken")), (HOSTS + 2, 0), "UNIT ATTENTIONs, replies 04/44/00")
+        said = counts.get("attentions"), counts.get("broken")
+        self.wants(said, (HOSTS + 2, 0), "replies UNIT ATTENTION, and 04/44/00")
         requests = counts["requests"]
         self.holds(requests >= REQUESTS, f"at least {REQUESTS} requests", requests)
         # (what a host sent last may have been read no more)

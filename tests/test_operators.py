@@ -77,7 +77,8 @@ class Operators(Case):
 
     def test_no_answer_to_comments(self):
         server = self.serve("0:0:8")
-        self.wants(server.told("sessions\n# nothing\n\nroom"), "room 14\n", "comments, and a last line that doesn't end")
+        said = server.told("sessions\n# nothing\n\nroom")
+        self.wants(said, "room 14\n", "comments, and a last line that doesn't end")
         self.stops(server, [0, 0, 0, 0])
 
     def test_no_text(self):
@@ -117,7 +118,7 @@ class Operators(Case):
         self.stops(server, [2, 0, 0, 0])
 
     def test_a_counted_failure(self):
-        """`fail D N`: disk D passes N accesses, and fails at the next. A WRITE of a mirrored block accesses two disks once."""
+        """`fail D N`: disk D passes N accesses, and fails at the next. A WRITE of a mirrored block makes two."""
         server = self.serve("0:0:2")
         host = self.kept(server.log_in(0))
 

@@ -1,7 +1,7 @@
 """Hosts that verify find what is wrong: beside a served array stands a middleman who plants one error after another.
 
-A host of `bench_load --verify` works through the middleman. Where he plants nothing, or only BUSY, the host has to find nothing;
-each error it has to report by the words below, and exit with 1.
+A host of `bench_load --verify` works through the middleman. Where he plants nothing, or only BUSY, the host has to find
+nothing; each error it has to report by the words below, and exit with 1.
 """
 import contextlib
 import socket

@@ -1,13 +1,15 @@
-"""Arrays that are served to clients in turn, with an audit and without: what each is answered, and what the server reports."""
+"""Arrays that are served to clients in turn, with an audit and without: what each is answered, and what the server
+reports."""
 import contextlib
 import socket
 
 from tests.harness import ACCEPTED, Case, Ended, connected, free_port, program, ran
 
-# The words of the server; what each client, by its host, asks and is answered; how many commands of each host are reported.
+# The words of the server; what each client, by its host, asks and is answered; how many commands of each host are
+# reported.
 IN_TURN = (
-    # A unit of host 0 with 24 sectors and one of host 1 with 8. A unit keeps what its own host wrote, also from one session to
-    # the next.
+    # A unit of host 0 with 24 sectors and one of host 1 with 8. A unit keeps what its own host wrote, also from one
+    # session to the next.
     ["--sessions", "3", "0:0:24", "1:0:8"],
     [
         (0, "write 0 0 1 1 AA\nread 0 0 0 2\n", "good\ngood 512x00 512xAA\n"),
@@ -34,8 +36,10 @@ LONGEST = (
 class Serving(Case):
     def served(self, audit, words, clients, commands):
         """Serves clients in turn; the server ends with the last."""
-        server = self.serve(*words, doors=(), audit=audit)
-        for host, lines, wanted in clients:
+        server = self.serve(*words, audit=audit)
+        for number, (host, lines, wanted) in enumerate(clients):
+            if number:
+                self.wants(server.wait_for_none(), "", "sessions once a client has left")
             said = server.client(host, lines)
             self.wants(said.out + said.error, wanted, f"what a client of host {host} was told")
         self.ends(server, commands)

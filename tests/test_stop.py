@@ -1,4 +1,5 @@
-"""An operator's `stop`: beside hosts that are busy, that read slowly, that watch; and with an output that can't be written."""
+"""An operator's `stop`: beside hosts that are busy, that read slowly, that watch; and with an output that can't be
+written."""
 import contextlib
 import os
 import threading

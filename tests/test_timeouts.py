@@ -45,8 +45,8 @@ class Timeouts(Case):
         self.wants(server.told("stop\n"), "stopped\n", "a stop")
         error = self.ends(server, [0, 0, 0, 0], error=None).error
         said = sorted(line.split("] ")[-1].split(", ")[0] for line in error.splitlines())
-        wanted = [f"session {number} {word}" for number, word in ((1, "ended: Read"), (1, "started"), (2, "ended: Read"))]
-        wanted += ["session 2 started", "session 3 host 3 ended: Read", "session 3 started"]
+        wanted = ["session 1 ended: Read", "session 1 started", "session 2 ended: Read", "session 2 started"]
+        wanted += ["session 3 host 3 ended: Read", "session 3 started"]
         self.wants(said, wanted, "the log")
 
     def test_silent_clients(self):
@@ -69,7 +69,7 @@ class Timeouts(Case):
         self.stops(server, [0, 0, 0, 0])
 
     def test_slow_initiators(self):
-        """An initiator whose login comes a byte at a time, and one that is logged in for longer than a login may take."""
+        """An initiator whose login comes a byte at a time, and one that is in for longer than a login may take."""
         server = self.serve("--login-timeout", "1", doors=("operator", "iscsi"))
         slow, begun = self.kept(connected(server.iscsi_port)), time.monotonic()
         quick = self.kept(Initiator(server.iscsi_port))

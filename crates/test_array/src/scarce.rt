@@ -1,4 +1,4 @@
-// Runs that go on after the refusal of any one allocation. The gate refuses each in turn, by `.ci/scarce`; with ample
+// Runs that go on after the refusal of any one allocation. The gate refuses each in turn, by `tests/`; with ample
 // memory they are the runs themselves.
 use crate::calls::{is_met, step};
 use crate::first_run::FIRST_RUN;

@@ -1,4 +1,4 @@
-// Memory that is refused. Here none is left at all; single allocations are refused in turn by the gate (`.ci/scarce`),
+// Memory that is refused. Here none is left at all; single allocations are refused in turn by the gate (`tests/`),
 // and the last test goes on after any one of them.
 use crate::calls::closes;
 use crate::rig::{Play, Rig, plays};

@@ -1,4 +1,4 @@
-// Sessions in which any one allocation may be refused. The gate refuses each in turn, by `.ci/scarce`; with ample
+// Sessions in which any one allocation may be refused. The gate refuses each in turn, by `tests/`; with ample
 // memory they are the sessions themselves.
 use crate::fake::Fake;
 use crate::garbage::split_pdu;

@@ -1,0 +1,134 @@
+"""What a served array shows over HTTP: each path while it is whole, has lost a disk, is whole again; and its end."""
+import os
+import subprocess
+import tempfile
+import time
+
+from tests.harness import Case, connected, program, ran, waited
+
+# What stands at each path.
+TYPES = {
+    "/": "text/html; charset=utf-8",
+    "/picture.svg": "image/svg+xml",
+    "/metrics": "text/plain; version=0.0.4; charset=utf-8",
+    "/status.json": "application/json",
+    "/healthz": "text/plain; charset=utf-8",
+}
+DOORS = ("operator", "http")
+
+
+def drawn(*lines):
+    """The picture of an array that met these lines of a script, as `run --picture` draws it."""
+    with tempfile.TemporaryDirectory() as room:
+        file = os.path.join(room, "picture.svg")
+        words = [program("autoraid"), "run", "--disks", "5", "--extents", "16", "--picture", file]
+        done = ran(*words, text="".join(f"{line}\n" for line in lines))
+        if done.status:
+            raise subprocess.SubprocessError(f"run --picture: {done}")
+        with open(file, encoding="utf-8") as picture:
+            return picture.read()
+
+
+class Pages(Case):
+    def setUp(self):
+        super().setUp()
+        self.server = self.serve("--disks", "5", "--extents", "16", "0:0:24", doors=DOORS)
+
+    def events(self):
+        """The kinds of what has happened, the newest first, each with its numbers."""
+        found = self.server.status_json()["events"]
+        return [(event["kind"], *(event[key] for key in ("disk", "host", "lun") if key in event)) for event in found]
+
+    def health(self):
+        code, _, body = self.server.get("/healthz")
+        return code, body
+
+    def path(self, path):
+        code, fields, body = self.server.get(path)
+        said = code, fields.get("content-type"), fields.get("cache-control"), fields.get("content-length")
+        self.wants(said, (200, TYPES[path], "no-store", str(len(body.encode()))), path)
+        head_code, head, nothing = self.server.get(path, "HEAD")
+        self.wants((head_code, nothing), (200, ""), f"HEAD {path}")
+        # (a body that tells the time or what was counted may be longer a moment later)
+        if path not in ("/metrics", "/status.json"):
+            self.wants(head, fields, f"the header fields of HEAD {path}")
+        self.stops(self.server, [0, 0, 0, 0])
+
+    def test_page(self):
+        self.path("/")
+
+    def test_picture(self):
+        self.path("/picture.svg")
+
+    def test_metrics(self):
+        self.path("/metrics")
+
+    def test_status_json(self):
+        self.path("/status.json")
+
+    def test_healthz(self):
+        self.path("/healthz")
+
+    def test_other_methods(self):
+        for method in "POST", "PUT", "DELETE", "OPTIONS":
+            code, fields, body = self.server.get("/", method)
+            self.wants((code, fields.get("allow"), body), (405, "GET, HEAD", "method not allowed\n"), method)
+
+    def test_unknown_path(self):
+        code, _, body = self.server.get("/none")
+        self.wants((code, body), (404, "not found\n"), "/none")
+
+    def test_picture_is_that_of_a_run(self):
+        self.wants(self.server.get("/picture.svg")[2], drawn("make 0 0 24"), "the picture of a whole array")
+        self.server.told("out 1\n")
+        self.wants(self.server.get("/picture.svg")[2], drawn("make 0 0 24", "out 1"), "the picture of a lost disk")
+
+    def test_health_of_a_lost_disk(self):
+        self.wants(self.health(), (200, "whole\n"), "the health of a whole array")
+        self.server.told("out 1\n")
+        self.wants(self.health(), (503, "out 1\n"), "the health with a disk out")
+        said = [self.server.sample(f'autoraid_{name}') for name in ('disk_healthy{disk="1"}', 'state{state="out"}')]
+        self.wants(said, ["0", "1"], "the metrics of a lost disk")
+        self.wants(self.server.status_json()["health"], {"state": "out", "disk": 1}, "the status of a lost disk")
+
+    def test_events_of_a_rebuild(self):
+        """A disk fails, is replaced and rebuilt; units are made, grown and dropped."""
+        self.server.told("out 1\nreplace 1\nmake 3 7 8\nmake 3 7 8\ngrow 3 7 12\ndrop 3 7\n")
+        self.wants(waited(self.health, (200, "whole\n")), (200, "whole\n"), "the health once the disk is rebuilt")
+        said, disks = self.events(), [("disk_failed", 1), ("disk_replaced", 1), ("disk_rebuilt", 1)]
+        units = [("unit_made", 3, 7), ("unit_grown", 3, 7), ("unit_dropped", 3, 7)]
+        self.wants(sorted(said), sorted(disks + units), "what happened")
+        self.wants([event for event in reversed(said) if event in disks], disks, "the order of the disk's events")
+        self.wants([event for event in reversed(said) if event in units], units, "the order of the unit's events")
+        self.stops(self.server, [0, 0, 0, 0])
+
+    def test_events_of_two_lost_disks(self):
+        self.server.told("add\nout 0\nout 2\n")
+        self.wants(self.health(), (503, "broken\n"), "the health with two disks out")
+        wanted = [("array_failed",), ("disk_failed", 0), ("disk_added", 5)]
+        self.wants(self.events()[:3], wanted, "the newest events")
+        self.stops(self.server, [0, 0, 0, 0])
+
+    def test_a_failure_while_nobody_watches(self):
+        """A disk that fails by itself is seen, with its time, while nobody watches."""
+        self.server.told("".join(f"fail {disk} 0\n" for disk in range(5)))
+        host = self.kept(self.server.log_in(0))
+        host.writes(0, b"w" * 1024)
+        time.sleep(3)
+        said = self.server.status_json()
+        self.wants(said["events"][0]["kind"], "array_failed", "the newest event")
+        late = said["uptime_seconds"] - said["events"][0]["seconds"]
+        self.holds(late >= 2, "an event of 3 s ago", f"{late} s ago")
+
+
+class End(Case):
+    def test_end_of_a_watched_service(self):
+        """A service without operators ends with its last session, whoever watches."""
+        server = self.serve("--sessions", "1", doors=("http",))
+        self.wants(server.get("/healthz")[0], 200, "/healthz without operators")
+        self.kept(connected(server.http_port))
+        server.log_in(0).close()
+        begun = time.monotonic()
+        self.ends(server, [0, 0, 0, 0])
+        passed = time.monotonic() - begun
+        self.holds(passed < 10, "a silent client holds up the end for less than 10 s", f"{passed:.1f} s")

@@ -1,0 +1,245 @@
+"""Each allocation of the built programs is refused in turn, and nothing else comes of it than is promised.
+
+A library of a few lines of C, which is made with `cc` here, stands before the C library's `malloc` and `realloc` and
+refuses the n-th call, for every n that a run without it makes. Of a script every line before the first that shows
+`busy` or `NoMemory`, or that ends with the fault `no memory`, has to be the one that is wanted; a start that is refused
+prints none. Of tests that go on after any one refusal each has to pass.
+"""
+import itertools
+import os
+import re
+import socket
+import tempfile
+import threading
+import time
+
+from tests.harness import Case, free_port, program, ran, tests_of, text_of
+
+REFUSE = r"""
+#include <errno.h>
+#include <stdio.h>
+#include <stdlib.h>
+
+extern void *__libc_malloc(size_t);
+extern void *__libc_realloc(void *, size_t);
+
+static long met;
+
+// Threads allocate at once, and none of their calls may go uncounted.
+static int is_refused(void) {
+    const char *wanted = getenv("REFUSED_ALLOCATION");
+    long number = __atomic_add_fetch(&met, 1, __ATOMIC_SEQ_CST);
+    if (!wanted || number != atol(wanted)) {
+        return 0;
+    }
+    remove(getenv("NOT_REFUSED"));
+    errno = ENOMEM;
+    return 1;
+}
+
+void *malloc(size_t size) {
+    return is_refused() ? NULL : __libc_malloc(size);
+}
+
+void *realloc(void *former, size_t size) {
+    return is_refused() ? NULL : __libc_realloc(former, size);
+}
+"""
+
+# Where memory for a cached block is refused, it goes to the disks at once, which these words show.
+SHOWS_THE_CACHE = ("levels", "flush")
+# How a server may end without serving, once an allocation was refused before it listens.
+REFUSALS = ["start fault\n", "no memory\n", "unit 0:0:4 refused M4 NoMemory\n"]
+
+
+class Script:
+    """A scenario of test_scenarios: its lines, and for each what is printed."""
+
+    def __init__(self, file, name, options):
+        self.options, self.lines, self.wanted = options, [], []
+        text = text_of("crates", "test_scenarios", "data", file + ".script")
+        begins = re.search(rf"^== {re.escape(name)}( \[.*\])?$", text, re.MULTILINE)
+        for row in text[begins.end() + 1 :].split("\n== ")[0].splitlines():
+            if row.startswith("  = "):
+                self.wanted[-1].append(row[4:])
+            elif row and not row.startswith("#"):
+                line, equals, answer = row.partition(" = ")
+                self.lines.append(line)
+                self.wanted.append([answer] if equals else [])
+
+    def told(self, status, out, error):
+        """What is wrong with a run, or None; and how the refusal was told."""
+        shown, at = out.splitlines(), 0
+        for number, (line, wanted) in enumerate(zip(self.lines, self.wanted), 1):
+            met = shown[at : at + len(wanted)]
+            at += len(wanted)
+            if met == wanted:
+                continue
+            if len(met) == len(wanted) and ("busy" in met[0] or "NoMemory" in met[0]):
+                return None, met[0]
+            if met == [] and (status, error) == (1, f"line {number}: no memory\n"):
+                return None, "no memory"
+            if number == 1 and met == [] and status == 1 and error in ("start fault\n", "no memory\n"):
+                return None, error.strip()
+            if self.options[:1] == ["--cache"] and line.startswith(SHOWS_THE_CACHE):
+                continue
+            return f"line {number} shows {met}, status {status}, {error!r}", None
+        is_whole = (status, error, at) == (0, "", len(shown))
+        return (None, "nothing") if is_whole else (f"it ends with status {status}, {error!r}", None)
+
+
+class Refused(Case):
+    seconds = 300
+
+    def setUp(self):
+        super().setUp()
+        room = tempfile.TemporaryDirectory()
+        self.addCleanup(room.cleanup)
+        source, self.library, self.mark = (os.path.join(room.name, name) for name in ("refuse.c", "refuse.so", "mark"))
+        with open(source, "w", encoding="utf-8") as file:
+            file.write(REFUSE)
+        made = ran(os.environ.get("CC", "cc"), "-shared", "-fPIC", "-O1", "-o", self.library, source)
+        self.wants((made.status, made.error), (0, ""), "the library that refuses")
+
+    def runs(self, words):
+        """How a program ends with each allocation refused in turn, and first with none: (number, what it printed)."""
+        for number in itertools.count():
+            with open(self.mark, "w", encoding="utf-8"):
+                names = {"LD_PRELOAD": self.library, "REFUSED_ALLOCATION": str(number), "NOT_REFUSED": self.mark}
+            said = ran(*words(), text=self.text, env={**os.environ, **names})
+            if number > 0 and os.path.exists(self.mark):
+                return
+            yield number, said
+
+    text = ""
+
+
+class Scripts(Refused):
+    def script(self, file, name, *options):
+        script, seen = Script(file, name, list(options)), set()
+        self.text = "\n".join(script.lines) + "\n"
+        for number, said in self.runs(lambda: [program("autoraid"), "run", *options]):
+            fault, how = script.told(*said)
+            self.wants(fault, None, f"what is wrong with allocation {number} refused")
+            seen.add(how)
+        self.holds({"nothing", "start fault", "no memory"} <= seen, "a start fault, and no memory", seen)
+
+    def test_first_run(self):
+        self.script("units", "the first run")
+
+    def test_all_the_room(self):
+        self.script("room", "a unit takes all the room", "--extents", "3")
+
+    def test_squeezes(self):
+        self.script("squeeze", "squeezes fill groups with parity", "--extents", "3")
+
+    def test_parity_with_a_lost_disk(self):
+        self.script("squeeze", "a lost disk is read and written by parity", "--extents", "3")
+
+    def test_moves(self):
+        self.script("moves", "moves go on with a disk out")
+
+    def test_rebuild(self):
+        self.script("rebuild", "a replaced disk is rebuilt")
+
+    def test_cache(self):
+        self.script("cache", "a block waits until it is flushed or forced", "--cache", "4")
+
+    def test_added_disk(self):
+        self.script("added", "an added disk takes extents over, and a group is formed")
+
+
+class Tests(Refused):
+    """Tests that go on after the refusal of any one allocation, by their crates."""
+
+    def goes_on(self, crate, test):
+        number = 0
+        for number, said in self.runs(lambda: [tests_of(crate), test]):
+            self.wants(said.status, 0, f"allocation {number} refused: {said}")
+        self.holds(number > 10, "more than 10 allocations", number)
+
+    def test_history_refused_command(self):
+        self.goes_on("test_history", "memory::a_refused_command_is_asked_again")
+
+    def test_sessions_thread(self):
+        self.goes_on("test_sessions", "scarce::a_thread_that_does_not_start")
+
+    def test_full_cache(self):
+        self.goes_on("test_space", "cache::a_full_cache_takes_no_memory")
+
+    def test_cached_put(self):
+        self.goes_on("test_space", "cache::no_put_is_refused_for_memory")
+
+    def test_array_first_run(self):
+        self.goes_on("test_array", "scarce::the_first_run")
+
+    def test_array_all_the_room(self):
+        self.goes_on("test_array", "scarce::a_unit_takes_all_the_room")
+
+    def test_array_full(self):
+        self.goes_on("test_array", "scarce::a_full_array")
+
+    def test_array_rebuild(self):
+        self.goes_on("test_array", "scarce::a_disk_is_replaced_and_rebuilt")
+
+    def test_array_cache(self):
+        self.goes_on("test_array", "scarce::a_block_waits_in_the_cache")
+
+    def test_array_added_disk(self):
+        self.goes_on("test_array", "scarce::an_added_disk_is_balanced")
+
+    def test_iscsi_session(self):
+        self.goes_on("test_iscsi", "scarce::a_whole_session")
+
+    def test_iscsi_commands_sent_ahead(self):
+        self.goes_on("test_iscsi", "scarce::commands_sent_ahead")
+
+    def test_iscsi_discovery(self):
+        self.goes_on("test_iscsi", "scarce::discovery")
+
+
+def knock(port, has_ended):
+    """Connects to a server as soon as it listens, so that its one session ends."""
+    while not has_ended.is_set():
+        try:
+            socket.create_connection(("127.0.0.1", port), timeout=10).close()
+            return
+        except OSError:
+            time.sleep(0.01)
+
+
+class Servers(Refused):
+    """A server ends with one message, or serves its one connection."""
+
+    def server(self, audit):
+        seen, closed = set(), [f"host {host} commands 0" for host in range(4)]
+        closed.append("closed ok" if audit == "full" else "closed")
+        clients = []
+
+        def words():
+            port, has_ended = free_port(), threading.Event()
+            client = threading.Thread(target=knock, args=(port, has_ended), daemon=True)
+            client.start()
+            clients.append((port, has_ended, client))
+            return [program("autoraid"), "serve", "--port", port, "--sessions", "1", "--audit", audit, "0:0:4"]
+
+        for number, (status, out, error) in self.runs(words):
+            port, has_ended, client = clients.pop()
+            has_ended.set()
+            client.join()
+            said, listening = out.splitlines(), [f"listening {port}"]
+            refused = status == 1 and (said == [] and error in REFUSALS or (said, error) == (listening, "no memory\n"))
+            is_right = refused or (status, said, error) == (0, listening + closed, "")
+            self.holds(is_right, f"with allocation {number} refused, a service or one message", (status, said, error))
+            seen.add((bool(said), error))
+        for _, has_ended, client in clients:
+            has_ended.set()
+            client.join()
+        wanted = {(True, ""), (True, "no memory\n"), *((False, refusal) for refusal in REFUSALS)}
+        self.holds(wanted <= seen, wanted, seen)
+
+    def test_server(self):
+        self.server("full")
+
+    def test_server_without_an_audit(self):
+        self.server("off")
