@@ -444,12 +444,14 @@ class Server(Running):
     """`autoraid serve` with these words, at free ports: that of hosts, and by name those of `doors`."""
 
     DOORS = {"operator": "--operator", "http": "--http", "iscsi": "--iscsi"}
+    # None: the built program.
+    PROGRAM = None
 
     def __init__(self, *words, doors=("operator",), audit="full", before=(), **how):
         self.ending = "closed ok" if audit == "full" else "closed"
         self.port, self.doors = free_port(), {door: free_port() for door in doors}
         options = [word for door in doors for word in (self.DOORS[door], self.doors[door])]
-        line = [program("autoraid"), "serve", "--port", self.port, *options, "--audit", audit]
+        line = [self.PROGRAM or program("autoraid"), "serve", "--port", self.port, *options, "--audit", audit]
         super().__init__(*before, *line, *words, **how)
         if how.get("stdout") is None and (first := self.line()) != f"listening {self.port}\n":
             self.kill()
@@ -579,7 +581,9 @@ class Case(unittest.TestCase):
 
     def serve(self, *words, **how):
         """A served array that is kept until the case ends."""
-        server = Server(*words, **how)
+        return self.kept_server(Server(*words, **how))
+
+    def kept_server(self, server):
         self.addCleanup(server.kill)
         return server
 

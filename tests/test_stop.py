@@ -1,11 +1,12 @@
-"""An operator's `stop`: beside hosts that are busy, that read slowly, that watch; and with an output that can't be
-written."""
+"""An operator's `stop`: beside hosts that are busy, that read slowly, that watch; with an output that can't be written;
+and signals to the start script, which passes them on as a `stop`."""
 import contextlib
 import os
+import signal
 import threading
 import time
 
-from tests.harness import Case, Ended, exactly, read_10
+from tests.harness import ROOT, Case, Ended, Server, exactly, read_10
 
 
 class Stop(Case):
@@ -72,3 +73,36 @@ class Stop(Case):
         os.close(read_end)
         self.wants(server.told("stop\n"), "fault: write fault\n", "a stop")
         self.wants(server.ended(), Ended(1, "", "write fault\n"), "the server")
+
+
+class Started(Server):
+    """A served array whose program the start script started."""
+
+    PROGRAM = os.path.join(ROOT, "autoraid")
+
+
+class Signals(Case):
+    def test_terminated(self):
+        """TERM to the start script alone, as a service manager sends it."""
+        server = self.kept_server(Started("0:0:8"))
+        self.wants(self.kept(server.log_in(0)).is_ready(), True, "TEST UNIT READY")
+        os.kill(server.pid, signal.SIGTERM)
+        self.ends(server, [1, 0, 0, 0])
+
+    def test_interrupted(self):
+        """INT to all processes of a terminal, as Ctrl-C sends it."""
+        server = self.kept_server(Started("0:0:8"))
+        os.killpg(server.pid, signal.SIGINT)
+        self.ends(server, [0, 0, 0, 0])
+
+    def test_second_signal(self):
+        """A stop waits for a host that takes its reply slowly; a second signal doesn't."""
+        server = self.kept_server(Started("--geometry", "paper", "--extents", "16", "0:0:65535"))
+        self.kept(server.log_in(0)).sends(read_10(0, 65535))
+        time.sleep(0.5)
+        os.kill(server.pid, signal.SIGTERM)
+        time.sleep(0.5)
+        begun = time.monotonic()
+        os.kill(server.pid, signal.SIGTERM)
+        self.wants(server.ended().status, 128 + signal.SIGKILL, "the start script's status")
+        self.holds(time.monotonic() - begun < 2, "a second signal ends it at once", time.monotonic() - begun)
