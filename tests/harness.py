@@ -174,7 +174,7 @@ def free_port():
     while True:
         port = next(ports, None)
         if port is None:
-            first = 10_000 + os.getpid() * 97 % 19_000
+            first = 10_000 + os.getpid() * 907 % 19_000
             ports = iter(range(first, first + 900))
             continue
         with socket.socket() as probe, contextlib.suppress(OSError):

@@ -47,6 +47,7 @@ SAID = [
     ("out", "fault: bad argument"),
     ("out x", "fault: bad argument"),
     ("read 0 0 0 1", "fault: not an operator's word"),
+    ("read x", "fault: not an operator's word"),
     ("write 0 0 0 1 AA", "fault: not an operator's word"),
     ("cdb 0 0 00", "fault: not an operator's word"),
     ("out 200", "refused E4 NoSuchDisk"),

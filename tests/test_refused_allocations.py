@@ -238,6 +238,53 @@ class Servers(Refused):
         wanted = {(True, ""), (True, "no memory\n"), *((False, refusal) for refusal in REFUSALS)}
         self.holds(wanted <= seen, wanted, seen)
 
+    def order(self, audit):
+        """Of eight units each is there exactly if its `make` was answered `ok`, whatever allocation was refused."""
+        seen = set()
+        for number, server in self.servers(audit):
+            made = self.told(server, "".join(f"make 0 {lun} 8\n" for lun in range(8))).splitlines()
+            dropped = [self.dropped(server, lun) for lun in range(8)]
+            if "" in dropped:
+                ended = server.ended()
+                self.wants((ended.status, ended.error), (1, "no memory\n"), f"a server, allocation {number} refused")
+                continue
+            wanted = ["ok\n" if said == "ok" else "refused M5 Absent\n" for said in made + [""] * (8 - len(made))]
+            self.wants(dropped, wanted, f"`drop` of units that were answered {made}, allocation {number} refused")
+            seen.update(made)
+        self.holds({"ok"} < seen, "units that were made, and one that wasn't", seen)
+
+    def told(self, server, lines):
+        try:
+            return server.told(lines)
+        except OSError:
+            return ""
+
+    def dropped(self, server, lun):
+        """The answer to a `drop`. (The one refusal may meet it, and then it isn't done.)"""
+        said = self.told(server, f"drop 0 {lun}\n")
+        is_met = said in ("", "fault: no memory\n", "refused M4 NoMemory\n")
+        return self.told(server, f"drop 0 {lun}\n") if is_met else said
+
+    def servers(self, audit):
+        """For each allocation that is refused a server, if it begins to listen."""
+        for number in itertools.count():
+            with open(self.mark, "w", encoding="utf-8"):
+                names = {"LD_PRELOAD": self.library, "REFUSED_ALLOCATION": str(number), "NOT_REFUSED": self.mark}
+            try:
+                server = self.serve("--extents", "16", audit=audit, env={**os.environ, **names})
+            except ConnectionError:
+                continue
+            yield number, server
+            server.kill()
+            if number > 0 and os.path.exists(self.mark):
+                return
+
+    def test_order(self):
+        self.order("full")
+
+    def test_order_without_an_audit(self):
+        self.order("off")
+
     def test_server(self):
         self.server("full")
 

@@ -68,7 +68,7 @@ def contracts(path):
 
 def words(path):
     """The words that a file of specifications defines, each with its text."""
-    parts = re.split(r"(?m)^(?=(?:abbrev |unfoldable )?pub (?!use|mod))", read(path))
+    parts = re.split(r"(?m)^(?=(?:abbrev |unfoldable )?pub (?!(?:use|mod)\b))", read(path))
     heads = [(re.match(r"(?:abbrev |unfoldable )?pub (?:record |data )?([^\s:]+)", part), part) for part in parts]
     return {head.group(1): re.split(r"(?m)^(?:--|use )", part)[0] for head, part in heads if head}
 

@@ -15,7 +15,9 @@ blank lines between them. An entry, whose first line is missing in a file of its
     new: TEXT
 
 'refused' names a function and the clause, or the goal of a loop or a call, that the check says is not proved; each
-'old' is one line that the file has once. Mutations of different functions are tried together, since a function is
+'old' stands at one place of the file or, behind a line 'in: memory::MemDisk::new', of that function. In an entry it is
+found by its tokens where it doesn't stand there as it is, and `$a` is any name, the same in 'old' and 'new': so an
+entry survives another layout and another name. Mutations of different functions are tried together, since a function is
 proved from the contracts of those that it calls; one that isn't refused so is tried again alone.
 """
 import glob
@@ -41,8 +43,9 @@ class Mutation:
     name: str
     breaks: str = ""
     refused: str = ""
-    changes: list = field(default_factory=list)  # (file, old, new)
+    changes: list = field(default_factory=list)  # (file, function or None, old, new)
     places: set = field(default_factory=set)  # the functions that it changes
+    is_edit: bool = False  # whether it is a file of must-fail, whose texts stand as they are
 
     def function(self):
         return self.refused.partition(", ")[0]
@@ -62,7 +65,7 @@ class Mutation:
 
 def parsed(name, lines):
     """The mutation that these lines describe."""
-    mutation, file, old = Mutation(name), None, None
+    mutation, file, function, old = Mutation(name), None, None, None
     for line in lines:
         key, _, value = line.partition(": ")
         if key == "breaks":
@@ -70,11 +73,13 @@ def parsed(name, lines):
         elif key == "refused":
             mutation.refused = value
         elif key == "file":
-            file = value
+            file, function = value, None
+        elif key == "in":
+            function = value
         elif key == "old":
             old = value
         elif key in ("new", "new:"):
-            mutation.changes.append((file, old, value))
+            mutation.changes.append((file, function, old, value))
     return mutation
 
 
@@ -85,6 +90,7 @@ def mutations_of(folder):
     for edit in sorted(os.listdir(edits)) if os.path.isdir(edits) else []:
         with open(os.path.join(edits, edit), encoding="utf-8") as file:
             found.append(parsed(edit.removesuffix(".edit"), file.read().split("\n")))
+            found[-1].is_edit = True
     listed = os.path.join(folder, "mutations")
     if os.path.exists(listed):
         with open(listed, encoding="utf-8") as file:
@@ -125,17 +131,50 @@ def function_at(folder, path, text, at):
     return "::".join(part for part in (module, owner + of_trait, name) if part) if name else ""
 
 
+@cache
+def pattern_of(old):
+    """The tokens of a text, with any space between them; `$a` is a name, the same one at each place."""
+    pattern, last, seen = "", "", set()
+    for token in re.findall(r"\$\w+|\w+|\S", old):
+        is_word = re.match(r"[$\w]", token) is not None
+        pattern += (r"\s+" if is_word and re.match(r"[$\w]", last) else r"\s*") if last else ""
+        last, text = token, re.escape(token)
+        if token.startswith("$") and is_word and token != "$":
+            name = token[1:]
+            text = f"(?P={name})" if name in seen else rf"(?P<{name}>[A-Za-z_]\w*)"
+            seen.add(name)
+        pattern += rf"(?<!\w){text}(?!\w)" if is_word else text
+    return re.compile(pattern)
+
+
+def matches(text, old):
+    """The places at which a text stands: as it is or, if it doesn't, by its tokens."""
+    return list(re.finditer(re.escape(old), text)) or list(pattern_of(old).finditer(text))
+
+
+def changed(text, old, new, is_meant=lambda end: True):
+    """A text with `new` in place of `old`, and where that ended; None where it isn't at one place that is meant."""
+    found = [place for place in matches(text, old) if is_meant(place.end())]
+    if len(found) != 1:
+        return None
+    names = found[0].groupdict()
+    new = re.sub(r"\$(\w+)", lambda name: names.get(name[1], name[0]), new)
+    return text[: found[0].start()] + new + text[found[0].end() :], found[0].end()
+
+
 def applied(mutation, folder):
     """The texts of the files that a mutation changes, or None where it can't be applied."""
     texts = {}
-    for path, old, new in mutation.changes:
+    for path, function, old, new in mutation.changes:
         if path not in texts:
             with open(os.path.join(folder, path), encoding="utf-8") as file:
                 texts[path] = file.read()
-        if texts[path].count(old) != 1:
+        text = texts[path]
+        found = changed(text, old, new, lambda end: function in (None, function_at(folder, path, text, end)))
+        if found is None or mutation.is_edit and text.count(old) != 1:
             return None
-        mutation.places.add(function_at(folder, path, texts[path], texts[path].index(old) + len(old)))
-        texts[path] = texts[path].replace(old, new)
+        mutation.places.add(function_at(folder, path, text, found[1]))
+        texts[path] = found[0]
     return texts if mutation.changes else None
 
 
