@@ -19,12 +19,12 @@ use Rattle.ar_iscsi.specs.Session.{RunsFeature}
 use Rattle.ar_iscsi.specs.Target.{login_start, IsFeature}
 use Rattle.ar_iscsi.specs.declared.login.LoginState.{LoginState}
 
--- without collected data, and with none that wait
+-- without collected data, with none that wait, and by what was agreed on
 pub feature_from :
-    {P : Type 0} (commands : Commands P) (resets : UnitResets P) (address : List ℕ) (limits : Limits)
+    {P : Type 0} (commands : Commands P) (resets : UnitResets P) (address : List ℕ) (limits agreed : Limits)
     (source : SourceState) (sink : SinkState)
     (flow : Flow) (bytes : List ℕ) (waiting : List WaitingPdu) (port : P) (reason : FeatureEnd)
-    (new : Place FeatureSpot P) → bytes ≡ [] → waiting ≡ []
+    (new : Place FeatureSpot P) → limits ≡ agreed → bytes ≡ [] → waiting ≡ []
     → RunsFeature commands resets address limits
     (record {
       source = source;
@@ -33,7 +33,7 @@ pub feature_from :
       port = port;
     })
     reason new
-    → RunsFeature commands resets address limits
+    → RunsFeature commands resets address agreed
     (record {
       source = source;
       sink = sink;
@@ -41,8 +41,16 @@ pub feature_from :
       port = port;
     })
     reason new
-feature_from commands resets address limits source sink flow bytes waiting port reason new no_bytes none runs =
-    subst (λ (l : List ℕ). RunsFeature commands resets address limits
+feature_from commands resets address limits agreed source sink flow bytes waiting port reason new same no_bytes none runs =
+    subst (λ (a : Limits). RunsFeature commands resets address a
+    (record {
+      source = source;
+      sink = sink;
+      spot = record { spot = record { flow = flow; bytes = [] }; waiting = [] };
+      port = port;
+    })
+    reason new) same
+    (subst (λ (l : List ℕ). RunsFeature commands resets address limits
     (record {
       source = source;
       sink = sink;
@@ -57,7 +65,7 @@ feature_from commands resets address limits source sink flow bytes waiting port 
       spot = record { spot = record { flow = flow; bytes = bytes }; waiting = w };
       port = port;
     })
-    reason new) none runs)
+    reason new) none runs))
 
 -- with nothing negotiated, and without text
 pub login_from : {P : Type 0} (logins : Logins P) (source : SourceState) (sink : SinkState) (so_far : Negotiation)

@@ -1,12 +1,12 @@
 -- A text item by item: the first one ends at the first zero byte, and the last one is what no zero byte is behind.
 use Rattle.std.proofs.Common.{◌≡◌, ◌∙◌, ℕ, ◌+◌, ◌<◌, ◌≤◌, Bool, true, false, cond, ltb, List, [], ◌∷◌, ◌++◌, refl, sym}
-use Rattle.std.proofs.Common.{ap, append-nil, append_assoc, length, take, drop, arith, Some, None, unwrap_or}
-use Rattle.std.specs.Prelude.{◌==◌, ◌||◌, bytes_eq, codes}
+use Rattle.std.proofs.Common.{ap, append-nil, append_assoc, length, take, drop, arith, Option, Some, None, unwrap_or}
+use Rattle.std.specs.Prelude.{◌==◌, ◌||◌, bytes_eq}
 use Rattle.std.specs.List.{position_or_len, slice_split, list_any}
 use Rattle.std.proofs.lemmas.List.Splits.{slice_split_none, slice_split_first}
 use Rattle.std.proofs.lemmas.List.Sums.{fails_before_first}
 use Rattle.ar_iscsi.specs.declared.negotiation.Negotiation.{Negotiation}
-use Rattle.ar_iscsi.specs.Text.{text_answer, items_answer, item_answer, has_none}
+use Rattle.ar_iscsi.specs.Text.{text_answer, items_answer, item_answer, has_member}
 use Rattle.ar_iscsi.specs.Negotiation.{negotiated, after_items, after_item}
 use Rattle.ar_iscsi.specs.Targets.{targets_answer, asked_answers, asked_answer}
 
@@ -33,19 +33,19 @@ split_last byte text end at whole =
     (λ k d l. fails_before_first (λ b. b == byte) text k d (omega (arith, whole, at)))
 
 -- the answers to what came and to what is left, one item further
-pub answer_more : (out out' all text rest : List ℕ) (end : ℕ) → rest ≡ drop (end + 1) text
+pub answer_more : (burst : ℕ) (out out' all text rest : List ℕ) (end : ℕ) → rest ≡ drop (end + 1) text
     → end ≡ position_or_len (λ b. b == 0) text → end < length text
-    → out' ≡ out ++ item_answer (take end text) → out ++ text_answer text ≡ all → out' ++ text_answer rest ≡ all
-answer_more out out' all text rest end is at within e h =
-    ap (λ (l : List ℕ). out' ++ text_answer l) is ∙ ap (λ (l : List ℕ). l ++ text_answer (drop (end + 1) text)) e
-    ∙ append_assoc out (item_answer (take end text)) (text_answer (drop (end + 1) text))
-    ∙ ap (λ (l : List ℕ). out ++ l) (sym (ap items_answer (split_first 0 text end at within))) ∙ h
+    → out' ≡ out ++ item_answer burst (take end text) → out ++ text_answer burst text ≡ all → out' ++ text_answer burst rest ≡ all
+answer_more burst out out' all text rest end is at within e h =
+    ap (λ (l : List ℕ). out' ++ text_answer burst l) is ∙ ap (λ (l : List ℕ). l ++ text_answer burst (drop (end + 1) text)) e
+    ∙ append_assoc out (item_answer burst (take end text)) (text_answer burst (drop (end + 1) text))
+    ∙ ap (λ (l : List ℕ). out ++ l) (sym (ap (items_answer burst) (split_first 0 text end at within))) ∙ h
 
-pub answer_last : (out out' all text : List ℕ) (end : ℕ) → end ≡ position_or_len (λ b. b == 0) text → length text ≤ end
-    → out' ≡ out ++ item_answer text → out ++ text_answer text ≡ all → out' ≡ all
-answer_last out out' all text end at whole e h =
-    e ∙ ap (λ (l : List ℕ). out ++ l) (sym (append-nil (item_answer text))
-    ∙ sym (ap items_answer (split_last 0 text end at whole))) ∙ h
+pub answer_last : (burst : ℕ) (out out' all text : List ℕ) (end : ℕ) → end ≡ position_or_len (λ b. b == 0) text → length text ≤ end
+    → out' ≡ out ++ item_answer burst text → out ++ text_answer burst text ≡ all → out' ≡ all
+answer_last burst out out' all text end at whole e h =
+    e ∙ ap (λ (l : List ℕ). out ++ l) (sym (append-nil (item_answer burst text))
+    ∙ sym (ap (items_answer burst) (split_last 0 text end at whole))) ∙ h
 
 -- the same for what is negotiated
 pub negotiated_more : (old new all : Negotiation) (text rest : List ℕ) (end : ℕ) → rest ≡ drop (end + 1) text
@@ -61,47 +61,47 @@ pub negotiated_last : (old all : Negotiation) (text : List ℕ) (end : ℕ) → 
 negotiated_last old all text end at whole h = sym (ap (after_items old) (split_last 0 text end at whole)) ∙ h
 
 -- the same for the targets that are asked for
-pub targets_more : (address out out' all text rest : List ℕ) (end : ℕ) → rest ≡ drop (end + 1) text
+pub targets_more : (address : List ℕ) (host : Option ℕ) (out out' all text rest : List ℕ) (end : ℕ) → rest ≡ drop (end + 1) text
     → end ≡ position_or_len (λ b. b == 0) text → end < length text
-    → out' ≡ out ++ asked_answer address (take end text) → out ++ targets_answer address text ≡ all
-    → out' ++ targets_answer address rest ≡ all
-targets_more address out out' all text rest end is at within e h =
-    ap (λ (l : List ℕ). out' ++ targets_answer address l) is
-    ∙ ap (λ (l : List ℕ). l ++ targets_answer address (drop (end + 1) text)) e
-    ∙ append_assoc out (asked_answer address (take end text)) (targets_answer address (drop (end + 1) text))
-    ∙ ap (λ (l : List ℕ). out ++ l) (sym (ap (asked_answers address) (split_first 0 text end at within))) ∙ h
+    → out' ≡ out ++ asked_answer address host (take end text) → out ++ targets_answer address host text ≡ all
+    → out' ++ targets_answer address host rest ≡ all
+targets_more address host out out' all text rest end is at within e h =
+    ap (λ (l : List ℕ). out' ++ targets_answer address host l) is
+    ∙ ap (λ (l : List ℕ). l ++ targets_answer address host (drop (end + 1) text)) e
+    ∙ append_assoc out (asked_answer address host (take end text)) (targets_answer address host (drop (end + 1) text))
+    ∙ ap (λ (l : List ℕ). out ++ l) (sym (ap (asked_answers address host) (split_first 0 text end at within))) ∙ h
 
-pub targets_last : (address out out' all text : List ℕ) (end : ℕ) → end ≡ position_or_len (λ b. b == 0) text
+pub targets_last : (address : List ℕ) (host : Option ℕ) (out out' all text : List ℕ) (end : ℕ) → end ≡ position_or_len (λ b. b == 0) text
     → length text ≤ end
-    → out' ≡ out ++ asked_answer address text → out ++ targets_answer address text ≡ all → out' ≡ all
-targets_last address out out' all text end at whole e h =
-    e ∙ ap (λ (l : List ℕ). out ++ l) (sym (append-nil (asked_answer address text))
-    ∙ sym (ap (asked_answers address) (split_last 0 text end at whole))) ∙ h
+    → out' ≡ out ++ asked_answer address host text → out ++ targets_answer address host text ≡ all → out' ≡ all
+targets_last address host out out' all text end at whole e h =
+    e ∙ ap (λ (l : List ℕ). out ++ l) (sym (append-nil (asked_answer address host text))
+    ∙ sym (ap (asked_answers address host) (split_last 0 text end at whole))) ∙ h
 
 -- the members of a list of methods: the first and those of the rest
-pub none_more : (text rest : List ℕ) (end : ℕ) → rest ≡ drop (end + 1) text → end ≡ position_or_len (λ b. b == 44) text
+pub member_more : (member text rest : List ℕ) (end : ℕ) → rest ≡ drop (end + 1) text → end ≡ position_or_len (λ b. b == 44) text
     → end < length text
-    → has_none text ≡ (bytes_eq (take end text) (codes "None") || has_none rest)
-none_more text rest end is at within =
-    ap (list_any (λ v. bytes_eq v (codes "None"))) (split_first 44 text end at within)
-    ∙ ap (λ (l : List ℕ). bytes_eq (take end text) (codes "None") || has_none l) (sym is)
+    → has_member member text ≡ (bytes_eq (take end text) member || has_member member rest)
+member_more member text rest end is at within =
+    ap (list_any (λ v. bytes_eq v member)) (split_first 44 text end at within)
+    ∙ ap (λ (l : List ℕ). bytes_eq (take end text) member || has_member member l) (sym is)
 
--- the first is None
-pub none_found : (text : List ℕ) (end : ℕ) → end ≡ position_or_len (λ b. b == 44) text → end < length text
-    → bytes_eq (take end text) (codes "None") ≡ true → has_none text ≡ true
-none_found text end at within e =
-    none_more text (drop (end + 1) text) end refl at within ∙ ap (λ (b : Bool). b || has_none (drop (end + 1) text)) e
+-- the first is this member
+pub member_found : (member text : List ℕ) (end : ℕ) → end ≡ position_or_len (λ b. b == 44) text → end < length text
+    → bytes_eq (take end text) member ≡ true → has_member member text ≡ true
+member_found member text end at within e =
+    member_more member text (drop (end + 1) text) end refl at within ∙ ap (λ (b : Bool). b || has_member member (drop (end + 1) text)) e
 
 -- the first is another
-pub none_passed : (text rest : List ℕ) (end : ℕ) → rest ≡ drop (end + 1) text
+pub member_passed : (member text rest : List ℕ) (end : ℕ) → rest ≡ drop (end + 1) text
     → end ≡ position_or_len (λ b. b == 44) text → end < length text
-    → bytes_eq (take end text) (codes "None") ≡ false → has_none rest ≡ has_none text
-none_passed text rest end is at within e =
-    sym (none_more text rest end is at within ∙ ap (λ (b : Bool). b || has_none rest) e)
+    → bytes_eq (take end text) member ≡ false → has_member member rest ≡ has_member member text
+member_passed member text rest end is at within e =
+    sym (member_more member text rest end is at within ∙ ap (λ (b : Bool). b || has_member member rest) e)
 
 -- the last is the one left
-pub none_last : (text : List ℕ) (end : ℕ) → end ≡ position_or_len (λ b. b == 44) text → length text ≤ end
-    → has_none text ≡ bytes_eq text (codes "None")
-none_last text end at whole =
-    ap (list_any (λ v. bytes_eq v (codes "None"))) (split_last 44 text end at whole)
-    ∙ or_false (bytes_eq text (codes "None"))
+pub member_last : (member text : List ℕ) (end : ℕ) → end ≡ position_or_len (λ b. b == 44) text → length text ≤ end
+    → has_member member text ≡ bytes_eq text member
+member_last member text end at whole =
+    ap (list_any (λ v. bytes_eq v member)) (split_last 44 text end at whole)
+    ∙ or_false (bytes_eq text member)

@@ -135,13 +135,14 @@ StepsLogin logins request at step.Enters segment so_far state port out new port'
     EntersLogin logins request at segment so_far state port out new port' ended
 
 -- what a request does whose text is whole, and what was negotiated with it
-abbrev pub JudgesText : {P : Type 0} → Logins P → LoginRequest → LoginStage → LoginStep → List ℕ → Negotiation
+unfoldable pub JudgesText : {P : Type 0} → Logins P → LoginRequest → LoginStage → LoginStep → List ℕ → Negotiation
     → LoginState → P → List ℕ → LoginSpot → P
     → LoginResult → LoginStatus → Type 0
 JudgesText logins request at which text so_far state port out new port' ended code =
     MatchBool (is_success code)
-    (MatchBool (nat_le (length (text_answer text)) most_text)
-    (StepsLogin logins request at which (text_answer text) so_far state port out new port' ended)
+    (MatchBool (nat_le (length (text_answer so_far.limits.max_burst text)) most_text)
+    (StepsLogin logins request at which (text_answer so_far.limits.max_burst text) so_far state port out new port'
+    ended)
     (RefusesLogin request status.OutOfResources state out ended × (port' ≡ port)))
     (RefusesLogin request code state out ended × (port' ≡ port))
 

@@ -1,12 +1,10 @@
 -- The answer to a SCSI command (RFC 7143, 11.4 and 11.7).
-use Rattle.std.specs.Prelude.{◌≡◌, ◌<◌, ◌≤◌, ◌+◌, ◌-◌, ◌*◌, ◌%◌, ◌^◌, ◌||◌, ℕ, nat_lt, if◌then◌else◌, List, [], ◌∷◌}
-use Rattle.std.specs.Prelude.{◌++◌, length, take, Option, Some, None, Result, Ok, Err}
-use Rattle.ar_scsi.specs.declared.command.Command.{Command}
-use Rattle.ar_scsi.specs.declared.command.Command.TheVariants.{TestReady, Inquiry, Capacity, Read, Write}
+use Rattle.std.specs.Prelude.{◌≡◌, ◌<◌, ◌≤◌, ◌+◌, ◌-◌, ◌%◌, ◌^◌, ◌||◌, ℕ, nat_lt, if◌then◌else◌, List, [], ◌∷◌}
+use Rattle.std.specs.Prelude.{◌++◌, length, take, Option, Some, None}
 use Rattle.ar_scsi.specs.declared.reply.Reply.{Reply}
-use Rattle.ar_scsi.specs.declared.sense.Sense.{Sense}
-use Rattle.ar_scsi.specs.Reading.{reading}
 use Rattle.ar_frames.specs.Frame.{status_byte}
+use Rattle.ar_target.specs.Request.{request_of}
+use Rattle.ar_target.specs.Translation.{taken_by_request}
 use Rattle.ar_iscsi.specs.declared.request.ScsiCommand.{ScsiCommand}
 use Rattle.ar_iscsi.specs.declared.response.Residual.{Residual}
 use Rattle.ar_iscsi.specs.declared.response.Residual.TheVariants.{Exact, Underflow, Overflow}
@@ -31,18 +29,9 @@ pub record PutsDataIn (tag : ℕ) (numbers : SequenceNumbers) (most : ℕ) (carr
   pub appended : new ≡ old ++ bytes
   pub are : AreDataIn tag numbers most count carried bytes
 
--- the bytes of data that a command takes from its host: those of a WRITE's blocks, of 512 bytes each
-abbrev pub taken_by : Result Command Sense → ℕ
-taken_by (Ok (Write lba count fua)) = 512 * count
-taken_by (Ok (Read lba count)) = 0
-taken_by (Ok (Inquiry len)) = 0
-taken_by (Ok TestReady) = 0
-taken_by (Ok Capacity) = 0
-taken_by (Err sense) = 0
-
--- the bytes of data that a command block takes
+-- the bytes of data that a command block takes from its host
 abbrev pub data_out_len : List ℕ → ℕ
-data_out_len cdb = taken_by (reading cdb)
+data_out_len cdb = taken_by_request (request_of cdb) cdb
 
 -- the Expected Data Transfer Length; 0 if no data are expected (RFC 7143, 11.3.4)
 abbrev pub expected_len : ScsiCommand → ℕ

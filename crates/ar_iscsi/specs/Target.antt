@@ -1,5 +1,5 @@
 -- A whole session with a target: its login, and its full feature phase.
-use Rattle.std.specs.Prelude.{◌≡◌, ℕ, List, [], None}
+use Rattle.std.specs.Prelude.{◌≡◌, ℕ, List, [], Option, Some, None}
 use Rattle.ar_scsi.specs.Reply.{check}
 use Rattle.ar_scsi.specs.Sense.{logical_unit_not_supported}
 use Rattle.ar_frames.specs.Conversation.{Commands}
@@ -10,7 +10,11 @@ use Rattle.ar_frames.specs.Stream.{SourceState, SinkState}
 use Rattle.ar_iscsi.specs.declared.login.LoginState.{LoginState}
 use Rattle.ar_iscsi.specs.declared.login_phase.LoginEnd.{LoginEnd}
 use Rattle.ar_iscsi.specs.declared.login_phase.LoginEnd.TheVariants.{Entered}
+use Rattle.ar_iscsi.specs.declared.negotiation.Limits.{Limits}
+use Rattle.ar_iscsi.specs.declared.negotiation.Negotiation.{Negotiation}
 use Rattle.ar_iscsi.specs.declared.negotiation.SessionKind.TheVariants.{Normal}
+use Rattle.ar_iscsi.specs.declared.negotiation.TargetChoice.{TargetChoice}
+use Rattle.ar_iscsi.specs.declared.negotiation.TargetChoice.TheVariants.{OfHost}
 use Rattle.ar_iscsi.specs.declared.session.FeatureEnd.{FeatureEnd}
 use Rattle.ar_iscsi.specs.declared.target.IscsiEnd.{IscsiEnd}
 use Rattle.ar_iscsi.specs.declared.target.IscsiEnd.TheVariants as end
@@ -33,6 +37,15 @@ no_resets old lun outcome new = (outcome ≡ NoUnit) × (new ≡ old)
 -- where a login begins
 abbrev pub login_start : LoginSpot
 login_start = record { state = record { stage = None; so_far = at_first; stat_sn = 0; cmd_sn = 0 }; text = [] }
+
+-- the host of a target
+abbrev pub host_of : TargetChoice → Option ℕ
+host_of (OfHost host) = Some host
+host_of other = None
+
+-- what was agreed on for a normal session, which is with the target of a host
+abbrev pub normal_limits : Negotiation → Limits
+normal_limits so_far = record so_far.limits { host = host_of so_far.target }
 
 -- where a full feature phase begins, after the last response of the login: its numbers count on
 abbrev pub feature_start : LoginState → FeatureSpot
@@ -59,7 +72,7 @@ pub data IsFeature {P : Type 0} (commands : Commands P) (resets : UnitResets P) 
     (sink sink' : SinkState) (port port' : P) (reason : FeatureEnd) : Type 0 where
   at_port :
       (spot : FeatureSpot) → state.so_far.kind ≡ Normal
-      → RunsFeature commands resets address state.so_far.limits
+      → RunsFeature commands resets address (normal_limits state.so_far)
       (record { source = source; sink = sink; spot = feature_start state; port = port }) reason
       (record { source = source'; sink = sink'; spot = spot; port = port' })
       → IsFeature commands resets address state source source' sink sink' port port' reason

@@ -1,5 +1,6 @@
 -- Discovery: what `SendTargets` is answered (RFC 7143, Appendix C).
-use Rattle.std.specs.Prelude.{ℕ, ◌+◌, ◌==◌, nat_lt, ◌||◌, if◌then◌else◌, List, [], ◌∷◌, ◌++◌, length, codes, bytes_eq}
+use Rattle.std.specs.Prelude.{ℕ, ◌+◌, ◌==◌, nat_lt, Bool, false, ◌||◌, if◌then◌else◌, List, [], ◌∷◌, ◌++◌, length, codes}
+use Rattle.std.specs.Prelude.{bytes_eq, Option, Some, None}
 use Rattle.std.specs.List.{slice_split}
 use Rattle.ar_iscsi.specs.declared.keys.Key.{Key}
 use Rattle.ar_iscsi.specs.declared.keys.Key.TheVariants as key
@@ -34,26 +35,47 @@ target_chosen address Unnamed = []
 target_chosen address Unknown = []
 target_chosen address (OfHost host) = host_target address host
 
--- the targets that a value of `SendTargets` asks for: all, or the one of this name
+-- the targets that a value of `SendTargets` asks for in a session for discovery: all, or the one of this name
 abbrev pub chosen : List ℕ → List ℕ → List ℕ
 chosen address wanted =
     if (length wanted == 0) || bytes_eq wanted (codes "All") then all_targets address else target_chosen address
     (target_of wanted)
 
+-- a name is that of a host's target
+abbrev pub is_of_host : TargetChoice → ℕ → Bool
+is_of_host Unnamed host = false
+is_of_host Unknown host = false
+is_of_host (OfHost named) host = named == host
+
+-- the targets that a value of `SendTargets` asks for in a session with the target of a host: that one alone, by its
+-- name or by none
+abbrev pub own_target : List ℕ → ℕ → List ℕ → List ℕ
+own_target address host wanted =
+    if (length wanted == 0) || is_of_host (target_of wanted) host then host_target address host else []
+
+-- the answer to `SendTargets` in a session for discovery, or in one with the target of a host, where all targets
+-- aren't to be had
+abbrev pub send_targets : List ℕ → Option ℕ → List ℕ → List ℕ
+send_targets address None item = chosen address (item_value item)
+send_targets address (Some host) item =
+    if bytes_eq (item_value item) (codes "All") then text_item (item_name item) (codes "Reject")
+    else own_target address host (item_value item)
+
 -- the answer to an item of this key
-abbrev pub answer_by_key : List ℕ → Key → List ℕ → List ℕ
-answer_by_key address key.SendTargets item = chosen address (item_value item)
-answer_by_key address other item = text_item (item_name item) (codes "Reject")
+abbrev pub answer_by_key : List ℕ → Option ℕ → Key → List ℕ → List ℕ
+answer_by_key address host key.SendTargets item = send_targets address host item
+answer_by_key address host other item = text_item (item_name item) (codes "Reject")
 
 -- the answer to an item; an empty one has none
-abbrev pub asked_answer : List ℕ → List ℕ → List ℕ
-asked_answer address item = if length item == 0 then [] else answer_by_key address (key_named (item_name item)) item
+abbrev pub asked_answer : List ℕ → Option ℕ → List ℕ → List ℕ
+asked_answer address host item =
+    if length item == 0 then [] else answer_by_key address host (key_named (item_name item)) item
 
 -- the answers to items, in order
-abbrev pub asked_answers : List ℕ → List (List ℕ) → List ℕ
-asked_answers address [] = []
-asked_answers address (item ∷ items) = asked_answer address item ++ asked_answers address items
+abbrev pub asked_answers : List ℕ → Option ℕ → List (List ℕ) → List ℕ
+asked_answers address host [] = []
+asked_answers address host (item ∷ items) = asked_answer address host item ++ asked_answers address host items
 
--- the answer to a text, which is split at its zero bytes
-abbrev pub targets_answer : List ℕ → List ℕ → List ℕ
-targets_answer address text = asked_answers address (slice_split (λ b. b == 0) text)
+-- the answer to a text, which is split at its zero bytes, in a session with the target of a host, or for discovery
+abbrev pub targets_answer : List ℕ → Option ℕ → List ℕ → List ℕ
+targets_answer address host text = asked_answers address host (slice_split (λ b. b == 0) text)

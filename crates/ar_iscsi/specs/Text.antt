@@ -1,9 +1,9 @@
 -- Text of login and text PDUs: items of the form `Name=value`, each ended by a zero byte (RFC 7143, 6.1), and what a
 -- target answers to each key (RFC 7143, 13).
-use Rattle.std.specs.Prelude.{ℕ, ◌+◌, ◌-◌, ◌*◌, ◌==◌, nat_lt, nat_le, min, max, Bool, ◌&&◌, if◌then◌else◌, List, []}
-use Rattle.std.specs.Prelude.{◌∷◌, ◌++◌, length, codes, bytes_eq, Option, Some, None}
+use Rattle.std.specs.Prelude.{ℕ, ◌+◌, ◌-◌, ◌*◌, ◌==◌, nat_lt, nat_le, min, max, Bool, ◌&&◌, ◌||◌, if◌then◌else◌}
+use Rattle.std.specs.Prelude.{List, [], ◌∷◌, ◌++◌, length, take, drop, codes, bytes_eq, Option, Some, None}
 use Rattle.std.specs.List.{list_any, slice_split, before_first, after_first}
-use Rattle.std.specs.Char.{is_ascii_digit}
+use Rattle.std.specs.Char.{is_ascii_digit, is_ascii_hexdigit}
 use Rattle.std.specs.Fmt.{decimal}
 use Rattle.ar_iscsi.specs.declared.keys.Key.{Key}
 use Rattle.ar_iscsi.specs.declared.keys.Key.TheVariants as key
@@ -23,9 +23,31 @@ abbrev pub numeral_from : ℕ → List ℕ → Option ℕ
 numeral_from n [] = Some n
 numeral_from n (c ∷ cs) = if is_ascii_digit c && nat_lt n 16777216 then numeral_from (n * 10 + (c - 48)) cs else None
 
--- a number: decimal digits, at least one
+-- the value of a hexadecimal digit, of either case
+abbrev pub hex_value : ℕ → ℕ
+hex_value c = if nat_le c 57 then c - 48 else (if nat_le c 70 then c - 55 else c - 87)
+
+-- the number of hexadecimal digits, behind those whose number is `n`; none if it passes 2^24 before its last digit
+abbrev pub hexadecimal_from : ℕ → List ℕ → Option ℕ
+hexadecimal_from n [] = Some n
+hexadecimal_from n (c ∷ cs) =
+    if is_ascii_hexdigit c && nat_lt n 16777216 then hexadecimal_from (n * 16 + hex_value c) cs else None
+
+-- at least one decimal digit
+abbrev pub decimal_number : List ℕ → Option ℕ
+decimal_number digits = if length digits == 0 then None else numeral_from 0 digits
+
+-- at least one hexadecimal digit
+abbrev pub hexadecimal_number : List ℕ → Option ℕ
+hexadecimal_number digits = if length digits == 0 then None else hexadecimal_from 0 digits
+
+-- a number begins as a hexadecimal one does
+abbrev pub is_hexadecimal : List ℕ → Bool
+is_hexadecimal digits = bytes_eq (take 2 digits) (codes "0x") || bytes_eq (take 2 digits) (codes "0X")
+
+-- a number: in hexadecimal behind 0x or 0X, and otherwise in decimal (RFC 7143, 6.1)
 abbrev pub numeral : List ℕ → Option ℕ
-numeral digits = if length digits == 0 then None else numeral_from 0 digits
+numeral digits = if is_hexadecimal digits then hexadecimal_number (drop 2 digits) else decimal_number digits
 
 -- the keys of the order of what is transferred, of connections and of recovery
 abbrev pub order_key : List ℕ → Key
@@ -39,7 +61,8 @@ order_key name =
     else (if bytes_eq name (codes "DefaultTime2Retain") then key.DefaultTime2Retain
     else (if bytes_eq name (codes "IFMarker") then key.IFMarker
     else (if bytes_eq name (codes "OFMarker") then key.OFMarker
-    else key.Unknown))))))))
+    else (if bytes_eq name (codes "TaskReporting") then key.TaskReporting
+    else key.Unknown)))))))))
 
 -- the keys of what a session transfers
 abbrev pub transfer_key : List ℕ → Key
@@ -64,13 +87,21 @@ key_named name =
     else (if bytes_eq name (codes "SendTargets") then key.SendTargets
     else transfer_key name)))))
 
--- None is in a list, whose members are separated by commas
-abbrev pub has_none : List ℕ → Bool
-has_none offer = list_any (λ v. bytes_eq v (codes "None")) (slice_split (λ b. b == 44) offer)
+-- a member is in a list, whose members are separated by commas
+abbrev pub has_member : List ℕ → List ℕ → Bool
+has_member member offer = list_any (λ v. bytes_eq v member) (slice_split (λ b. b == 44) offer)
 
--- of a list, only None is supported (RFC 7143, 6.2.1)
+-- of a list, only this member is supported, which has this answer (RFC 7143, 6.2.1)
+abbrev pub only : List ℕ → KeyAnswer → List ℕ → KeyAnswer
+only member answer offer = if has_member member offer then answer else says.Reject
+
+-- of a list, only None is supported
 abbrev pub only_none : List ℕ → KeyAnswer
-only_none offer = if has_none offer then says.NoneOfThem else says.Reject
+only_none offer = only (codes "None") says.NoneOfThem offer
+
+-- of the ways to end aborted tasks, only that of RFC 3720 is supported (RFC 7143, 13.23)
+abbrev pub task_reporting : List ℕ → KeyAnswer
+task_reporting offer = only (codes "RFC3720") says.Rfc3720 offer
 
 -- the smaller of an offer from `least` to `most` and the target's own value (RFC 7143, 6.2.2)
 abbrev pub smaller : ℕ → ℕ → ℕ → Option ℕ → KeyAnswer
@@ -92,38 +123,40 @@ abbrev pub yes_or_no : KeyAnswer → KeyAnswer → List ℕ → KeyAnswer
 yes_or_no to_yes to_no offer =
     if bytes_eq offer (codes "Yes") then to_yes else (if bytes_eq offer (codes "No") then to_no else says.Reject)
 
--- the answer to a number, by the target's own value and the range of the key (RFC 7143, 13)
-abbrev pub number_answer : Key → Option ℕ → KeyAnswer
-number_answer key.MaxRecvDataSegmentLength offer = declared_own 262144 512 16777215 offer
-number_answer key.MaxBurstLength offer = smaller 262144 512 16777215 offer
-number_answer key.FirstBurstLength offer = smaller 65536 512 16777215 offer
-number_answer key.MaxOutstandingR2T offer = smaller 1 1 65535 offer
-number_answer key.MaxConnections offer = smaller 1 1 65535 offer
-number_answer key.ErrorRecoveryLevel offer = smaller 0 0 2 offer
-number_answer key.DefaultTime2Wait offer = larger 2 0 3600 offer
-number_answer key.DefaultTime2Retain offer = smaller 0 0 3600 offer
-number_answer other offer = says.NotUnderstood
+-- the answer to a number, by the target's own value and the range of the key (RFC 7143, 13); FirstBurstLength is at
+-- most the MaxBurstLength `burst` that was agreed on (13.14)
+abbrev pub number_answer : Key → ℕ → Option ℕ → KeyAnswer
+number_answer key.MaxRecvDataSegmentLength burst offer = declared_own 262144 512 16777215 offer
+number_answer key.MaxBurstLength burst offer = smaller 262144 512 16777215 offer
+number_answer key.FirstBurstLength burst offer = smaller (min 65536 burst) 512 16777215 offer
+number_answer key.MaxOutstandingR2T burst offer = smaller 1 1 65535 offer
+number_answer key.MaxConnections burst offer = smaller 1 1 65535 offer
+number_answer key.ErrorRecoveryLevel burst offer = smaller 0 0 2 offer
+number_answer key.DefaultTime2Wait burst offer = larger 2 0 3600 offer
+number_answer key.DefaultTime2Retain burst offer = smaller 0 0 3600 offer
+number_answer other burst offer = says.NotUnderstood
 
--- the answer to a key, by its kind and the target's own value (RFC 7143, 13)
-abbrev pub key_answer : Key → List ℕ → KeyAnswer
-key_answer key.InitiatorName offer = says.Silent
-key_answer key.InitiatorAlias offer = says.Silent
-key_answer key.SessionType offer = says.Silent
-key_answer key.TargetName offer = says.PortalGroup
-key_answer key.SendTargets offer = says.Reject
-key_answer key.AuthMethod offer = only_none offer
-key_answer key.HeaderDigest offer = only_none offer
-key_answer key.DataDigest offer = only_none offer
+-- the answer to a key, by its kind, the target's own value (RFC 7143, 13) and the MaxBurstLength that was agreed on
+abbrev pub key_answer : Key → ℕ → List ℕ → KeyAnswer
+key_answer key.InitiatorName burst offer = says.Silent
+key_answer key.InitiatorAlias burst offer = says.Silent
+key_answer key.SessionType burst offer = says.Silent
+key_answer key.TargetName burst offer = says.PortalGroup
+key_answer key.SendTargets burst offer = says.Reject
+key_answer key.AuthMethod burst offer = only_none offer
+key_answer key.HeaderDigest burst offer = only_none offer
+key_answer key.DataDigest burst offer = only_none offer
+key_answer key.TaskReporting burst offer = task_reporting offer
 -- Yes if either side says Yes, as the target does
-key_answer key.InitialR2T offer = yes_or_no says.Yes says.Yes offer
-key_answer key.DataPDUInOrder offer = yes_or_no says.Yes says.Yes offer
-key_answer key.DataSequenceInOrder offer = yes_or_no says.Yes says.Yes offer
+key_answer key.InitialR2T burst offer = yes_or_no says.Yes says.Yes offer
+key_answer key.DataPDUInOrder burst offer = yes_or_no says.Yes says.Yes offer
+key_answer key.DataSequenceInOrder burst offer = yes_or_no says.Yes says.Yes offer
 -- Yes if both sides say Yes: the target does for data, and doesn't for markers
-key_answer key.ImmediateData offer = yes_or_no says.Yes says.No offer
-key_answer key.IFMarker offer = yes_or_no says.No says.No offer
-key_answer key.OFMarker offer = yes_or_no says.No says.No offer
-key_answer key.Unknown offer = says.NotUnderstood
-key_answer other offer = number_answer other (numeral offer)
+key_answer key.ImmediateData burst offer = yes_or_no says.Yes says.No offer
+key_answer key.IFMarker burst offer = yes_or_no says.No says.No offer
+key_answer key.OFMarker burst offer = yes_or_no says.No says.No offer
+key_answer key.Unknown burst offer = says.NotUnderstood
+key_answer other burst offer = number_answer other burst (numeral offer)
 
 -- an item
 abbrev pub text_item : List ℕ → List ℕ → List ℕ
@@ -136,21 +169,22 @@ answer_item name (says.Number n) = text_item name (decimal n)
 answer_item name says.Yes = text_item name (codes "Yes")
 answer_item name says.No = text_item name (codes "No")
 answer_item name says.NoneOfThem = text_item name (codes "None")
+answer_item name says.Rfc3720 = text_item name (codes "RFC3720")
 answer_item name says.Reject = text_item name (codes "Reject")
 answer_item name says.NotUnderstood = text_item name (codes "NotUnderstood")
 answer_item name says.PortalGroup = text_item (codes "TargetPortalGroupTag") (codes "1")
 
 -- the answer to an item; an empty one has none
-abbrev pub item_answer : List ℕ → List ℕ
-item_answer item =
+abbrev pub item_answer : ℕ → List ℕ → List ℕ
+item_answer burst item =
     if length item == 0 then [] else answer_item (item_name item)
-    (key_answer (key_named (item_name item)) (item_value item))
+    (key_answer (key_named (item_name item)) burst (item_value item))
 
 -- the answers to items, in order
-abbrev pub items_answer : List (List ℕ) → List ℕ
-items_answer [] = []
-items_answer (item ∷ items) = item_answer item ++ items_answer items
+abbrev pub items_answer : ℕ → List (List ℕ) → List ℕ
+items_answer burst [] = []
+items_answer burst (item ∷ items) = item_answer burst item ++ items_answer burst items
 
--- the answer to a text, which is split at its zero bytes
-abbrev pub text_answer : List ℕ → List ℕ
-text_answer text = items_answer (slice_split (λ b. b == 0) text)
+-- the answer to a text, which is split at its zero bytes, where this MaxBurstLength was agreed on
+abbrev pub text_answer : ℕ → List ℕ → List ℕ
+text_answer burst text = items_answer burst (slice_split (λ b. b == 0) text)

@@ -81,7 +81,7 @@ ReactionTurn address limits header carried flow (Answers response) old out new e
 ReactionTurn address limits header carried flow (Echoes response) old out new end =
     Responds flow response (take (most_in limits) carried) old.bytes out new end Next
 ReactionTurn address limits header carried flow (AnswersText response) old out new end =
-    RespondsText header (targets_answer address carried) (most_in limits) flow response old out new end
+    RespondsText header (targets_answer address limits.host carried) (most_in limits) flow response old out new end
 ReactionTurn address limits header carried flow (Closes response) old out new end =
     Responds flow response [] old.bytes out new end LoggedOut
 ReactionTurn address limits header carried flow (Rejects reason) old out new end =

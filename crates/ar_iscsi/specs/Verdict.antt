@@ -65,8 +65,10 @@ kind_status Normal target = target_status target
 kind_status Discovery target = status.Success
 kind_status Unsupported target = status.SessionTypeNotSupported
 
--- what is wrong with what was negotiated, once a whole text was read
+-- what is wrong with what was negotiated, once a whole text was read; a key that came twice is an initiator error
 abbrev pub judged : Negotiation → LoginStatus
 judged so_far =
-    if not so_far.is_named then status.MissingParameter
-    else (if so_far.is_refused then status.AuthenticationFailure else kind_status so_far.kind so_far.target)
+    if so_far.keys.is_repeated then status.InitiatorError
+    else (if not so_far.is_named then status.MissingParameter
+    else (if so_far.is_refused then status.AuthenticationFailure
+    else kind_status so_far.kind so_far.target))

@@ -1,6 +1,7 @@
 // The keys that a target knows, and its answer to an offer of each. Own values: no digest, R2T for all but immediate
 // data, one connection, one R2T at a time, no recovery, 256 KiB in a PDU or a burst, 64 KiB of them unsolicited.
-ghost use Rattle.std.specs.Prelude.{◌≡◌, ◌+◌, Option, Some, None};
+ghost use Rattle.std.specs.Prelude.{◌≡◌, ◌<◌, ◌+◌, IsTrue, Option, Some, None};
+ghost use Rattle.std.specs.Char.{is_ascii_hexdigit};
 ghost use Rattle.ar_iscsi.specs.Text as text;
 
 use crate::text::{behind, place_of};
@@ -30,6 +31,7 @@ pub enum Key {
     DefaultTime2Retain,
     IFMarker,
     OFMarker,
+    TaskReporting,
     /// None of those.
     Unknown,
 }
@@ -44,14 +46,13 @@ pub enum KeyAnswer {
     No,
     /// `None`, of a list of methods.
     NoneOfThem,
+    /// `RFC3720`, of a list of ways to end tasks that are aborted.
+    Rfc3720,
     Reject,
     NotUnderstood,
     /// `TargetPortalGroupTag=1`, to the name of a target.
     PortalGroup,
 }
-
-// The only method of a list that is supported.
-const NONE: &[u8] = b"None";
 
 /// The key of a name.
 pub fn key_named(name: &[u8]) -> Key
@@ -119,19 +120,22 @@ fn order_key(name: &[u8]) -> Key
         Key::IFMarker
     } else if name == b"OFMarker".as_slice() {
         Key::OFMarker
+    } else if name == b"TaskReporting".as_slice() {
+        Key::TaskReporting
     } else {
         Key::Unknown
     }
 }
 
-/// The answer to an offered value of a key.
-pub fn key_answer(key: Key, offer: &[u8]) -> KeyAnswer
-    ensures { result ≡ text.key_answer key offer.now }
+/// The answer to an offered value of a key; `burst` is the MaxBurstLength that was agreed on.
+pub fn key_answer(key: Key, burst: u32, offer: &[u8]) -> KeyAnswer
+    ensures { result ≡ text.key_answer key burst offer.now }
 {
     match key {
         Key::InitiatorName | Key::InitiatorAlias | Key::SessionType => KeyAnswer::Silent,
         Key::TargetName => KeyAnswer::PortalGroup,
         Key::AuthMethod | Key::HeaderDigest | Key::DataDigest => only_none(offer),
+        Key::TaskReporting => task_reporting(offer),
         Key::SendTargets => KeyAnswer::Reject,
         Key::InitialR2T | Key::DataPDUInOrder | Key::DataSequenceInOrder => {
             yes_or_no(KeyAnswer::Yes, KeyAnswer::Yes, offer)
@@ -139,18 +143,18 @@ pub fn key_answer(key: Key, offer: &[u8]) -> KeyAnswer
         Key::ImmediateData => yes_or_no(KeyAnswer::Yes, KeyAnswer::No, offer),
         Key::IFMarker | Key::OFMarker => yes_or_no(KeyAnswer::No, KeyAnswer::No, offer),
         Key::Unknown => KeyAnswer::NotUnderstood,
-        _ => number_answer(key, numeral(offer)),
+        _ => number_answer(key, burst, numeral(offer)),
     }
 }
 
 // The answer to an offered number.
-fn number_answer(key: Key, offer: Option<u32>) -> KeyAnswer
-    ensures { result ≡ text.number_answer key offer }
+fn number_answer(key: Key, burst: u32, offer: Option<u32>) -> KeyAnswer
+    ensures { result ≡ text.number_answer key burst offer }
 {
     match key {
         Key::MaxRecvDataSegmentLength => declared_own(262_144, 512, 16_777_215, offer),
         Key::MaxBurstLength => smaller(262_144, 512, 16_777_215, offer),
-        Key::FirstBurstLength => smaller(65_536, 512, 16_777_215, offer),
+        Key::FirstBurstLength => smaller(burst.min(65_536), 512, 16_777_215, offer),
         Key::MaxOutstandingR2T | Key::MaxConnections => smaller(1, 1, 65_535, offer),
         Key::ErrorRecoveryLevel => smaller(0, 0, 2, offer),
         Key::DefaultTime2Wait => larger(2, 0, 3_600, offer),
@@ -163,27 +167,41 @@ fn number_answer(key: Key, offer: Option<u32>) -> KeyAnswer
 fn only_none(offer: &[u8]) -> KeyAnswer
     ensures { result ≡ text.only_none offer.now }
 {
-    if has_none(offer) {
-        KeyAnswer::NoneOfThem
+    only(b"None", KeyAnswer::NoneOfThem, offer)
+}
+
+// `RFC3720` if the offered list has it.
+fn task_reporting(offer: &[u8]) -> KeyAnswer
+    ensures { result ≡ text.task_reporting offer.now }
+{
+    only(b"RFC3720", KeyAnswer::Rfc3720, offer)
+}
+
+// This answer if the offered list has this member, the only one that is supported.
+fn only(member: &[u8], answer: KeyAnswer, offer: &[u8]) -> KeyAnswer
+    ensures { result ≡ text.only member.now answer offer.now }
+{
+    if has_member(member, offer) {
+        answer
     } else {
         KeyAnswer::Reject
     }
 }
 
-// Whether a list has `None`. Its members are separated by commas.
-fn has_none(offer: &[u8]) -> bool
-    ensures { result ≡ text.has_none offer.now }
+// Whether a list has this member. Its members are separated by commas.
+fn has_member(member: &[u8], offer: &[u8]) -> bool
+    ensures { result ≡ text.has_member member.now offer.now }
 {
     let mut rest = offer;
     let mut end = place_of(b',', rest);
     while end < rest.len() {
-        if &rest[..end] == NONE {
+        if &rest[..end] == member {
             return true;
         }
         rest = behind(rest, end);
         end = place_of(b',', rest);
     }
-    rest == NONE
+    rest == member
 }
 
 // One of two answers, to Yes and to No.
@@ -229,10 +247,57 @@ fn declared_own(own: u32, least: u32, most: u32, offer: Option<u32>) -> KeyAnswe
     }
 }
 
-/// Reads a number in decimal digits. None: there is none, another byte, or the number passes 2^24 before its last
-/// digit.
+/// Reads a number: in hexadecimal behind 0x or 0X, and otherwise in decimal (RFC 7143, 6.1). None: there is no digit,
+/// another byte, or the number passes 2^24 before its last digit.
 pub fn numeral(digits: &[u8]) -> Option<u32>
     ensures { result ≡ text.numeral digits.now }
+{
+    if digits.len() < 2 {
+        return decimal_number(digits);
+    }
+    let (front, rest) = digits.split_at(2);
+    if front == b"0x".as_slice() || front == b"0X".as_slice() {
+        hexadecimal_number(rest)
+    } else {
+        decimal_number(digits)
+    }
+}
+
+// The number of hexadecimal digits.
+fn hexadecimal_number(digits: &[u8]) -> Option<u32>
+    ensures { result ≡ text.hexadecimal_number digits.now }
+{
+    if digits.is_empty() {
+        return None;
+    }
+    let mut number: u32 = 0;
+    for digit in digits {
+        if !digit.is_ascii_hexdigit() || number >= 0x100_0000 {
+            return None;
+        }
+        number = number * 16 + hex_value(*digit);
+    }
+    Some(number)
+}
+
+// The value of a hexadecimal digit.
+fn hex_value(digit: u8) -> u32
+    requires { IsTrue (is_ascii_hexdigit digit) }
+    ensures value { result ≡ text.hex_value digit }
+    ensures small { result < 16 }
+{
+    if digit <= b'9' {
+        u32::from(digit - b'0')
+    } else if digit <= b'F' {
+        u32::from(digit - b'A') + 10
+    } else {
+        u32::from(digit - b'a') + 10
+    }
+}
+
+// The number of decimal digits.
+fn decimal_number(digits: &[u8]) -> Option<u32>
+    ensures { result ≡ text.decimal_number digits.now }
 {
     if digits.is_empty() {
         return None;

@@ -31,13 +31,15 @@ pub use flow::{Collecting, Flow, WINDOW, lun_number};
 pub use keys::{Key, KeyAnswer, key_answer, key_named, numeral};
 pub use login::{LoginResult, LoginState, LoginWork, login_turn};
 pub use login_phase::{LoginEnd, log_in};
-pub use negotiation::{Limits, Negotiation, SessionKind, TargetChoice, negotiated, target_of};
+pub use negotiation::{
+    KeysSeen, Limits, Negotiation, SessionKind, TargetChoice, negotiated, target_of,
+};
 pub use reaction::{
     COMMAND_NOT_SUPPORTED, INVALID_PDU_FIELD, PROTOCOL_ERROR, Reaction, to_logout, to_nop_out,
     to_text,
 };
 pub use receive::{ReceiveEnd, Received, receive_pdu};
-pub use reply::{data_out_len, put_data_in, put_reply};
+pub use reply::{put_data_in, put_reply};
 pub use request::{
     DataOut, InitiatorPdu, LoginRequest, LogoutRequest, Lun, NopOut, ScsiCommand, TaskManagement,
     TextRequest, initiator_pdu,

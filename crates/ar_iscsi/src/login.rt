@@ -324,6 +324,7 @@ fn take_text<P: Port>(
 }
 
 // Answers a whole text, by what is wrong with what was negotiated.
+#[tactic(auto, unfolding(crate::specs::LoginTurn::JudgesText))]
 fn judge_text<P: Port>(
     work: &mut LoginWork,
     alloc: Global,
@@ -349,7 +350,7 @@ fn judge_text<P: Port>(
         return refuse_login(work, request, status);
     }
     let mut answer = Vec::new(alloc);
-    answer_text(&mut answer, &work.text)?;
+    answer_text(&mut answer, so_far.limits.max_burst, &work.text)?;
     if answer.len() > MOST_TEXT {
         return refuse_login(work, request, LoginStatus::OutOfResources);
     }

@@ -1,5 +1,5 @@
 // What the items of a login's text say of the session: its kind, its target, and what it may transfer.
-ghost use Rattle.std.specs.Prelude.{◌≡◌, ◌==◌};
+ghost use Rattle.std.specs.Prelude.{◌≡◌, ◌<◌, ◌==◌};
 ghost use Rattle.ar_iscsi.specs.Negotiation as login;
 
 use crate::keys::{Key, KeyAnswer, key_answer, key_named, numeral};
@@ -24,7 +24,7 @@ pub enum TargetChoice {
     OfHost(u8),
 }
 
-/// What a session may transfer, in bytes.
+/// What was agreed on for a session: what it may transfer, in bytes, and its target.
 #[derive(Clone, Copy, Debug, PartialEq, Eq)]
 pub struct Limits {
     /// The most in a data segment to the initiator, 512 to 2^24 - 1.
@@ -35,11 +35,72 @@ pub struct Limits {
     pub first_burst: u32,
     /// A command may carry data.
     pub immediate_data: bool,
+    /// The host whose target the session is with; None in a login, and in a session for discovery.
+    pub host: Option<u8>,
+}
+
+/// The keys that have come in a login.
+#[derive(Clone, Copy, Debug, PartialEq, Eq)]
+pub struct KeysSeen {
+    /// For each key, whether it has come.
+    pub seen: [bool; 24],
+    /// A key has come twice.
+    pub is_repeated: bool,
+}
+
+impl KeysSeen {
+    // The keys after one more.
+    fn after(self, key: Key) -> KeysSeen
+        ensures { result ≡ login.keys_after self key }
+    {
+        let place = key_place(key);
+        let was_seen = place != 23 && self.seen[place];
+        let mut seen = self.seen;
+        seen[place] = true;
+        KeysSeen {
+            seen,
+            is_repeated: self.is_repeated || was_seen,
+        }
+    }
+}
+
+// The place of a key among those that were seen; the last one is of keys that are unknown.
+fn key_place(key: Key) -> usize
+    ensures place { result ≡ login.key_place key }
+    ensures within { result < 24 }
+{
+    match key {
+        Key::InitiatorName => 0,
+        Key::InitiatorAlias => 1,
+        Key::TargetName => 2,
+        Key::SessionType => 3,
+        Key::AuthMethod => 4,
+        Key::SendTargets => 5,
+        Key::HeaderDigest => 6,
+        Key::DataDigest => 7,
+        Key::MaxRecvDataSegmentLength => 8,
+        Key::MaxBurstLength => 9,
+        Key::FirstBurstLength => 10,
+        Key::InitialR2T => 11,
+        Key::ImmediateData => 12,
+        Key::DataPDUInOrder => 13,
+        Key::DataSequenceInOrder => 14,
+        Key::MaxOutstandingR2T => 15,
+        Key::MaxConnections => 16,
+        Key::ErrorRecoveryLevel => 17,
+        Key::DefaultTime2Wait => 18,
+        Key::DefaultTime2Retain => 19,
+        Key::IFMarker => 20,
+        Key::OFMarker => 21,
+        Key::TaskReporting => 22,
+        Key::Unknown => 23,
+    }
 }
 
 /// What the text of a login has said so far.
 #[derive(Clone, Copy, Debug, PartialEq, Eq)]
 pub struct Negotiation {
+    pub keys: KeysSeen,
     /// The initiator has named itself.
     pub is_named: bool,
     pub kind: SessionKind,
@@ -55,6 +116,10 @@ impl Negotiation {
         ensures { result ≡ login.at_first }
     {
         Negotiation {
+            keys: KeysSeen {
+                seen: [false; 24],
+                is_repeated: false,
+            },
             is_named: false,
             kind: SessionKind::Normal,
             target: TargetChoice::Unnamed,
@@ -64,6 +129,7 @@ impl Negotiation {
                 max_burst: 262_144,
                 first_burst: 65_536,
                 immediate_data: true,
+                host: None,
             },
         }
     }
@@ -83,12 +149,25 @@ pub fn negotiated(mut so_far: Negotiation, asked: &[u8]) -> Negotiation
     after_item(so_far, rest)
 }
 
-// What is negotiated after an item.
+// What is negotiated after an item; an empty one has no key.
 fn after_item(so_far: Negotiation, item: &[u8]) -> Negotiation
     ensures { result ≡ login.after_item so_far item.now }
 {
+    if item.is_empty() {
+        return so_far;
+    }
     let key = key_named(item_name(item));
-    let value = item_value(item);
+    let seen = Negotiation {
+        keys: so_far.keys.after(key),
+        ..so_far
+    };
+    after_key(seen, key, item_value(item))
+}
+
+// What is negotiated after an item of this key.
+fn after_key(so_far: Negotiation, key: Key, value: &[u8]) -> Negotiation
+    ensures { result ≡ login.after_key so_far key value.now }
+{
     match key {
         Key::InitiatorName => Negotiation {
             is_named: !value.is_empty(),
@@ -103,7 +182,7 @@ fn after_item(so_far: Negotiation, item: &[u8]) -> Negotiation
             ..so_far
         },
         Key::AuthMethod => Negotiation {
-            is_refused: is_reject(key_answer(key, value)),
+            is_refused: is_reject(key_answer(key, so_far.limits.max_burst, value)),
             ..so_far
         },
         _ => Negotiation {
@@ -159,19 +238,33 @@ fn limits_after(old: Limits, key: Key, offer: &[u8]) -> Limits
             max_segment: segment_after(old.max_segment, numeral(offer)),
             ..old
         },
-        Key::MaxBurstLength => Limits {
-            max_burst: limit_after(old.max_burst, key_answer(key, offer)),
-            ..old
-        },
+        Key::MaxBurstLength => {
+            let answer = key_answer(key, old.max_burst, offer);
+            with_burst(old, limit_after(old.max_burst, answer))
+        }
         Key::FirstBurstLength => Limits {
-            first_burst: limit_after(old.first_burst, key_answer(key, offer)),
+            first_burst: limit_after(old.first_burst, key_answer(key, old.max_burst, offer)),
             ..old
         },
-        Key::ImmediateData => Limits {
-            immediate_data: immediate_after(old.immediate_data, key_answer(key, offer)),
-            ..old
-        },
+        Key::ImmediateData => {
+            let answer = key_answer(key, old.max_burst, offer);
+            Limits {
+                immediate_data: immediate_after(old.immediate_data, answer),
+                ..old
+            }
+        }
         _ => old,
+    }
+}
+
+// What a session may transfer after a MaxBurstLength: FirstBurstLength is brought down to it.
+fn with_burst(old: Limits, burst: u32) -> Limits
+    ensures { result ≡ login.with_burst old burst }
+{
+    Limits {
+        max_burst: burst,
+        first_burst: old.first_burst.min(burst),
+        ..old
     }
 }
 

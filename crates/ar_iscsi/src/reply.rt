@@ -8,7 +8,8 @@ ghost use Rattle.ar_iscsi.specs.Response.{target_pdu};
 
 use crate::request::ScsiCommand;
 use crate::response::{Residual, SequenceNumbers, TargetPdu, put_pdu};
-use ar_scsi::{Command, Reply, Status, decode};
+use ar_scsi::{Reply, Status};
+use ar_target::data_out_len;
 use std::alloc::AllocError;
 
 /// Appends `data` to `out` as Data-In PDUs of at most `most` bytes each, and returns how many there are. `Err` if the
@@ -116,17 +117,6 @@ fn status_of(status: Status) -> u8
         Status::Good => 0x00,
         Status::CheckCondition => 0x02,
         Status::Busy => 0x08,
-    }
-}
-
-/// The number of bytes that a command block takes from its host: those of a WRITE's blocks.
-pub fn data_out_len(cdb: &[u8; 16]) -> u32
-    ensures len { result ≡ answer.data_out_len cdb.now }
-    ensures short { result < 2 ^ 25 }
-{
-    match decode(cdb) {
-        Ok(Command::Write { count, .. }) => 512 * u32::from(count),
-        _ => 0,
     }
 }
 

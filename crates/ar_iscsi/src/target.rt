@@ -6,7 +6,7 @@ ghost use Rattle.ar_iscsi.specs.Target as session;
 use crate::flow::Flow;
 use crate::login::{LoginState, LoginWork};
 use crate::login_phase::{LoginEnd, log_in};
-use crate::negotiation::{Negotiation, SessionKind};
+use crate::negotiation::{Limits, Negotiation, SessionKind, TargetChoice};
 use crate::session::{FeatureEnd, MOST_SEGMENT, serve_feature};
 use crate::turn::Work;
 use ar_frames::{Login, Port, Sink, Source};
@@ -158,16 +158,19 @@ fn serve_entered<R: Source, W: Sink, P: ResetPort>(
     };
     let mut waiting = Vec::new(alloc);
     match state.so_far.kind {
-        SessionKind::Normal => serve_feature(
-            alloc,
-            reader,
-            writer,
-            port,
-            address,
-            &mut work,
-            &mut waiting,
-            buffer,
-        ),
+        SessionKind::Normal => {
+            work.limits = normal_limits(&state.so_far);
+            serve_feature(
+                alloc,
+                reader,
+                writer,
+                port,
+                address,
+                &mut work,
+                &mut waiting,
+                buffer,
+            )
+        }
         _ => {
             let mut idle = NoUnits { has_login: true };
             serve_feature(
@@ -181,5 +184,25 @@ fn serve_entered<R: Source, W: Sink, P: ResetPort>(
                 buffer,
             )
         }
+    }
+}
+
+// What was agreed on for a normal session, which is with the target of a host.
+fn normal_limits(so_far: &Negotiation) -> Limits
+    ensures { result ≡ session.normal_limits so_far.now }
+{
+    Limits {
+        host: host_of(so_far.target),
+        ..so_far.limits
+    }
+}
+
+// The host of a target.
+fn host_of(target: TargetChoice) -> Option<u8>
+    ensures { result ≡ session.host_of target }
+{
+    match target {
+        TargetChoice::OfHost(host) => Some(host),
+        TargetChoice::Unnamed | TargetChoice::Unknown => None,
     }
 }

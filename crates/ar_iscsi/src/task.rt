@@ -8,11 +8,12 @@ ghost use Rattle.ar_iscsi.specs.Task as task;
 use crate::flow::{Collecting, Flow, lun_number};
 use crate::negotiation::Limits;
 use crate::reaction::{COMMAND_NOT_SUPPORTED, PROTOCOL_ERROR};
-use crate::reply::{data_out_len, put_reply};
+use crate::reply::put_reply;
 use crate::request::{DataOut, ScsiCommand};
 use crate::response::{TargetPdu, put_pdu};
 use ar_frames::Port;
 use ar_scsi::{Reply, Sense};
+use ar_target::data_out_len;
 use bytes::Bytes;
 use std::alloc::AllocError;
 

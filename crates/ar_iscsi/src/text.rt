@@ -7,19 +7,19 @@ use crate::keys::{KeyAnswer, key_answer, key_named};
 use itoa::Buffer;
 use std::alloc::AllocError;
 
-/// Appends the answer to each item of a text to `out`, in order. `Err` if the allocation fails; `out` then ends in an
-/// unspecified part of the answer.
-pub fn answer_text(out: &mut Vec<u8>, asked: &[u8]) -> Result<(), AllocError>
-    ensures { OnOk result (out.new.items ≡ out.old.items ++ text.text_answer asked.now) }
+/// Appends the answer to each item of a text to `out`, in order; `burst` is the MaxBurstLength that was agreed on. `Err`
+/// if the allocation fails; `out` then ends in an unspecified part of the answer.
+pub fn answer_text(out: &mut Vec<u8>, burst: u32, asked: &[u8]) -> Result<(), AllocError>
+    ensures { OnOk result (out.new.items ≡ out.old.items ++ text.text_answer burst asked.now) }
 {
     let mut rest = asked;
     let mut end = place_of(0, rest);
     while end < rest.len() {
-        answer_item(out, &rest[..end])?;
+        answer_item(out, burst, &rest[..end])?;
         rest = behind(rest, end);
         end = place_of(0, rest);
     }
-    answer_item(out, rest)
+    answer_item(out, burst, rest)
 }
 
 // Where a text's first byte of this value is, or its end.
@@ -44,14 +44,15 @@ pub(crate) fn behind(text: &[u8], place: usize) -> &[u8]
 }
 
 // Appends the answer to an item, unless it is empty.
-fn answer_item(out: &mut Vec<u8>, item: &[u8]) -> Result<(), AllocError>
-    ensures { OnOk result (out.new.items ≡ out.old.items ++ text.item_answer item.now) }
+fn answer_item(out: &mut Vec<u8>, burst: u32, item: &[u8]) -> Result<(), AllocError>
+    ensures { OnOk result (out.new.items ≡ out.old.items ++ text.item_answer burst item.now) }
 {
     if item.is_empty() {
         return Ok(());
     }
     let name = item_name(item);
-    put_answer(out, name, key_answer(key_named(name), item_value(item)))
+    let answer = key_answer(key_named(name), burst, item_value(item));
+    put_answer(out, name, answer)
 }
 
 // The name of an item: what is in front of its first `=`.
@@ -83,6 +84,7 @@ fn put_answer(out: &mut Vec<u8>, name: &[u8], answer: KeyAnswer) -> Result<(), A
         KeyAnswer::Yes => put_item(out, name, b"Yes"),
         KeyAnswer::No => put_item(out, name, b"No"),
         KeyAnswer::NoneOfThem => put_item(out, name, b"None"),
+        KeyAnswer::Rfc3720 => put_item(out, name, b"RFC3720"),
         KeyAnswer::Reject => put_item(out, name, b"Reject"),
         KeyAnswer::NotUnderstood => put_item(out, name, b"NotUnderstood"),
         KeyAnswer::PortalGroup => put_item(out, b"TargetPortalGroupTag", b"1"),

@@ -154,14 +154,15 @@ fn respond_text(
     pdu: TargetPdu,
 ) -> Result<TurnEnd, AllocError>
     requires empty { work.old.out.items ≡ [] }
-    ensures text { IfOk result (λ ended. turn.RespondsText header.now (targets_answer address.now carried.now)
+    ensures text { IfOk result (λ ended. turn.RespondsText header.now
+        (targets_answer address.now work.old.limits.host carried.now)
         (most_in work.old.limits) flow pdu
         (record { flow = work.old.flow; bytes = work.old.collected.items }) work.new.out.items
         (record { flow = work.new.flow; bytes = work.new.collected.items }) ended) }
     ensures limits { work.new.limits ≡ work.old.limits }
 {
     let mut answer = Vec::new(alloc);
-    answer_targets(&mut answer, address, carried)?;
+    answer_targets(&mut answer, address, work.limits.host, carried)?;
     if answer.len() <= most_in(&work.limits) as usize {
         respond(work, flow, pdu, &answer, TurnEnd::Next)
     } else {

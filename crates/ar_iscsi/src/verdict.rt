@@ -10,7 +10,7 @@ use crate::response::LoginStage;
 #[derive(Clone, Copy, Debug, PartialEq, Eq)]
 pub enum LoginStatus {
     Success,
-    /// The request doesn't suit the login so far.
+    /// The request doesn't suit the login so far, or a key came twice.
     InitiatorError,
     AuthenticationFailure,
     NotFound,
@@ -108,6 +108,9 @@ fn next_step(stage: LoginStage, next: u8) -> Result<LoginStep, LoginStatus>
 pub fn judged(so_far: &Negotiation) -> LoginStatus
     ensures { result ≡ login.judged so_far.now }
 {
+    if so_far.keys.is_repeated {
+        return LoginStatus::InitiatorError;
+    }
     if !so_far.is_named {
         return LoginStatus::MissingParameter;
     }

@@ -1,4 +1,5 @@
 pub mod Attending
+pub mod Describing
 pub mod Finding
 pub mod Given
 pub mod Names

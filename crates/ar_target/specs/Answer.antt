@@ -1,20 +1,24 @@
 -- The answers that are made of one reply of the port.
-use Rattle.std.specs.Prelude.{ℕ, Bool, true, false, List, ◌∷◌, ◌++◌, take, Option, Some, None, replicate}
+use Rattle.std.specs.Prelude.{ℕ, ◌==◌, nat_lt, Bool, true, false, not, if◌then◌else◌, List, [], ◌∷◌, ◌++◌, length, take}
+use Rattle.std.specs.Prelude.{slice_set, bytes_eq, Option, Some, None, replicate}
 use Rattle.byteorder.specs.Endian.{big_bytes}
 use Rattle.ar_scsi.specs.declared.reply.Reply.{Reply}
 use Rattle.ar_scsi.specs.declared.reply.Status.{Status}
 use Rattle.ar_scsi.specs.declared.reply.Status.TheVariants.{Good, CheckCondition, Busy}
 use Rattle.ar_scsi.specs.declared.sense.Sense.{Sense}
 use Rattle.ar_scsi.specs.Reply.{good, check}
-use Rattle.ar_scsi.specs.Sense.{fixed_sense, invalid_field_in_cdb}
+use Rattle.ar_scsi.specs.Sense.{data_phase_error, fixed_sense, invalid_field_in_cdb}
 use Rattle.ar_frames.specs.Frame.{sense_bytes}
 use Rattle.ar_target.specs.declared.attributes.Attributes.{Attributes}
 use Rattle.ar_target.specs.declared.request.ModeSense.{ModeSense}
+use Rattle.ar_target.specs.declared.request.TargetReport.{TargetReport}
+use Rattle.ar_target.specs.declared.request.TargetReport.TheVariants.{AllOperations, OneOperation, PortGroups}
 use Rattle.ar_target.specs.declared.request.VpdPage.{VpdPage}
 use Rattle.ar_target.specs.declared.request.VpdPage.TheVariants.{SupportedPages}
 use Rattle.ar_target.specs.Mode.{mode_data}
 use Rattle.ar_target.specs.Told.{last_block, presence_of, handed_on, from_last_block}
-use Rattle.ar_target.specs.Vpd.{absent_pages, vpd_data}
+use Rattle.ar_target.specs.Operations.{all_commands, one_command, usage_of}
+use Rattle.ar_target.specs.Vpd.{absent_pages, port_groups, vpd_data}
 
 -- to a CDB that is refused with this sense: a unit that can't be asked for its capacity reports why first
 abbrev pub invalid_answer : Sense → Reply → Reply
@@ -41,15 +45,76 @@ abbrev pub mode_answer : Bool → ModeSense → Reply → Reply
 mode_answer write_back sense told =
     from_last_block (λ last. good (take sense.len (mode_data write_back sense last))) (last_block told) told
 
--- READ CAPACITY (16) data (SBC-2, READ CAPACITY (16) command): the address of the last block in eight bytes, the block
--- length, 512, and zeros: no protection, no larger physical blocks
-abbrev pub long_capacity_data : ℕ → List ℕ
-long_capacity_data last = big_bytes 8 last ++ (0x00 ∷ 0x00 ∷ 0x02 ∷ 0x00 ∷ replicate 20 0)
+-- LOGICAL BLOCKS PER PHYSICAL BLOCK EXPONENT: of the largest power of two that isn't above the array's block, and at
+-- least of 4 KiB (SBC-3, READ CAPACITY (16) command)
+abbrev pub block_exponent : ℕ → ℕ
+block_exponent sectors =
+    if nat_lt sectors 16 then 3
+    else (if nat_lt sectors 32 then 4
+    else (if nat_lt sectors 64 then 5
+    else (if nat_lt sectors 128 then 6
+    else (if nat_lt sectors 256 then 7
+    else (if nat_lt sectors 512 then 8
+    else (if nat_lt sectors 1024 then 9
+    else (if nat_lt sectors 2048 then 10
+    else 11)))))))
+
+-- READ CAPACITY (16) data (SBC-3, READ CAPACITY (16) command): the address of the last block in eight bytes, the block
+-- length, 512, no protection, how long physical blocks are, and zeros
+unfoldable pub long_capacity_data : ℕ → ℕ → List ℕ
+long_capacity_data sectors last =
+    big_bytes 8 last ++ (0x00 ∷ 0x00 ∷ 0x02 ∷ 0x00 ∷ 0x00 ∷ block_exponent sectors ∷ replicate 18 0)
 
 -- to READ CAPACITY (16)
-abbrev pub long_capacity_answer : ℕ → Reply → Reply
-long_capacity_answer len told =
-    from_last_block (λ last. good (take len (long_capacity_data last))) (last_block told) told
+abbrev pub long_capacity_answer : ℕ → ℕ → Reply → Reply
+long_capacity_answer sectors len told =
+    from_last_block (λ last. good (take len (long_capacity_data sectors last))) (last_block told) told
+
+-- the data of a report on the target
+abbrev pub report_data : TargetReport → List ℕ
+report_data AllOperations = all_commands
+report_data (OneOperation operation) = one_command operation (usage_of operation)
+report_data PortGroups = port_groups
+
+-- to a report on the target, at a unit
+abbrev pub report_answer : TargetReport → ℕ → Reply → Reply
+report_answer report len told = from_last_block (λ last. good (take len (report_data report))) (last_block told) told
+
+-- standard INQUIRY data, as far as they go, with TPGS 01b in byte 5 (target port groups, whose states hosts don't set)
+-- and CMDQUE in byte 7 (SPC-4, Standard INQUIRY data)
+abbrev pub over_target_port : List ℕ → List ℕ
+over_target_port bytes = slice_set (slice_set bytes 5 0x10) 7 0x02
+
+-- to INQUIRY of the standard data, by whether there is a unit
+abbrev pub standard_answer_by : Option Bool → Reply → Reply
+standard_answer_by None told = told
+standard_answer_by (Some false) told = told
+standard_answer_by (Some true) told = good (over_target_port told.payload)
+
+-- to INQUIRY of the standard data: the port's own but for two bytes
+abbrev pub standard_answer : Reply → Reply
+standard_answer told = standard_answer_by (presence_of told) told
+
+-- MISCOMPARE, MISCOMPARE DURING VERIFY OPERATION (SPC-4, ASC and ASCQ assignments)
+abbrev pub miscompare : Sense
+miscompare = record { key = 0x0E; asc = 0x1D; ascq = 0x00 }
+
+-- to VERIFY whose blocks hold `stored`: it reads them alone, or compares them with the data that came
+abbrev pub verified : Bool → List ℕ → List ℕ → Reply
+verified false sent stored = good []
+verified true sent stored =
+    if not (length sent == length stored) then check data_phase_error
+    else (if bytes_eq sent stored then good [] else check miscompare)
+
+-- to VERIFY by the status of the READ that reads its blocks
+abbrev pub verify_answer_by : Status → Bool → List ℕ → Reply → Reply
+verify_answer_by Good compares sent told = verified compares sent told.payload
+verify_answer_by CheckCondition compares sent told = told
+verify_answer_by Busy compares sent told = told
+
+-- to VERIFY (SBC-3, VERIFY (10) command)
+unfoldable pub verify_answer : Bool → List ℕ → Reply → Reply
+verify_answer compares sent told = verify_answer_by told.status compares sent told
 
 -- NO SENSE (SPC-3, Sense key and sense code definitions)
 abbrev pub no_sense : Sense
@@ -65,6 +130,7 @@ sense_answer_by Busy len told = told
 unfoldable pub sense_answer : ℕ → Reply → Reply
 sense_answer len told = sense_answer_by told.status len told
 
--- to START STOP UNIT: that of a TEST UNIT READY (SBC-2, START STOP UNIT command)
+-- to START STOP UNIT and SEND DIAGNOSTIC: that of a TEST UNIT READY (SBC-2, START STOP UNIT command; SPC-4, SEND
+-- DIAGNOSTIC command)
 abbrev pub ready_answer : Reply → Reply
 ready_answer told = told

@@ -1,20 +1,27 @@
 -- What follows from the definitions.
-use Rattle.std.specs.Prelude.{◌≡◌, ◌<◌, ℕ, ◌^◌, List, Ok}
+use Rattle.std.specs.Prelude.{◌≡◌, ◌<◌, ℕ, ◌^◌, List, Ok, ⊤}
 use Rattle.ar_scsi.specs.declared.command.Command.{Command}
 use Rattle.ar_scsi.specs.declared.reply.Reply.{Reply}
 use Rattle.ar_scsi.specs.declared.reply.Status.TheVariants.{Good}
 use Rattle.ar_scsi.specs.Reading.{reading}
 use Rattle.ar_frames.specs.Conversation.{Commands}
 use Rattle.ar_target.specs.declared.flush_port.FlushOutcome.TheVariants.{Done}
-use Rattle.ar_target.specs.declared.request.Request.TheVariants.{Given}
+use Rattle.ar_target.specs.declared.request.Request.{Request}
+use Rattle.ar_target.specs.declared.request.Request.TheVariants.{Given, StandardData}
 use Rattle.ar_target.specs.FlushPort.{UnitFlushes}
 use Rattle.ar_target.specs.Request.{request_of}
 use Rattle.ar_target.specs.Serving.{Synchronizes}
 use Rattle.ar_target.specs.Vpd.{unit_name, serial_number, vendor_designator, naa_designator}
 
+-- a request gives the port the CDB that came, untouched
+abbrev pub GivesCdb : Request → Type 0
+GivesCdb Given = ⊤
+GivesCdb StandardData = ⊤
+GivesCdb other = ⊥
+
 -- each CDB that is a command to the array is given to the port
 abbrev pub CommandsAreGiven : Type 0
-CommandsAreGiven = (cdb : List ℕ) (command : Command) → reading cdb ≡ Ok command → request_of cdb ≡ Given
+CommandsAreGiven = (cdb : List ℕ) (command : Command) → reading cdb ≡ Ok command → GivesCdb (request_of cdb)
 
 -- what is equal of two units tells that they are one: of units of different arrays, hosts or LUNs it differs
 abbrev pub TellsUnits : (ℕ → ℕ → ℕ → List ℕ) → Type 0

@@ -5,8 +5,10 @@ pub mod FlushPort
 pub mod Laws
 pub mod Luns
 pub mod Mode
+pub mod Operations
 pub mod Request
 pub mod ResetPort
 pub mod Serving
 pub mod Told
+pub mod Translation
 pub mod Vpd

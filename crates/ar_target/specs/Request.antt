@@ -12,9 +12,12 @@ use Rattle.ar_target.specs.declared.request.VpdPage.{VpdPage}
 use Rattle.ar_target.specs.declared.request.VpdPage.TheVariants.{SupportedPages, UnitSerialNumber, DeviceIdentification}
 use Rattle.ar_target.specs.declared.request.VpdPage.TheVariants.{BlockLimits, BlockDeviceCharacteristics}
 use Rattle.ar_target.specs.declared.request.ModePages.{ModePages}
-use Rattle.ar_target.specs.declared.request.ModePages.TheVariants.{Caching, Control, All}
+use Rattle.ar_target.specs.declared.request.ModePages.TheVariants.{ErrorRecovery, Caching, Control}
+use Rattle.ar_target.specs.declared.request.ModePages.TheVariants.{InformationalExceptions, All}
+use Rattle.ar_target.specs.declared.request.TargetReport.TheVariants.{AllOperations, OneOperation, PortGroups}
 use Rattle.ar_target.specs.declared.request.Request.{Request}
 use Rattle.ar_target.specs.declared.request.Request.TheVariants as request
+use Rattle.ar_target.specs.Translation.{transfer_request}
 
 -- ILLEGAL REQUEST, SAVING PARAMETERS NOT SUPPORTED (SPC-3, MODE SENSE (6) command, Saved values)
 abbrev pub saving_parameters_not_supported : Sense
@@ -42,8 +45,9 @@ vpd_request (Some page) len = request.Vpd page len
 -- INQUIRY, 6 bytes (SPC-3, INQUIRY command)
 abbrev pub inquiry_request : List ℕ → Request
 inquiry_request cdb =
-    if not (evpd cdb == 1) || (naca 5 cdb == 1) then request.Given
-    else vpd_request (vpd_page_of (page_code cdb)) (allocation_length cdb)
+    if not (evpd cdb == 1) then request.StandardData
+    else (if naca 5 cdb == 1 then request.Given
+    else vpd_request (vpd_page_of (page_code cdb)) (allocation_length cdb))
 
 -- by SELECT REPORT: the logical units, the well known ones, or all (SPC-3, REPORT LUNS command)
 abbrev pub selected_report : ℕ → ℕ → Request
@@ -67,10 +71,12 @@ page_control cdb = byte 2 cdb / 2 ^ 6
 -- (SPC-3, Mode page and subpage codes)
 abbrev pub mode_pages_of : List ℕ → Option ModePages
 mode_pages_of cdb =
-    if (byte 2 cdb % 64 == 0x08) && (byte 3 cdb == 0x00) then Some Caching
+    if (byte 2 cdb % 64 == 0x01) && (byte 3 cdb == 0x00) then Some ErrorRecovery
+    else (if (byte 2 cdb % 64 == 0x08) && (byte 3 cdb == 0x00) then Some Caching
     else (if (byte 2 cdb % 64 == 0x0A) && (byte 3 cdb == 0x00) then Some Control
+    else (if (byte 2 cdb % 64 == 0x1C) && (byte 3 cdb == 0x00) then Some InformationalExceptions
     else (if (byte 2 cdb % 64 == 0x3F) && ((byte 3 cdb == 0x00) || (byte 3 cdb == 0xFF)) then Some All
-    else None))
+    else None))))
 
 -- MODE SENSE of these pages, long or not, with this CONTROL byte and this allocation length: saved values are refused;
 -- DBD is bit 3 of byte 1 (SPC-3, MODE SENSE (6) command)
@@ -131,6 +137,50 @@ synchronize_cache_16_request cdb =
 abbrev pub start_stop_unit_request : List ℕ → Request
 start_stop_unit_request cdb = where_fields_valid (not (naca 5 cdb == 1)) request.StartStop
 
+-- SEND DIAGNOSTIC, 6 bytes: the default self-test, or nothing; SELF-TEST CODE, bits 7 to 5 of byte 1, and PARAMETER LIST
+-- LENGTH are 0 (SPC-4, SEND DIAGNOSTIC command)
+abbrev pub send_diagnostic_request : List ℕ → Request
+send_diagnostic_request cdb =
+    where_fields_valid (not (naca 5 cdb == 1) && ((byte 1 cdb / 32 == 0) && (number 3 2 cdb == 0))) request.SelfTest
+
+-- the commands of an OPERATION CODE have SERVICE ACTIONs
+abbrev pub has_actions : ℕ → Bool
+has_actions code = (code == 0x9E) || (code == 0xA3)
+
+-- REPORT SUPPORTED OPERATION CODES of one command
+abbrev pub one_operation : ℕ → ℕ → ℕ → Request
+one_operation code action len = request.Report (OneOperation (record { code = code; action = action })) len
+
+-- REPORT SUPPORTED OPERATION CODES, by REPORTING OPTIONS: of all commands, of one by its OPERATION CODE, which has no
+-- SERVICE ACTIONs, of one by its OPERATION CODE, which has, and its SERVICE ACTION, or of one by both (SPC-4, REPORT
+-- SUPPORTED OPERATION CODES command)
+abbrev pub operations_by : ℕ → ℕ → ℕ → ℕ → Request
+operations_by option code action len =
+    if option == 0 then request.Report AllOperations len
+    else (if option == 1 then where_fields_valid (not (has_actions code)) (one_operation code 0 len)
+    else (if option == 2 then where_fields_valid (has_actions code) (one_operation code action len)
+    else (if option == 3 then one_operation code action len
+    else request.InvalidAtUnit invalid_field_in_cdb)))
+
+-- REPORT TARGET PORT GROUPS, 12 bytes: only the length-only header is supported (SPC-4, REPORT TARGET PORT GROUPS
+-- command)
+abbrev pub port_groups_request : List ℕ → Request
+port_groups_request cdb =
+    where_fields_valid (not (naca 11 cdb == 1) && (byte 1 cdb / 32 == 0)) (request.Report PortGroups (number 6 4 cdb))
+
+-- REPORT SUPPORTED OPERATION CODES, 12 bytes; no timeouts are returned, with RCTD or without
+abbrev pub supported_operations_request : List ℕ → Request
+supported_operations_request cdb =
+    if naca 11 cdb == 1 then request.InvalidAtUnit invalid_field_in_cdb
+    else operations_by (byte 2 cdb % 8) (byte 3 cdb) (number 4 2 cdb) (number 6 4 cdb)
+
+-- MAINTENANCE IN, by its SERVICE ACTION, bits 4 to 0 of byte 1
+abbrev pub maintenance_in_request : List ℕ → Request
+maintenance_in_request cdb =
+    if byte 1 cdb % 32 == 0x0A then port_groups_request cdb
+    else (if byte 1 cdb % 32 == 0x0C then supported_operations_request cdb
+    else request.InvalidAtUnit invalid_field_in_cdb)
+
 -- what a CDB asks for
 unfoldable pub request_of : List ℕ → Request
 request_of cdb =
@@ -143,7 +193,9 @@ request_of cdb =
     else (if operation_code cdb == 0x35 then synchronize_cache_10_request cdb
     else (if operation_code cdb == 0x91 then synchronize_cache_16_request cdb
     else (if operation_code cdb == 0x1B then start_stop_unit_request cdb
-    else request.Given))))))))
+    else (if operation_code cdb == 0x1D then send_diagnostic_request cdb
+    else (if operation_code cdb == 0xA3 then maintenance_in_request cdb
+    else transfer_request cdb))))))))))
 
 -- the fields of a request that is answered are in range: a list of LUNs has room for one
 abbrev pub SuitsRequest : Request → Type 0

@@ -1,6 +1,7 @@
 -- The pages of vital product data (VPD) of a unit. Each begins with the peripheral (00h: a direct access block device
 -- is connected), its PAGE CODE, and the length of what follows.
-use Rattle.std.specs.Prelude.{ℕ, ◌+◌, ◌/◌, ◌%◌, nat_lt, if◌then◌else◌, List, [], ◌∷◌, ◌++◌, replicate}
+use Rattle.std.specs.Prelude.{ℕ, ◌+◌, ◌-◌, ◌/◌, ◌%◌, ◌==◌, max, nat_lt, if◌then◌else◌, List, [], ◌∷◌, ◌++◌, codes}
+use Rattle.std.specs.Prelude.{replicate}
 use Rattle.std.specs.Int.{w16, w32, to_be_bytes}
 use Rattle.ar_target.specs.declared.attributes.Attributes.{Attributes}
 use Rattle.ar_target.specs.declared.request.VpdPage.{VpdPage}
@@ -49,17 +50,46 @@ vendor_designator array host lun =
 abbrev pub naa_designator : ℕ → ℕ → ℕ → List ℕ
 naa_designator array host lun = (0x01 ∷ 0x03 ∷ 0x00 ∷ 0x08 ∷ 0x30 ∷ 0x41 ∷ []) ++ unit_name array host lun
 
+-- the name of the target port of a host: that of its target, and of the one portal group (SPC-4, SCSI name string
+-- designator format; RFC 7143, 4.2.7.4)
+abbrev pub port_name : ℕ → List ℕ
+port_name host = codes "iqn.2026-11.example.autoraid:host" ++ ((48 + host % 10) ∷ codes ",t,0x0001")
+
+-- designators of the target port, over iSCSI (PIV, PROTOCOL IDENTIFIER 5h): relative target port 1, target port group 1,
+-- and the port's name with a zero byte (SPC-4, Relative target port, Target port group and SCSI name string
+-- designator formats)
+abbrev pub port_designators : ℕ → List ℕ
+port_designators host =
+    (0x51 ∷ 0x94 ∷ 0x00 ∷ 0x04 ∷ 0x00 ∷ 0x00 ∷ 0x00 ∷ 0x01 ∷ [])
+    ++ ((0x51 ∷ 0x95 ∷ 0x00 ∷ 0x04 ∷ 0x00 ∷ 0x00 ∷ 0x00 ∷ 0x01 ∷ [])
+    ++ ((0x53 ∷ 0x98 ∷ 0x00 ∷ 0x2C ∷ []) ++ (port_name host ++ 0x00 ∷ [])))
+
+-- the designators of the logical unit
+abbrev pub unit_designators : ℕ → ℕ → ℕ → List ℕ
+unit_designators array host lun = vendor_designator array host lun ++ naa_designator array host lun
+
 -- Device Identification (SPC-3, Device Identification VPD page)
 unfoldable pub device_identification : ℕ → ℕ → ℕ → List ℕ
 device_identification array host lun =
-    (0x00 ∷ 0x83 ∷ 0x00 ∷ 0x24 ∷ []) ++ (vendor_designator array host lun ++ naa_designator array host lun)
+    (0x00 ∷ 0x83 ∷ 0x00 ∷ 0x64 ∷ []) ++ (unit_designators array host lun ++ port_designators host)
+
+-- REPORT TARGET PORT GROUPS data (SPC-4, REPORT TARGET PORT GROUPS command): RETURN DATA LENGTH; group 1 is
+-- active/optimized, the only state that it supports; it has one port, relative target port 1
+abbrev pub port_groups : List ℕ
+port_groups =
+    0x00 ∷ 0x00 ∷ 0x00 ∷ 0x0C ∷ 0x00 ∷ 0x01 ∷ 0x00 ∷ 0x01 ∷ 0x00 ∷ 0x00 ∷ 0x00 ∷ 0x01 ∷ 0x00 ∷ 0x00 ∷ 0x00 ∷ 0x01 ∷ []
+
+-- the sectors of an optimal transfer: as many whole blocks as 1 MiB has, or one that is longer
+abbrev pub optimal_sectors : ℕ → ℕ
+optimal_sectors block = if block == 0 then 0 else max block (2048 - 2048 % block)
 
 -- Block Limits (SBC-2, Block Limits VPD page, as long as the standard data claim no SBC-3): OPTIMAL TRANSFER LENGTH
--- GRANULARITY is the array's block, MAXIMUM TRANSFER LENGTH 65,535 blocks, no OPTIMAL TRANSFER LENGTH is reported
+-- GRANULARITY is the array's block, MAXIMUM TRANSFER LENGTH 65,535 blocks, OPTIMAL TRANSFER LENGTH about 1 MiB
 unfoldable pub block_limits : ℕ → List ℕ
 block_limits block_sectors =
     (0x00 ∷ 0xB0 ∷ 0x00 ∷ 0x0C ∷ 0x00 ∷ 0x00 ∷ [])
-    ++ (to_be_bytes w16 block_sectors ++ (0x00 ∷ 0x00 ∷ 0xFF ∷ 0xFF ∷ 0x00 ∷ 0x00 ∷ 0x00 ∷ 0x00 ∷ []))
+    ++ (to_be_bytes w16 block_sectors
+    ++ (0x00 ∷ 0x00 ∷ 0xFF ∷ 0xFF ∷ to_be_bytes w32 (optimal_sectors block_sectors)))
 
 -- Block Device Characteristics (SBC-3, Block Device Characteristics VPD page): MEDIUM ROTATION RATE 0001h, a medium
 -- that doesn't rotate; no nominal form factor

@@ -1,7 +1,7 @@
 // The answers that are made of one reply of the port.
-ghost use Rattle.std.specs.Prelude.{◌≡◌, ◌<◌, take, length};
+ghost use Rattle.std.specs.Prelude.{◌≡◌, ◌<◌, ◌≤◌, take, length};
 ghost use Rattle.ar_scsi.specs.Reply.{good, check};
-ghost use Rattle.ar_frames.specs.Frame.{IsReply};
+ghost use Rattle.ar_frames.specs.Frame.{IsReply, most_data};
 ghost use Rattle.ar_target.specs.Answer as answer;
 ghost use Rattle.ar_target.specs.Mode as mode;
 ghost use Rattle.ar_target.specs.Told.{IsReturned};
@@ -9,10 +9,11 @@ ghost use Rattle.ar_target.specs.Vpd as vpd;
 
 use crate::attributes::Attributes;
 use crate::mode::mode_data;
-use crate::request::{ModeSense, VpdPage};
+use crate::operations::{all_commands, one_command};
+use crate::request::{ModeSense, TargetReport, VpdPage};
 use crate::told::{cut_reply, handed_on, last_block, presence};
 use crate::vpd::{
-    absent_pages, block_device_characteristics, block_limits, device_identification,
+    PORT_GROUPS, absent_pages, block_device_characteristics, block_limits, device_identification,
     supported_pages, unit_serial_number,
 };
 use ar_scsi::{Reply, Sense, Status, sense18};
@@ -118,26 +119,169 @@ fn mode_reply(alloc: Global, write_back: bool, sense: ModeSense, last: u32) -> R
     }
 }
 
-/// The answer to READ CAPACITY (16).
-pub(crate) fn answer_capacity(alloc: Global, len: u32, told: Reply) -> Reply
+/// The answer to READ CAPACITY (16), on an array with blocks of `block_sectors` sectors.
+pub(crate) fn answer_capacity(alloc: Global, block_sectors: u16, len: u32, told: Reply) -> Reply
     requires { IsReply told }
-    ensures answer { IsReturned (answer.long_capacity_answer len told) result }
+    ensures answer { IsReturned (answer.long_capacity_answer block_sectors len told) result }
     ensures reply { IsReply result }
 {
     match last_block(&told) {
-        Some(last) => cut_reply(alloc, &long_capacity_data(last), len as usize),
+        Some(last) => {
+            let bytes = long_capacity_data(block_sectors, last);
+            cut_reply(alloc, &bytes, len as usize)
+        }
         None => handed_on(told),
     }
 }
 
 // READ CAPACITY (16) data of a unit whose last block is `last`.
-fn long_capacity_data(last: u32) -> [u8; 32]
-    ensures { result ≡ answer.long_capacity_data last }
+#[tactic(auto, unfolding(crate::specs::Answer::long_capacity_data))]
+fn long_capacity_data(block_sectors: u16, last: u32) -> [u8; 32]
+    ensures { result ≡ answer.long_capacity_data block_sectors last }
 {
     let mut bytes = [0; 32];
     bytes[10] = 0x02;
+    bytes[13] = block_exponent(block_sectors);
     BigEndian::write_u64(&mut bytes, u64::from(last));
     bytes
+}
+
+// LOGICAL BLOCKS PER PHYSICAL BLOCK EXPONENT.
+fn block_exponent(sectors: u16) -> u8
+    ensures { result ≡ answer.block_exponent sectors }
+{
+    if sectors < 16 {
+        3
+    } else if sectors < 32 {
+        4
+    } else if sectors < 64 {
+        5
+    } else if sectors < 128 {
+        6
+    } else if sectors < 256 {
+        7
+    } else if sectors < 512 {
+        8
+    } else if sectors < 1_024 {
+        9
+    } else if sectors < 2_048 {
+        10
+    } else {
+        11
+    }
+}
+
+/// The answer to a report on the target, cut to `len` bytes.
+pub(crate) fn answer_report(alloc: Global, report: TargetReport, len: u32, told: Reply) -> Reply
+    requires { IsReply told }
+    ensures answer { IsReturned (answer.report_answer report len told) result }
+    ensures reply { IsReply result }
+{
+    match last_block(&told) {
+        Some(_) => report_reply(alloc, report, len as usize),
+        None => handed_on(told),
+    }
+}
+
+// GOOD with the first `len` bytes of a report.
+fn report_reply(alloc: Global, report: TargetReport, len: usize) -> Reply
+    ensures answer { IsReturned (good (take len (answer.report_data report))) result }
+    ensures reply { IsReply result }
+{
+    match report {
+        TargetReport::AllOperations => cut_reply(alloc, &all_commands(), len),
+        TargetReport::OneOperation(operation) => {
+            let (bytes, shown) = one_command(operation);
+            cut_reply(alloc, &bytes[..shown], len)
+        }
+        TargetReport::PortGroups => cut_reply(alloc, &PORT_GROUPS, len),
+    }
+}
+
+/// The answer to INQUIRY of the standard data: the port's own but for target port groups and queues.
+pub(crate) fn answer_standard(alloc: Global, told: Reply) -> Reply
+    requires { IsReply told }
+    ensures answer { IsReturned (answer.standard_answer told) result }
+    ensures reply { IsReply result }
+{
+    match presence(&told) {
+        Some(true) => standard_cut(alloc, told.payload.as_slice()),
+        Some(false) | None => told,
+    }
+}
+
+// The same of data that may be none.
+fn standard_cut(alloc: Global, told: &[u8]) -> Reply
+    requires { length told.now ≤ most_data }
+    ensures answer { IsReturned (good (answer.over_target_port told.now)) result }
+    ensures reply { IsReply result }
+{
+    if told.is_empty() {
+        Reply::good(Bytes::new())
+    } else {
+        standard_reply(alloc, told)
+    }
+}
+
+// GOOD with standard INQUIRY data of a unit behind a target port, or BUSY if out of memory.
+fn standard_reply(alloc: Global, told: &[u8]) -> Reply
+    requires some { 0 < length told.now }
+    requires short { length told.now ≤ most_data }
+    ensures answer { IsReturned (good (answer.over_target_port told.now)) result }
+    ensures reply { IsReply result }
+{
+    let mut bytes = Vec::new(alloc);
+    if bytes.extend_from_slice(told).is_err() {
+        return Reply::busy();
+    }
+    if bytes.len() > 5 {
+        bytes[5] = 0x10;
+    }
+    if bytes.len() > 7 {
+        bytes[7] = 0x02;
+    }
+    match Bytes::from_vec(bytes) {
+        Ok(payload) => Reply::good(payload),
+        Err(_) => Reply::busy(),
+    }
+}
+
+/// VERIFY: MISCOMPARE, MISCOMPARE DURING VERIFY OPERATION.
+pub const MISCOMPARE: Sense = Sense {
+    key: 0x0E,
+    asc: 0x1D,
+    ascq: 0x00,
+};
+
+/// The answer to VERIFY by what the READ of its blocks told; it compares them with the data that came, or not.
+#[tactic(auto, unfolding(crate::specs::Answer::verify_answer))]
+pub(crate) fn answer_verify(compares: bool, sent: &[u8], told: Reply) -> Reply
+    requires { IsReply told }
+    ensures answer { result ≡ answer.verify_answer compares sent.now told }
+    ensures reply { IsReply result }
+{
+    match told.status {
+        Status::Good => verified(compares, sent, told.payload.as_slice()),
+        Status::CheckCondition | Status::Busy => told,
+    }
+}
+
+// The answer to VERIFY whose blocks hold `stored`.
+fn verified(compares: bool, sent: &[u8], stored: &[u8]) -> Reply
+    ensures answer { result ≡ answer.verified compares sent.now stored.now }
+    ensures reply { IsReply result }
+{
+    if !compares {
+        return Reply::good(Bytes::new());
+    }
+    if sent.len() != stored.len() {
+        return Reply::check(Sense::DATA_PHASE_ERROR);
+    }
+    if sent == stored {
+        Reply::good(Bytes::new())
+    } else {
+        Reply::check(MISCOMPARE)
+    }
 }
 
 /// The answer to REQUEST SENSE.

@@ -1,6 +1,7 @@
 //! What initiators ask of a device server beyond the array's commands, as a `Port` over a `Port`: vital product data,
-//! REPORT LUNS, MODE SENSE, REQUEST SENSE, READ CAPACITY (16), SYNCHRONIZE CACHE, START STOP UNIT. Each answer is
-//! a function of what the port below tells. It uses no thread, no socket and no array.
+//! REPORT LUNS, MODE SENSE, REQUEST SENSE, READ CAPACITY (16), SYNCHRONIZE CACHE, VERIFY, reports on the target, and
+//! other forms of READ and WRITE. Each answer is a function of what the port below tells. It uses no thread, no socket
+//! and no array.
 #![tactic(auto)]
 
 ghost use Rattle.ar_target.specs.Laws.{CommandsAreGiven, NamesDiffer, GoodIsFlushed};
@@ -12,20 +13,26 @@ mod device_server;
 mod flush_port;
 mod luns;
 mod mode;
+mod operations;
 mod request;
 mod reset_port;
 mod serve;
 mod told;
+mod translation;
 mod vpd;
 
+pub use answer::MISCOMPARE;
 pub use attention::RESET_OCCURRED;
 pub use attributes::Attributes;
 pub use device_server::DeviceServer;
 pub use flush_port::{FlushOutcome, FlushPort};
+pub use operations::Operation;
 pub use request::{
-    ModePages, ModeSense, Request, SAVING_PARAMETERS_NOT_SUPPORTED, VpdPage, request_of,
+    ModePages, ModeSense, Request, SAVING_PARAMETERS_NOT_SUPPORTED, TargetReport, VpdPage,
+    request_of,
 };
 pub use reset_port::{ResetOutcome, ResetPort};
+pub use translation::data_out_len;
 
 /// Law: each command block that the array executes is given to the port, untouched.
 pub fn commands_are_given()

@@ -16,7 +16,7 @@ pub(crate) fn mode_data(
 ) -> Result<Vec<u8>, AllocError>
     ensures { IfOk result (λ bytes. bytes.items ≡ mode.mode_data write_back sense last) }
 {
-    let mut bytes = Vec::with_capacity(alloc, 48)?;
+    let mut bytes = Vec::with_capacity(alloc, 72)?;
     put_header(
         &mut bytes,
         sense.is_long,
@@ -39,12 +39,14 @@ fn descriptor_len(has_descriptor: bool) -> u8
 // The length of the pages.
 fn pages_len(pages: ModePages) -> u8
     ensures is { result ≡ mode.pages_len pages }
-    ensures short { result ≤ 32 }
+    ensures short { result ≤ 56 }
 {
     match pages {
+        ModePages::ErrorRecovery => 12,
         ModePages::Caching => 20,
         ModePages::Control => 12,
-        ModePages::All => 32,
+        ModePages::InformationalExceptions => 12,
+        ModePages::All => 56,
     }
 }
 
@@ -56,7 +58,7 @@ fn put_header(
     pages: u8,
 ) -> Result<(), AllocError>
     requires descriptor { descriptor ≤ 8 }
-    requires pages { pages ≤ 32 }
+    requires pages { pages ≤ 56 }
     ensures { OnOk result (bytes.new.items ≡ bytes.old.items ++ mode.mode_header is_long descriptor pages) }
 {
     if is_long {
@@ -84,14 +86,35 @@ fn put_pages(bytes: &mut Vec<u8>, write_back: bool, sense: ModeSense) -> Result<
 {
     let caching = caching_page(write_back && !sense.changeable);
     let control = control_page(!sense.changeable);
+    let exceptions = exceptions_page(!sense.changeable);
     match sense.pages {
+        ModePages::ErrorRecovery => bytes.extend_from_slice(&ERROR_RECOVERY_PAGE),
         ModePages::Caching => bytes.extend_from_slice(&caching),
         ModePages::Control => bytes.extend_from_slice(&control),
+        ModePages::InformationalExceptions => bytes.extend_from_slice(&exceptions),
         ModePages::All => {
+            bytes.extend_from_slice(&ERROR_RECOVERY_PAGE)?;
             bytes.extend_from_slice(&caching)?;
-            bytes.extend_from_slice(&control)
+            bytes.extend_from_slice(&control)?;
+            bytes.extend_from_slice(&exceptions)
         }
     }
+}
+
+// The Read-Write Error Recovery mode page.
+const ERROR_RECOVERY_PAGE: [u8; 12] = [0x01, 0x0A, 0, 0, 0, 0, 0, 0, 0, 0, 0, 0];
+
+// The Informational Exceptions Control mode page, with DEXCPT if `disabled`.
+fn exceptions_page(disabled: bool) -> [u8; 12]
+    ensures { result ≡ mode.exceptions_page disabled }
+{
+    let mut page = [0; 12];
+    page[0] = 0x1C;
+    page[1] = 0x0A;
+    if disabled {
+        page[2] = 0x08;
+    }
+    page
 }
 
 // The caching page, with WCE if `write_cache`.

@@ -5,6 +5,8 @@ ghost use Rattle.std.specs.Int.{bit_at};
 ghost use Rattle.ar_scsi.specs.Field as field;
 ghost use Rattle.ar_target.specs.Request as table;
 
+use crate::operations::Operation;
+use crate::translation::transfer_request;
 use ar_scsi::{Sense, allocation_length};
 use byteorder::{BigEndian, ByteOrder};
 
@@ -26,10 +28,14 @@ pub enum VpdPage {
 /// The mode pages that a MODE SENSE asks for.
 #[derive(Clone, Copy, Debug, PartialEq, Eq)]
 pub enum ModePages {
+    /// 01h: how errors of the medium are recovered from.
+    ErrorRecovery,
     /// 08h: whether the array has a cache.
     Caching,
     /// 0Ah: how commands are executed.
     Control,
+    /// 1Ch: how failures that are foreseen are reported.
+    InformationalExceptions,
     /// 3Fh: all pages.
     All,
 }
@@ -48,11 +54,28 @@ pub struct ModeSense {
     pub len: u16,
 }
 
+/// A report on the target.
+#[derive(Clone, Copy, Debug, PartialEq, Eq)]
+pub enum TargetReport {
+    /// REPORT SUPPORTED OPERATION CODES of all commands.
+    AllOperations,
+    /// REPORT SUPPORTED OPERATION CODES of one command.
+    OneOperation(Operation),
+    /// REPORT TARGET PORT GROUPS.
+    PortGroups,
+}
+
 /// What is asked of a device server. A `len` is an ALLOCATION LENGTH in bytes.
 #[derive(Clone, Copy, Debug, PartialEq, Eq)]
 pub enum Request {
     /// A command for the port, untouched.
     Given,
+    /// INQUIRY of the standard data, which the port returns but for what it doesn't know of: queues and target ports.
+    StandardData,
+    /// A command that means this one of the array's own.
+    Transfer([u8; 16]),
+    /// VERIFY of the blocks that this READ returns: it compares them with the data that come with it, or reads them.
+    Verify { read: [u8; 16], compares: bool },
     /// A CDB that is refused with this sense, whatever is at its LUN.
     InvalidAtTarget(Sense),
     /// A CDB that a unit refuses with this sense, unless it has another to report first.
@@ -73,6 +96,10 @@ pub enum Request {
     Synchronize { lba: u64, count: u32 },
     /// START STOP UNIT.
     StartStop,
+    /// SEND DIAGNOSTIC of the default self-test, or of nothing.
+    SelfTest,
+    /// A report on the target, which is the same for each unit.
+    Report { of: TargetReport, len: u32 },
 }
 
 /// MODE SENSE of saved values: ILLEGAL REQUEST, SAVING PARAMETERS NOT SUPPORTED.
@@ -98,7 +125,9 @@ pub fn request_of(cdb: &[u8; 16]) -> Request
         0x35 => synchronize_cache_10(cdb),
         0x91 => synchronize_cache_16(cdb),
         0x1B => start_stop_unit(cdb),
-        _ => Request::Given,
+        0x1D => send_diagnostic(cdb),
+        0xA3 => maintenance_in(cdb),
+        _ => transfer_request(cdb),
     }
 }
 
@@ -155,12 +184,15 @@ fn where_fields_valid(valid: bool, request: Request) -> Request
     }
 }
 
-// INQUIRY; of a page that isn't supported, and with NACA, the port refuses it.
+// INQUIRY; of a page that isn't supported, and of any with NACA, the port refuses it.
 fn inquiry(cdb: &[u8; 16]) -> Request
     ensures request { result ≡ table.inquiry_request cdb.now }
     ensures suits { table.SuitsRequest result }
 {
-    if !flag(cdb[1], 0) || naca(cdb[5]) {
+    if !flag(cdb[1], 0) {
+        return Request::StandardData;
+    }
+    if naca(cdb[5]) {
         return Request::Given;
     }
     match vpd_page_of(cdb[2]) {
@@ -206,8 +238,10 @@ fn mode_pages_of(cdb: &[u8; 16]) -> Option<ModePages>
     ensures { result ≡ table.mode_pages_of cdb.now }
 {
     match (cdb[2] % 64, cdb[3]) {
+        (0x01, 0x00) => Some(ModePages::ErrorRecovery),
         (0x08, 0x00) => Some(ModePages::Caching),
         (0x0A, 0x00) => Some(ModePages::Control),
+        (0x1C, 0x00) => Some(ModePages::InformationalExceptions),
         (0x3F, 0x00 | 0xFF) => Some(ModePages::All),
         _ => None,
     }
@@ -288,4 +322,66 @@ fn start_stop_unit(cdb: &[u8; 16]) -> Request
     ensures { result ≡ table.start_stop_unit_request cdb.now }
 {
     where_fields_valid(!naca(cdb[5]), Request::StartStop)
+}
+
+// SEND DIAGNOSTIC: the default self-test, or nothing; no parameters, and no other self-test.
+fn send_diagnostic(cdb: &[u8; 16]) -> Request
+    ensures { result ≡ table.send_diagnostic_request cdb.now }
+{
+    let valid = !naca(cdb[5]) && cdb[1] / 32 == 0 && number_16(cdb, 3) == 0;
+    where_fields_valid(valid, Request::SelfTest)
+}
+
+// MAINTENANCE IN, by its SERVICE ACTION.
+fn maintenance_in(cdb: &[u8; 16]) -> Request
+    ensures { result ≡ table.maintenance_in_request cdb.now }
+{
+    let len = number_32(cdb, 6);
+    match cdb[1] % 32 {
+        0x0A => {
+            let valid = !naca(cdb[11]) && cdb[1] / 32 == 0;
+            let of = TargetReport::PortGroups;
+            where_fields_valid(valid, Request::Report { of, len })
+        }
+        0x0C => {
+            if naca(cdb[11]) {
+                return Request::InvalidAtUnit(Sense::INVALID_FIELD_IN_CDB);
+            }
+            operations_by(cdb[2] % 8, cdb[3], number_16(cdb, 4), len)
+        }
+        _ => Request::InvalidAtUnit(Sense::INVALID_FIELD_IN_CDB),
+    }
+}
+
+// Whether the commands of an OPERATION CODE have SERVICE ACTIONs.
+fn has_actions(code: u8) -> bool
+    ensures { result ≡ table.has_actions code }
+{
+    code == 0x9E || code == 0xA3
+}
+
+// REPORT SUPPORTED OPERATION CODES, by REPORTING OPTIONS.
+fn operations_by(option: u8, code: u8, action: u16, len: u32) -> Request
+    ensures { result ≡ table.operations_by option code action len }
+{
+    match option {
+        0 => Request::Report {
+            of: TargetReport::AllOperations,
+            len,
+        },
+        1 => where_fields_valid(!has_actions(code), one_operation(code, 0, len)),
+        2 => where_fields_valid(has_actions(code), one_operation(code, action, len)),
+        3 => one_operation(code, action, len),
+        _ => Request::InvalidAtUnit(Sense::INVALID_FIELD_IN_CDB),
+    }
+}
+
+// REPORT SUPPORTED OPERATION CODES of one command.
+fn one_operation(code: u8, action: u16, len: u32) -> Request
+    ensures { result ≡ table.one_operation code action len }
+{
+    Request::Report {
+        of: TargetReport::OneOperation(Operation { code, action }),
+        len,
+    }
 }

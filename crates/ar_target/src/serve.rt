@@ -4,7 +4,10 @@ ghost use Rattle.ar_frames.specs.Frame.{IsReply};
 ghost use Rattle.ar_target.specs.Request.{SuitsRequest};
 ghost use Rattle.ar_target.specs.Serving as serving;
 
-use crate::answer::{answer_capacity, answer_mode, answer_sense, answer_vpd, refuse};
+use crate::answer::{
+    answer_capacity, answer_mode, answer_report, answer_sense, answer_standard, answer_verify,
+    answer_vpd, refuse,
+};
 use crate::attributes::Attributes;
 use crate::flush_port::{FlushOutcome, FlushPort};
 use crate::luns::{list_reply, report_luns};
@@ -34,6 +37,11 @@ pub(crate) fn serve<P: FlushPort>(
 {
     match request {
         Request::Given => port.command(lun, cdb, payload),
+        Request::StandardData => answer_standard(alloc, port.command(lun, cdb, payload)),
+        Request::Transfer(own) => port.command(lun, &own, payload),
+        Request::Verify { read, compares } => {
+            answer_verify(compares, payload.as_slice(), ask(port, lun, &read))
+        }
         Request::InvalidAtTarget(sense) => Reply::check(sense),
         Request::InvalidAtUnit(sense) => refuse(sense, ask(port, lun, &CAPACITY)),
         Request::Vpd { page, len } => {
@@ -50,9 +58,13 @@ pub(crate) fn serve<P: FlushPort>(
             )
         }
         Request::RequestSense { len } => answer_sense(alloc, len, ask(port, lun, &READY)),
-        Request::LongCapacity { len } => answer_capacity(alloc, len, ask(port, lun, &CAPACITY)),
+        Request::LongCapacity { len } => {
+            let block_sectors = attributes.block_sectors;
+            answer_capacity(alloc, block_sectors, len, ask(port, lun, &CAPACITY))
+        }
         Request::Synchronize { lba, count } => synchronize(port, lun, lba, count),
-        Request::StartStop => ask(port, lun, &READY),
+        Request::StartStop | Request::SelfTest => ask(port, lun, &READY),
+        Request::Report { of, len } => answer_report(alloc, of, len, ask(port, lun, &CAPACITY)),
     }
 }
 

@@ -62,21 +62,56 @@ pub(crate) fn unit_serial_number(array: u32, host: u8, lun: u8) -> [u8; 16]
     bytes
 }
 
-/// Device Identification (SPC-3, Device Identification VPD page): a T10 vendor ID based designator, and an NAA Locally
-/// Assigned one.
+/// Device Identification (SPC-3, Device Identification VPD page): a T10 vendor ID based designator of the unit, an NAA
+/// Locally Assigned one, and three of the target port.
 #[tactic(auto, unfolding(crate::specs::Vpd::device_identification))]
-pub(crate) fn device_identification(array: u32, host: u8, lun: u8) -> [u8; 40]
+pub(crate) fn device_identification(array: u32, host: u8, lun: u8) -> [u8; 104]
     ensures { result ≡ page.device_identification array host lun }
+{
+    let mut bytes = [0; 104];
+    bytes[1] = 0x83;
+    bytes[3] = 0x64;
+    bytes[4..40].copy_from_slice(&unit_designators(array, host, lun));
+    bytes[40..].copy_from_slice(&port_designators(host));
+    bytes
+}
+
+// The designators of the logical unit.
+fn unit_designators(array: u32, host: u8, lun: u8) -> [u8; 36]
+    ensures { result ≡ page.unit_designators array host lun }
 {
     let s = serial_number(array, host, lun);
     let number = array.to_be_bytes();
     [
-        0x00, 0x83, 0x00, 0x24, //
         0x02, 0x01, 0x00, 0x14, b'A', b'U', b'T', b'O', b'R', b'A', b'I', b'D', //
         s[0], s[1], s[2], s[3], s[4], s[5], s[6], s[7], s[8], s[9], s[10], s[11], //
         0x01, 0x03, 0x00, 0x08, 0x30, 0x41, //
         number[0], number[1], number[2], number[3], host, lun,
     ]
+}
+
+// The designators of the target port of a host.
+fn port_designators(host: u8) -> [u8; 64]
+    ensures { result ≡ page.port_designators host }
+{
+    let mut bytes =
+        *b"\x51\x94\x00\x04\x00\x00\x00\x01\x51\x95\x00\x04\x00\x00\x00\x01\x53\x98\x00\x2Ciqn.2026-11.example.autoraid:host0,t,0x0001\x00";
+    bytes[53] = b'0' + host % 10;
+    bytes
+}
+
+/// REPORT TARGET PORT GROUPS data: one group, which is active/optimized, with one port.
+pub(crate) const PORT_GROUPS: [u8; 16] = [0, 0, 0, 0x0C, 0, 0x01, 0, 1, 0, 0, 0, 1, 0, 0, 0, 1];
+
+// The sectors of an optimal transfer.
+fn optimal_sectors(block: u16) -> u32
+    ensures { result ≡ page.optimal_sectors block }
+{
+    if block == 0 {
+        return 0;
+    }
+    let block = u32::from(block);
+    block.max(2048 - 2048 % block)
 }
 
 /// Block Limits (SBC-2, Block Limits VPD page), for an array with blocks of `block_sectors` sectors.
@@ -85,14 +120,25 @@ pub(crate) fn block_limits(block_sectors: u16) -> [u8; 16]
     ensures { result ≡ page.block_limits block_sectors }
 {
     let granularity = block_sectors.to_be_bytes();
-    let mut bytes = [0; 16];
-    bytes[1] = 0xB0;
-    bytes[3] = 0x0C;
-    bytes[6] = granularity[0];
-    bytes[7] = granularity[1];
-    bytes[10] = 0xFF;
-    bytes[11] = 0xFF;
-    bytes
+    let optimal = optimal_sectors(block_sectors).to_be_bytes();
+    [
+        0x00,
+        0xB0,
+        0x00,
+        0x0C,
+        0x00,
+        0x00,
+        granularity[0],
+        granularity[1],
+        0x00,
+        0x00,
+        0xFF,
+        0xFF,
+        optimal[0],
+        optimal[1],
+        optimal[2],
+        optimal[3],
+    ]
 }
 
 /// Block Device Characteristics (SBC-3, Block Device Characteristics VPD page).

@@ -260,6 +260,47 @@ fn discovery(rt: HostRuntime) {
     plays(&rt, alloc, &input, ENDED, &output);
 }
 
+// Numbers in hexadecimal, a FirstBurstLength above MaxBurstLength, a list without what is supported.
+#[test]
+fn keys_of_a_login(rt: HostRuntime) {
+    let alloc = rt.alloc();
+    plays(
+        &rt,
+        alloc,
+        &[pdus::LOGIN_KEYS],
+        ENDED,
+        &[pdus::LOGGED_IN_KEYS],
+    );
+    plays(
+        &rt,
+        alloc,
+        &[pdus::LOGIN_FAST_ABORT],
+        ENDED,
+        &[pdus::LOGGED_IN_FAST_ABORT],
+    );
+}
+
+// A session with the target of a host names no other.
+#[test]
+fn targets_in_a_normal_session(rt: HostRuntime) {
+    let alloc = rt.alloc();
+    let input = [
+        pdus::LOGIN,
+        pdus::SEND_OWN_TARGET,
+        pdus::SEND_NAMED_TARGET,
+        pdus::SEND_OTHER_TARGET,
+        pdus::SEND_ALL_TARGETS,
+    ];
+    let output = [
+        pdus::LOGGED_IN,
+        pdus::OWN_TARGET,
+        pdus::NAMED_TARGET,
+        pdus::NO_TARGET,
+        pdus::NOT_ALL_TARGETS,
+    ];
+    plays(&rt, alloc, &input, ENDED, &output);
+}
+
 #[test]
 fn a_text_in_two_requests(rt: HostRuntime) {
     let alloc = rt.alloc();
@@ -311,6 +352,11 @@ fn refused_logins(rt: HostRuntime) {
             pdus::LOGIN_OTHER_KIND,
             LoginStatus::SessionTypeNotSupported,
             pdus::REFUSED_OTHER_KIND,
+        ),
+        (
+            pdus::LOGIN_KEY_TWICE,
+            LoginStatus::InitiatorError,
+            pdus::REFUSED_KEY_TWICE,
         ),
     ] {
         let end = IscsiEnd::Login(LoginEnd::Refused(status));

@@ -4,7 +4,7 @@ ghost use Rattle.std.specs.Prelude.{◌≡◌, true};
 use crate::fake::Fake;
 use ar_frames::{Login, Port};
 use ar_scsi::{Reply, Sense, Status};
-use ar_target::{Attributes, DeviceServer};
+use ar_target::{Attributes, DeviceServer, Request, data_out_len, request_of};
 use bytes::Bytes;
 use std::alloc::Global;
 use std::process::Abort;
@@ -111,17 +111,27 @@ fn play(rt: &impl Abort, server: &mut Server, rows: &[Row])
     }
 }
 
-// The standard INQUIRY data of a unit.
-static STANDARD: &[u8] = b"\x00\x00\x05\x02\x1F\x00\x00\x00AUTORAIDTWO LEVEL ARRAY 0001";
+// The standard INQUIRY data of a unit, with TPGS 01b and CMDQUE.
+static STANDARD: &[u8] = b"\x00\x00\x05\x02\x1F\x10\x00\x02AUTORAIDTWO LEVEL ARRAY 0001";
 
 // The Device Identification page of host 2's LUN 3.
 static NAMES: &[u8] = &[
-    0x00, 0x83, 0x00, 0x24, // 36 bytes of designators
+    0x00, 0x83, 0x00, 0x64, // 100 bytes of designators
     0x02, 0x01, 0x00, 0x14, // in ASCII, of the logical unit, T10 vendor ID based, 20 bytes
     b'A', b'U', b'T', b'O', b'R', b'A', b'I', b'D', //
     b'0', b'0', b'0', b'0', b'0', b'C', b'B', b'C', b'0', b'2', b'0', b'3', //
     0x01, 0x03, 0x00, 0x08, // in binary, of the logical unit, NAA, 8 bytes
-    0x30, 0x41, 0x00, 0x00, 0x0C, 0xBC, 0x02, 0x03,
+    0x30, 0x41, 0x00, 0x00, 0x0C, 0xBC, 0x02, 0x03, //
+    0x51, 0x94, 0x00, 0x04, // in binary, of the target port over iSCSI, relative target port, 4 bytes
+    0x00, 0x00, 0x00, 0x01, //
+    0x51, 0x95, 0x00, 0x04, // in binary, of the target port, target port group, 4 bytes
+    0x00, 0x00, 0x00, 0x01, //
+    0x53, 0x98, 0x00, 0x2C, // in UTF-8, of the target port, SCSI name string, 44 bytes
+    b'i', b'q', b'n', b'.', b'2', b'0', b'2', b'6', b'-', b'1', b'1', b'.', b'e', b'x', b'a', b'm',
+    b'p', //
+    b'l', b'e', b'.', b'a', b'u', b't', b'o', b'r', b'a', b'i', b'd', b':', b'h', b'o', b's', b't',
+    b'2', //
+    b',', b't', b',', b'0', b'x', b'0', b'0', b'0', b'1', 0x00,
 ];
 
 #[test]
@@ -151,7 +161,7 @@ fn pages_of_vital_product_data(rt: HostRuntime) {
             (
                 0,
                 &[0x12, 1, 0xB0, 0, 16],
-                Good(&[0, 0xB0, 0, 0x0C, 0, 0, 0, 128, 0, 0, 0xFF, 0xFF, 0, 0, 0, 0]),
+                Good(&[0, 0xB0, 0, 0x0C, 0, 0, 0, 128, 0, 0, 0xFF, 0xFF, 0, 0, 8, 0]),
             ),
             (
                 0,
@@ -218,9 +228,25 @@ fn mode_data(rt: HostRuntime) {
                 0,
                 &[0x1A, 8, 0x3F, 0xFF, 255],
                 Good(&[
-                    0x23, 0, 0x10, 0, 8, 0x12, 4, 0, 0, 0, 0, 0, 0, 0, 0, 0, 0, 0, 0, 0, 0, 0, 0,
-                    0, 0x0A, 0x0A, 2, 0, 0, 0, 0, 0, 0, 0, 0, 0,
+                    0x3B, 0, 0x10, 0, 1, 0x0A, 0, 0, 0, 0, 0, 0, 0, 0, 0, 0, 8, 0x12, 4, 0, 0, 0,
+                    0, 0, 0, 0, 0, 0, 0, 0, 0, 0, 0, 0, 0, 0, 0x0A, 0x0A, 2, 0, 0, 0, 0, 0, 0, 0,
+                    0, 0, 0x1C, 0x0A, 8, 0, 0, 0, 0, 0, 0, 0, 0, 0,
                 ]),
+            ),
+            (
+                0,
+                &[0x1A, 8, 0x01, 0, 255],
+                Good(&[0x0F, 0, 0x10, 0, 0x01, 0x0A, 0, 0, 0, 0, 0, 0, 0, 0, 0, 0]),
+            ),
+            (
+                0,
+                &[0x1A, 8, 0x1C, 0, 255],
+                Good(&[0x0F, 0, 0x10, 0, 0x1C, 0x0A, 8, 0, 0, 0, 0, 0, 0, 0, 0, 0]),
+            ),
+            (
+                0,
+                &[0x1A, 8, 0x5C, 0, 255],
+                Good(&[0x0F, 0, 0x10, 0, 0x1C, 0x0A, 0, 0, 0, 0, 0, 0, 0, 0, 0, 0]),
             ),
             (
                 0,
@@ -233,7 +259,7 @@ fn mode_data(rt: HostRuntime) {
                 Good(&[0x17, 0, 0x10, 0, 8, 0x12, 4]),
             ),
             (0, &[0x1A, 8, 0xC8, 0, 7], Check(0x05, 0x39, 0x00)),
-            (0, &[0x1A, 8, 0x1C, 0, 7], INVALID),
+            (0, &[0x1A, 8, 0x02, 0, 7], INVALID),
             (0, &[0x1A, 8, 0x08, 1, 7], INVALID),
             (0, &[0x1A, 8, 0x0A, 1, 7], INVALID),
             (0, &[0x1A, 8, 0x08, 0, 0], DONE),
@@ -245,10 +271,10 @@ fn mode_data(rt: HostRuntime) {
             (
                 0,
                 &[0x5A, 0, 0x3F, 0, 0, 0, 0, 0, 16],
-                Good(&[0, 0x2E, 0, 0x10, 0, 0, 0, 8, 0, 0, 3, 0xE8, 0, 0, 2, 0]),
+                Good(&[0, 0x46, 0, 0x10, 0, 0, 0, 8, 0, 0, 3, 0xE8, 0, 0, 2, 0]),
             ),
             (7, &[0x1A, 8, 0x08, 0, 4], NO_UNIT),
-            (7, &[0x1A, 8, 0x1C, 0, 4], NO_UNIT),
+            (7, &[0x1A, 8, 0x02, 0, 4], NO_UNIT),
         ],
     );
     drop(server);
@@ -263,8 +289,8 @@ fn capacities_of_eight_bytes(rt: HostRuntime) {
         &[
             (
                 0,
-                &[0x9E, 0x10, 0, 0, 0, 0, 0, 0, 0, 0, 0, 0, 0, 12],
-                Good(&[0, 0, 0, 0, 0, 0, 3, 0xE7, 0, 0, 2, 0]),
+                &[0x9E, 0x10, 0, 0, 0, 0, 0, 0, 0, 0, 0, 0, 0, 16],
+                Good(&[0, 0, 0, 0, 0, 0, 3, 0xE7, 0, 0, 2, 0, 0, 7, 0, 0]),
             ),
             (
                 0,
@@ -389,8 +415,8 @@ fn each_unit_reports_a_new_session_once(rt: HostRuntime) {
                 ]),
             ),
             (3, &[0x25], Good(&[0, 0, 3, 0xE7, 0, 0, 2, 0])),
-            (5, &[0x1A, 8, 0x1C, 0, 4], NEW_SESSION),
-            (5, &[0x1A, 8, 0x1C, 0, 4], INVALID),
+            (5, &[0x1A, 8, 0x02, 0, 4], NEW_SESSION),
+            (5, &[0x1A, 8, 0x02, 0, 4], INVALID),
             (7, &[0x00], NO_UNIT),
             (7, &[0x28, 0, 0, 0, 0, 0, 0, 0, 1], NO_UNIT),
         ],
@@ -441,8 +467,8 @@ fn a_unit_attention_comes_before_other_faults(rt: HostRuntime) {
         &rt,
         &mut server,
         &[
-            (0, &[0x1A, 8, 0x1C, 0, 4], ATTENTION),
-            (0, &[0x1A, 8, 0x1C, 0, 4], INVALID),
+            (0, &[0x1A, 8, 0x02, 0, 4], ATTENTION),
+            (0, &[0x1A, 8, 0x02, 0, 4], INVALID),
         ],
     );
     drop(server);
@@ -459,7 +485,7 @@ fn other_commands_are_the_ports(rt: HostRuntime) {
             (0, &[0x25], Good(&[0, 0, 3, 0xE7, 0, 0, 2, 0])),
             (0, &[0x28, 0, 0, 0, 0, 0, 0, 0, 1], Good(&[0x5A; 512])),
             (0, &[0x12, 0, 0, 0, 36], Good(STANDARD)),
-            (0, &[0xA3, 0x0C], Check(0x05, 0x20, 0x00)),
+            (0, &[0x42], Check(0x05, 0x20, 0x00)),
         ],
     );
     drop(server);
@@ -485,4 +511,164 @@ fn writes(rt: &impl Abort, alloc: Global, server: &mut Server)
 fn given(rt: &impl Abort, server: Server, bytes: u64) {
     let port = server.into_port();
     assert!(rt; port.bytes == bytes, "{} bytes", port.bytes);
+}
+
+// READ and WRITE with 6 and 12 bytes are those with 10 and 16, WRITE AND VERIFY is a WRITE with FUA.
+#[test]
+fn other_forms_of_transfers(rt: HostRuntime) {
+    means(
+        &rt,
+        &[0x08, 0xFF, 0x02, 0x03, 0x00, 0x04],
+        &[0x28, 0, 0, 0x1F, 2, 3, 0, 1, 0, 4],
+    );
+    means(
+        &rt,
+        &[0x0A, 0x01, 0x02, 0x03, 0x05, 0x00],
+        &[0x2A, 0, 0, 1, 2, 3, 0, 0, 5, 0],
+    );
+    means(
+        &rt,
+        &[0xA8, 0x18, 1, 2, 3, 4, 5, 6, 7, 8, 0x1F, 4],
+        &[0x88, 0x18, 0, 0, 0, 0, 1, 2, 3, 4, 5, 6, 7, 8, 0, 4],
+    );
+    means(
+        &rt,
+        &[0xAA, 0x20, 1, 2, 3, 4, 5, 6, 7, 8, 0x1F, 0],
+        &[0x8A, 0x20, 0, 0, 0, 0, 1, 2, 3, 4, 5, 6, 7, 8, 0, 0],
+    );
+    means(
+        &rt,
+        &[0x2E, 0x32, 1, 2, 3, 4, 0x1F, 5, 6, 4],
+        &[0x2A, 0x28, 1, 2, 3, 4, 0, 5, 6, 4],
+    );
+    means(
+        &rt,
+        &[0x8E, 0x10, 1, 2, 3, 4, 5, 6, 7, 8, 9, 10, 11, 12, 0x1F, 4],
+        &[0x8A, 0x08, 1, 2, 3, 4, 5, 6, 7, 8, 9, 10, 11, 12, 0, 4],
+    );
+}
+
+// A command block means this one.
+fn means(rt: &impl Abort, cdb: &[u8], own: &[u8]) {
+    let request = request_of(&padded(cdb));
+    assert!(rt; request == Request::Transfer(padded(own)), "{request:?}");
+}
+
+// How many bytes commands take from their host.
+#[test]
+fn lengths_of_data_out(rt: HostRuntime) {
+    takes(&rt, &[0x0A, 0, 0, 0, 0], 131_072);
+    takes(&rt, &[0x0A, 0, 0, 0, 2], 1_024);
+    takes(&rt, &[0x08, 0, 0, 0, 2], 0);
+    takes(&rt, &[0x2A, 0, 0, 0, 0, 0, 0, 0, 2], 1_024);
+    takes(&rt, &[0xAA, 0, 0, 0, 0, 0, 0, 0, 0, 3], 1_536);
+    takes(&rt, &[0x2E, 2, 0, 0, 0, 0, 0, 0, 2], 1_024);
+    takes(&rt, &[0x2E, 6, 0, 0, 0, 0, 0, 0, 2], 0);
+    takes(&rt, &[0x2F, 0, 0, 0, 0, 0, 0, 0, 2], 0);
+    takes(&rt, &[0x2F, 2, 0, 0, 0, 0, 0, 0, 2], 1_024);
+    takes(&rt, &[0x8F, 2, 0, 0, 0, 0, 0, 0, 0, 0, 0, 0, 0, 2], 1_024);
+    takes(&rt, &[0xA0, 0, 0, 0, 0, 0, 0, 0, 1, 0], 0);
+}
+
+fn takes(rt: &impl Abort, cdb: &[u8], len: u32) {
+    let taken = data_out_len(&padded(cdb));
+    assert!(rt; taken == len, "{cdb:?} takes {taken} bytes");
+}
+
+// What a unit's medium is compared with.
+#[test]
+fn blocks_are_verified(rt: HostRuntime) {
+    let mut server = settled(&rt, rt.alloc(), false);
+    let alloc = rt.alloc();
+    verifies(&rt, alloc, &mut server, (0, &[], DONE));
+    verifies(&rt, alloc, &mut server, (2, &[0x5A; 512], DONE));
+    verifies(
+        &rt,
+        alloc,
+        &mut server,
+        (2, &[0xA5; 512], Check(0x0E, 0x1D, 0x00)),
+    );
+    verifies(
+        &rt,
+        alloc,
+        &mut server,
+        (2, &[0x5A; 511], Check(0x0B, 0x4B, 0x00)),
+    );
+    verifies(&rt, alloc, &mut server, (4, &[0x5A; 512], INVALID));
+    verifies(&rt, alloc, &mut server, (6, &[0x5A; 512], INVALID));
+    drop(server);
+}
+
+// Byte 1 of a VERIFY (10) of one block, its data, and the reply.
+fn verifies(rt: &impl Abort, alloc: Global, server: &mut Server, row: (u8, &[u8], Wanted))
+    requires { server.old.port.taken ≡ true }
+    ensures { server.new.port.taken ≡ true }
+{
+    let (byte, sent, wanted) = row;
+    let sent = Bytes::copy_from_slice(alloc, sent).expect(rt, "memory");
+    let reply = server.command(0, &padded(&[0x2F, byte, 0, 0, 0, 7, 0, 0, 1]), sent);
+    assert!(rt; is_wanted(&reply, wanted), "{byte}: {reply:?}");
+}
+
+#[test]
+fn reports_on_the_target(rt: HostRuntime) {
+    let mut server = settled(&rt, rt.alloc(), false);
+    play(
+        &rt,
+        &mut server,
+        &[
+            (
+                0,
+                &[0xA3, 0x0A, 0, 0, 0, 0, 0, 0, 0, 255],
+                Good(&[0, 0, 0, 12, 0, 1, 0, 1, 0, 0, 0, 1, 0, 0, 0, 1]),
+            ),
+            (0, &[0xA3, 0x2A, 0, 0, 0, 0, 0, 0, 0, 255], INVALID),
+            (0, &[0xA3, 0x01, 0, 0, 0, 0, 0, 0, 0, 255], INVALID),
+            (
+                0,
+                &[0xA3, 0x0C, 0, 0, 0, 0, 0, 0, 0, 20],
+                Good(&[
+                    0, 0, 0, 208, 0x00, 0, 0, 0, 0, 0, 0, 6, 0x03, 0, 0, 0, 0, 0, 0, 6,
+                ]),
+            ),
+            (
+                0,
+                &[0xA3, 0x0C, 1, 0x28, 0, 0, 0, 0, 0, 255],
+                Good(&[
+                    0, 3, 0, 10, 0x28, 0xF8, 0xFF, 0xFF, 0xFF, 0xFF, 0, 0xFF, 0xFF, 4,
+                ]),
+            ),
+            (
+                0,
+                &[0xA3, 0x0C, 1, 0x42, 0, 0, 0, 0, 0, 255],
+                Good(&[0, 1, 0, 0]),
+            ),
+            (0, &[0xA3, 0x0C, 1, 0x9E, 0, 0, 0, 0, 0, 255], INVALID),
+            (0, &[0xA3, 0x0C, 2, 0x28, 0, 0, 0, 0, 0, 255], INVALID),
+            (
+                0,
+                &[0xA3, 0x0C, 2, 0x9E, 0, 0x10, 0, 0, 0, 8],
+                Good(&[0, 3, 0, 16, 0x9E, 0x10, 0xFF, 0xFF]),
+            ),
+            (
+                0,
+                &[0xA3, 0x0C, 3, 0x9E, 0, 0x11, 0, 0, 0, 255],
+                Good(&[0, 1, 0, 0]),
+            ),
+            (
+                0,
+                &[0xA3, 0x0C, 3, 0x28, 0, 0x01, 0, 0, 0, 255],
+                Good(&[0, 1, 0, 0]),
+            ),
+            (0, &[0xA3, 0x0C, 4, 0x28, 0, 0, 0, 0, 0, 255], INVALID),
+            (7, &[0xA3, 0x0C, 0, 0, 0, 0, 0, 0, 0, 20], NO_UNIT),
+            (7, &[0xA3, 0x0A, 0, 0, 0, 0, 0, 0, 0, 20], NO_UNIT),
+            (0, &[0x1D, 0x04], DONE),
+            (0, &[0x1D, 0x00], DONE),
+            (0, &[0x1D, 0x20], INVALID),
+            (0, &[0x1D, 0x10, 0, 0, 1], INVALID),
+            (7, &[0x1D, 0x04], NO_UNIT),
+        ],
+    );
+    drop(server);
 }

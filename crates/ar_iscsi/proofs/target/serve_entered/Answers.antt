@@ -11,8 +11,8 @@ returns-in-Normal g c =
       waiting = c.serve_feature.new.waiting.items;
     })
     c.in-Normal.is
-    (feature_from g.P.Port.commands g.P.ResetPort.resets _ _ _ _ _ c.new.result.items c.new-waiting.result.items _ _ _
-    c.new.ensures.items
+    (feature_from g.P.Port.commands g.P.ResetPort.resets _ _ _ _ _ _ c.new.result.items c.new-waiting.result.items _ _ _
+    c.normal_limits-work.ensures c.new.ensures.items
     c.new-waiting.ensures.items c.serve_feature.ensures)
 
 pub returns : goal.returns
@@ -26,5 +26,6 @@ returns g c =
       waiting = c.serve_feature-in_default.new.waiting.items;
     })
     _ _ c.in_default.not-Normal
-    (feature_from no_units no_resets _ _ _ _ _ c.new.result.items c.new-waiting.result.items _ _ _ c.new.ensures.items
+    (feature_from no_units no_resets _ _ _ _ _ _ c.new.result.items c.new-waiting.result.items _ _ _ refl
+    c.new.ensures.items
     c.new-waiting.ensures.items c.serve_feature-in_default.ensures) refl

@@ -7,11 +7,11 @@ pub loop-end-preserved : goal.loop-end-preserved
 loop-end-preserved c = record {
   at = c.place_of-end-in-loop-end.ensures.first;
   shorter = omega (arith, c.loop-end.invariant.shorter, c.behind-rest.ensures.shorter);
-  answers = targets_more _ _ _ _ _ _ c.loop-end.end c.behind-rest.ensures.is c.loop-end.invariant.at
+  answers = targets_more _ _ _ _ _ _ _ c.loop-end.end c.behind-rest.ensures.is c.loop-end.invariant.at
       c.loop-end-test.true c.in_ok-answer_asked.ensures c.loop-end.invariant.answers;
 }
 
 pub returns : goal.returns
 returns c = on_ok c.answer_asked-2.result _ _
-    (λ e. targets_last _ _ _ _ _ c.loop-end.end c.loop-end.invariant.at c.loop-end-test.false e
+    (λ e. targets_last _ _ _ _ _ _ c.loop-end.end c.loop-end.invariant.at c.loop-end-test.false e
     c.loop-end.invariant.answers) c.answer_asked-2.ensures

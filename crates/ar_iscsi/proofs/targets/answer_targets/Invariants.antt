@@ -9,7 +9,8 @@ abbrev pub invariant-loop-end : goal.invariant-loop-end
 invariant-loop-end l = record {
   at : l.end ≡ position_or_len (λ b. b == 0) l.rest;
   shorter : length l.rest ≤ length l.asked;
-  answers : l.out.items ++ targets_answer l.address l.rest ≡ l.fn.out.items ++ targets_answer l.address l.asked;
+  answers : l.out.items ++ targets_answer l.address l.host l.rest
+      ≡ l.fn.out.items ++ targets_answer l.address l.host l.asked;
 }
 
 abbrev pub decreases-loop-end : goal.decreases-loop-end

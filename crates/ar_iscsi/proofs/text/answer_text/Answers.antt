@@ -7,11 +7,11 @@ pub loop-end-preserved : goal.loop-end-preserved
 loop-end-preserved c = record {
   at = c.place_of-end-in-loop-end.ensures.first;
   shorter = omega (arith, c.loop-end.invariant.shorter, c.behind-rest.ensures.shorter);
-  answers = answer_more _ _ _ _ _ c.loop-end.end c.behind-rest.ensures.is c.loop-end.invariant.at c.loop-end-test.true
+  answers = answer_more _ _ _ _ _ _ c.loop-end.end c.behind-rest.ensures.is c.loop-end.invariant.at c.loop-end-test.true
       c.in_ok-answer_item.ensures c.loop-end.invariant.answers;
 }
 
 pub returns : goal.returns
 returns c = on_ok c.answer_item-2.result _ _
-    (λ e. answer_last _ _ _ _ c.loop-end.end c.loop-end.invariant.at c.loop-end-test.false e
+    (λ e. answer_last _ _ _ _ _ c.loop-end.end c.loop-end.invariant.at c.loop-end-test.false e
     c.loop-end.invariant.answers) c.answer_item-2.ensures

@@ -9,7 +9,7 @@ abbrev pub invariant-loop-end : goal.invariant-loop-end
 invariant-loop-end l = record {
   at : l.end ≡ position_or_len (λ b. b == 0) l.rest;
   shorter : length l.rest ≤ length l.asked;
-  answers : l.out.items ++ text_answer l.rest ≡ l.fn.out.items ++ text_answer l.asked;
+  answers : l.out.items ++ text_answer l.burst l.rest ≡ l.fn.out.items ++ text_answer l.burst l.asked;
 }
 
 abbrev pub decreases-loop-end : goal.decreases-loop-end

@@ -1,7 +1,7 @@
 -- the digits so far make the number, and those to come go on from it
 use Rattle.std.proofs.Common.{◌≡◌, ◌<◌, drop}
 use Rattle.ar_iscsi.specs.Text.{numeral_from}
-use Rattle.ar_iscsi.proofs.keys.numeral.Given as goal
+use Rattle.ar_iscsi.proofs.keys.decimal_number.Given as goal
 
 abbrev pub invariant-loop-digit : goal.invariant-loop-digit
 invariant-loop-digit l = record {
