@@ -1,0 +1,13 @@
+//! The command lines of the programs: their options as data, from which `clap` reads the words and writes the help, and
+//! what the words of `autoraid` and of `ar_client` ask for.
+#![tactic(auto)]
+
+mod array;
+mod client;
+mod command;
+mod fault;
+mod form;
+
+pub use array::{ArrayOptions, Audit, Order, ServeOptions, UnitOption, order_in};
+pub use client::{Account, account_in};
+pub use fault::UsageFault;
