@@ -4,6 +4,13 @@
 
 mod error;
 mod media;
+mod memory;
+mod open;
+mod record;
+mod regular;
 
 pub use error::MediaError;
 pub use media::Media;
+pub use memory::{Fate, MemoryFile};
+pub use record::Call;
+pub use regular::{RegularFile, replace_file};
