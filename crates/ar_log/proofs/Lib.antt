@@ -1,0 +1,6 @@
+pub mod Ahead
+pub mod Appending
+pub mod Creating
+pub mod Encoding
+pub mod Standing
+pub mod Starting

@@ -1,0 +1,5 @@
+pub mod Codec
+pub mod Failure
+pub mod Log
+pub mod Reading
+pub mod Write

@@ -1,0 +1,7 @@
+pub mod CallLaws
+pub mod Calls
+pub mod Fates
+pub mod Kept
+pub mod Media
+pub mod Memory
+pub mod Regular

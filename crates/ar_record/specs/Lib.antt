@@ -1,0 +1,4 @@
+pub mod Encoding
+pub mod Reading
+pub mod Record
+pub mod Replay

@@ -1,0 +1,81 @@
+// Encodes records. A number of several bytes is big-endian:
+//
+//     Make      0 | host | LUN | sectors, 4 bytes
+//     Grow      1 | host | LUN | sectors, 4 bytes
+//     Remove    2 | host | LUN
+//     Command   3 | host | LUN | command block, 16 bytes | length of the data, 4 bytes | data
+//     AddDisk   4 | extents, 4 bytes
+ghost use Rattle.std.specs.Prelude.{◌≡◌, ◌++◌, ◌∷◌, [], OnOk, IfOk, length, map};
+ghost use Rattle.ar_record.specs.Encoding.{encoding_of, encodings_of};
+ghost use Rattle.ar_record.specs.Record.{IsEncodable, AreEncodable, data_of, all_data};
+
+use crate::Record;
+use ar_disks::Addr;
+use std::alloc::{AllocError, Global};
+
+pub(crate) const MAKE: u8 = 0;
+
+pub(crate) const GROW: u8 = 1;
+
+pub(crate) const REMOVE: u8 = 2;
+
+pub(crate) const COMMAND: u8 = 3;
+
+pub(crate) const ADD_DISK: u8 = 4;
+
+/// Appends the encoding of `entry` to `out`. `Err` is out of memory; `out` then ends in a part of the encoding.
+pub fn encode(entry: &Record, out: &mut Vec<u8>) -> Result<(), AllocError>
+    requires fits { IsEncodable (data_of entry.now) }
+    ensures appended { OnOk result (out.new.items ≡ out.old.items ++ encoding_of (data_of entry.now)) }
+{
+    match entry {
+        Record::Make(addr, sectors) => {
+            push_unit(out, MAKE, *addr)?;
+            out.extend_from_slice(&sectors.to_be_bytes())
+        }
+        Record::Grow(addr, sectors) => {
+            push_unit(out, GROW, *addr)?;
+            out.extend_from_slice(&sectors.to_be_bytes())
+        }
+        Record::Remove(addr) => push_unit(out, REMOVE, *addr),
+        Record::Command(addr, cdb, payload) => {
+            push_unit(out, COMMAND, *addr)?;
+            out.extend_from_slice(cdb)?;
+            out.extend_from_slice(&(payload.len() as u32).to_be_bytes())?;
+            out.extend_from_slice(payload.as_slice())
+        }
+        Record::AddDisk(extents) => {
+            out.extend_from_slice(&[ADD_DISK])?;
+            out.extend_from_slice(&extents.to_be_bytes())
+        }
+    }
+}
+
+/// Encodes each of the records.
+pub fn encode_each(alloc: Global, records: &[Record]) -> Result<Vec<Vec<u8>>, AllocError>
+    requires fit { AreEncodable (all_data records.now) }
+    ensures encoded { IfOk result (λ items. map (λ item. item.items) items.items ≡ encodings_of (all_data records.now)) }
+{
+    let mut items = Vec::new(alloc);
+    for entry in records {
+        items.push(encoded_record(alloc, entry)?)?;
+    }
+    Ok(items)
+}
+
+// The encoding of a record.
+fn encoded_record(alloc: Global, entry: &Record) -> Result<Vec<u8>, AllocError>
+    requires { IsEncodable (data_of entry.now) }
+    ensures { IfOk result (λ item. item.items ≡ encoding_of (data_of entry.now)) }
+{
+    let mut item = Vec::new(alloc);
+    encode(entry, &mut item)?;
+    Ok(item)
+}
+
+// Appends what was done, and the unit to which.
+fn push_unit(out: &mut Vec<u8>, kind: u8, addr: Addr) -> Result<(), AllocError>
+    ensures { OnOk result (out.new.items ≡ out.old.items ++ kind ∷ addr.host.number ∷ addr.lun ∷ []) }
+{
+    out.extend_from_slice(&[kind, addr.host.number(), addr.lun])
+}
