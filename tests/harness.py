@@ -366,10 +366,10 @@ class Initiator:
         self.link = connected(port)
         self.cmd_sn, self.exp_stat_sn = 1, 0
 
-    def send(self, opcode, flags=0, words=(), data=b"", lun=0, tag=0, size=None):
-        """A PDU: `words` are those from byte 20 on; `size` is said in place of the data's own."""
-        size = len(data) if size is None else size
-        header = struct.pack(">BBHIQI", opcode, flags, 0, size, lun << 48, tag)
+    def send(self, opcode, flags=0, words=(), data=b"", lun=0, tag=0, size=None, place=None):
+        """A PDU: `words` are those from byte 20 on, `place` is bytes 8 to 15, `size` what is said of the data."""
+        size, place = len(data) if size is None else size, lun << 48 if place is None else place
+        header = struct.pack(">BBHIQI", opcode, flags, 0, size, place, tag)
         header += struct.pack(">7I", *words, *[0] * (7 - len(words)))
         self.link.sendall(header + data + bytes(-len(data) % 4))
 
@@ -385,10 +385,10 @@ class Initiator:
             self.exp_stat_sn = said.stat_sn + 1 & 0xFFFFFFFF
         return said
 
-    def log_in(self, *pairs, flags=0x87, isid=0x40000137):
+    def log_in(self, *pairs, flags=0x87, isid=0x400001370000, tsih=0, size=None):
         """Asks to log in by these pairs, and returns the answer."""
         data = "".join(f"{pair}\0" for pair in pairs).encode()
-        self.send(0x43, flags, (0, self.cmd_sn, self.exp_stat_sn), data, lun=isid >> 16, tag=0)
+        self.send(0x43, flags, (0, self.cmd_sn, self.exp_stat_sn), data, place=isid << 16 | tsih, size=size)
         return self.receive()
 
     def sends(self, block, lun=0, flags=0x81, expected=0, data=b"", opcode=0x01):

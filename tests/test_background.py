@@ -21,12 +21,14 @@ class Background(Case):
         host = self.kept(server.log_in(0))
         self.wants(host.writes(0, b"r" * 512 * 200).status, GOOD, "a WRITE")
         self.wants(server.told("out 2\nreplace 2\n"), "ok\nok\n", "a disk that is taken out and replaced")
-        seen, wrong = set(), 0
+        seen, wrong, begun = set(), 0, time.monotonic()
         while (health := server.get("/healthz")[2]) != "whole\n":
             seen.add(health[:12])
             wrong += host.reads(0, 200).data != b"r" * 512 * 200
         self.holds(seen <= {"out 2\n", "rebuilding 2"}, "the disk is out or rebuilt", seen)
         self.wants(wrong, 0, "READs that differ meanwhile")
+        passed = time.monotonic() - begun
+        self.holds(passed < 30, "64 extents are rebuilt within 30 s", f"{passed:.1f} s")
         self.wants(host.reads(0, 200).data, b"r" * 512 * 200, "a READ behind it")
 
     def test_destaging_without_an_order(self):
@@ -71,7 +73,7 @@ class Background(Case):
             if not host.is_ready():
                 self.wants(host.tag, None, "a command that isn't answered GOOD")
         passed = time.monotonic() - begun
-        self.holds(passed < 10, "a thousand commands in less than 10 s", f"{passed:.2f} s")
+        self.holds(passed < 4, "a thousand commands in less than 4 s", f"{passed:.2f} s")
 
     def test_orders_beside_looks(self):
         """200 orders and 200 looks at once all end, whichever lock each takes first."""

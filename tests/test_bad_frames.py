@@ -13,7 +13,7 @@ import threading
 import time
 
 from tests.harness import ACCEPTED, GOOD, LOGIN, REFUSED, TEST_UNIT_READY, Case, Host, Reply, answered, connected
-from tests.harness import exactly, frame, most_resident, read_10, reset, write_10
+from tests.harness import exactly, frame, most_resident, read_10, reset, waited, write_10
 
 SECTORS, TURNS = 256, 400
 # Resident memory in KiB: that of the program and its threads, and of what the history keeps of some 400 commands of 8
@@ -136,6 +136,22 @@ class BadFrames(Case):
         time.sleep(0.2)
         reset(host.link)
         self.finish()
+
+    def test_cut_at_each_byte(self):
+        """A login and a WRITE that end before their last byte: nothing is done, or answered but the login."""
+        whole = LOGIN + b"\2" + frame(1, write_10(0, 1), b"\xCC" * 512)
+        ends = [*range(60), *range(60, len(whole), 37), len(whole) - 1]
+        answers = {9 <= end: set() for end in ends}
+        for end in ends:
+            said = waited(lambda: answered(self.server.port, whole[:end]), ACCEPTED if end >= 9 else b"", seconds=5)
+            answers[end >= 9].add(said)
+        self.wants(answers, {False: {b""}, True: {ACCEPTED}}, "the answers to a cut login, and to a cut frame")
+        host = self.server.log_in_again(2)
+        self.wants(host.reads(0, 1), Reply(1, GOOD, b"", bytes(512)), "a READ of what was cut")
+        host.close()
+        turns = self.beside.ends(self)
+        self.wants(self.server.wait_for_none(), "", "sessions once all have left")
+        self.stops(self.server, [turns, 0, 1, 0])
 
     def test_byte_by_byte(self):
         host = self.log_in()

@@ -55,8 +55,62 @@ SAID = [
     ("fail 0 off", "ok"),
 ]
 
+# Lines that are faulty: words that are none, arguments that are, and words of hosts with arguments or without.
+FAULTY = {
+    "unknown word": ["x", "Health", "session"],
+    "bad argument": ["make 0 0", "health ", " health", "make  0 0 4", "stop now", "help 1", "counts 0", "sessions 0"],
+    "not an operator's word": ["read", "write", "cdb", "inquiry", "capacity", "read16", "write16", "tur", "block"],
+}
+FAULTY["bad argument"] += ["fail", "fail 0", "fail 0 x", "fail 256 1", "fail 0 off off", "fail 0 12345678901"]
+FAULTY["bad argument"] += ["fail 0 1 1 1 1 1 1 1 1"]
+
+# Units and views of an array of four disks of four extents, in order, by the tables of scripts' lines and answers.
+UNITS = [
+    ("room", "room 18"),
+    ("make 0 0 4", "ok"),
+    ("room", "room 16"),
+    ("make 0 0 4", "refused M1 Exists"),
+    ("make 0 8 4", "refused M7 BadLun"),
+    ("make 1 0 0", "refused M2 Size"),
+    ("make 1 0 4096", "refused M3 NoRoom 16"),
+    ("grow 0 0 8", "ok"),
+    ("grow 0 0 8", "refused M2 Size"),
+    ("levels 0 0", "----"),
+    ("levels 3 7", "refused M5 Absent"),
+    ("home 0 0 0", "home none"),
+    ("home 0 0 4", "outside"),
+    ("groups", "group 0 free 0\ngroup 1 free 0\ngroup 2 free 0\ngroup 3 free 0"),
+    ("drop 0 0", "ok"),
+    ("drop 0 0", "refused M5 Absent"),
+    ("flush", "idle"),
+    ("demote", "idle"),
+    ("clean", "idle"),
+    ("balance", "idle"),
+    ("rebuild", "idle"),
+    ("out 4", "refused E4 NoSuchDisk"),
+    ("replace 1", "refused E3 NotOut"),
+    ("replace 4", "refused E4 NoSuchDisk"),
+    ("fail 4 off", "refused E4 NoSuchDisk"),
+]
+PICTURE = """4 disks (columns) of 4 extents (lines)
+              0    1    2    3
+   0..3      --   --   --   --
+M mirrored, P with parity; 0 to 9: how full, in ninths of its slots
+-- in a free group, .. in no group, ! can't be used
+all disks are sound"""
+
 # What ends the connection, and its answer; a line behind it is not executed.
 NO_TEXT = [
+    ("a tab", b"\t\nout 2\n", "fault: bad character\n"),
+    ("a delete in a comment", b"#\x7F\nout 2\n", "fault: bad character\n"),
+    ("a letter that isn't ASCII", b"h\xC3\xA4\nout 2\n", "fault: bad character\n"),
+    ("a zero", b"\0\nout 2\n", "fault: bad character\n"),
+    ("a carriage return alone", b"\r", "fault: bad character\n"),
+    ("a comment of 4,097", b"#" * 4097 + b"\nout 2\n", "fault: line too long\n"),
+    # (a bad character is reported among the first 4,096 bytes alone)
+    ("a carriage return at 4,096", b"#" * 4095 + b"\r\nout 2\n", "fault: bad character\n"),
+    ("a carriage return behind them", b"#" * 4096 + b"\r\nout 2\n", "fault: line too long\n"),
+    ("100,000 carriage returns", b"\r" * 100_000 + b"\nout 2\n", "fault: bad character\n"),
     ("a control character", b"heal\x07th\nout 2\n", "fault: bad character\n"),
     ("a carriage return", b"health\r\nout 0\n", "fault: bad character\n"),
     ("a line of 4,097", b"x" * 4097 + b"\nout 0\n", "fault: line too long\n"),
@@ -74,6 +128,37 @@ class Operators(Case):
         for line, wanted in SAID:
             self.wants(operator.tells(f"{line}\n".encode()), f"{wanted}\n", line)
         self.wants(operator.asks("help"), WORDS, "help")
+        self.stops(server, [0, 0, 0, 0])
+
+    def test_faulty_lines(self):
+        """Each is answered by its fault, and the conversation goes on."""
+        server = self.serve()
+        operator = self.kept(server.operator())
+        for fault, lines in FAULTY.items():
+            for line in lines:
+                self.wants(operator.tells(f"{line}\n".encode()), f"fault: {fault}\n", repr(line))
+        self.wants(operator.asks("health"), ["whole"], "health behind them")
+        self.stops(server, [0, 0, 0, 0])
+
+    def test_units_and_views(self):
+        server = self.serve()
+        operator = self.kept(server.operator())
+        for line, wanted in UNITS:
+            self.wants(operator.asks(line), wanted.split("\n"), line)
+        self.wants(operator.asks("picture"), PICTURE.split("\n"), "picture")
+        self.stops(server, [0, 0, 0, 0])
+
+    def test_longest_lines(self):
+        """Lines of 4,096 bytes are read, and a last line may end with the input."""
+        server = self.serve()
+        for sent, wanted in (
+            (b"#" * 4096 + b"\nhealth\n", "whole\n"),
+            (b"x" * 4096 + b"\nhealth\n", "fault: unknown word\nwhole\n"),
+            (b"health", "whole\n"),
+            (b"room\nhealth", "room 18\nwhole\n"),
+            (b"", ""),
+        ):
+            self.wants(answered(server.operator_port, sent).decode(), wanted, f"what {sent[-20:]} is answered")
         self.stops(server, [0, 0, 0, 0])
 
     def test_no_answer_to_comments(self):
