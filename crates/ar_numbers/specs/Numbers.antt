@@ -17,16 +17,16 @@ suffix_at (Some byte) =
     if byte == 75 then 2 ^ 10 else if byte == 77 then 2 ^ 20 else if byte == 71 then 2 ^ 30 else 512
 
 -- the bytes that a size's digits count
-abbrev pub unit_of : List ℕ → ℕ
-unit_of word = suffix_at (slice_get word (length word - 1))
+abbrev pub suffix_unit : List ℕ → ℕ
+suffix_unit word = suffix_at (slice_get word (length word - 1))
 
 -- a size's digits: all but the letter, if it has one
 abbrev pub digits_of : List ℕ → List ℕ
-digits_of word = if unit_of word == 512 then word else take (length word - 1) word
+digits_of word = if suffix_unit word == 512 then word else take (length word - 1) word
 
 -- the sectors of 512 bytes of a size, always whole ones
 abbrev pub size_sectors : List ℕ → ℕ
-size_sectors word = digits_value 10 (digits_of word) * unit_of word / 512
+size_sectors word = digits_value 10 (digits_of word) * suffix_unit word / 512
 
 -- a number with or without one of the letters, of less than 2^32 sectors
 pub record IsSize (word : List ℕ) : Type 0 where

@@ -4,7 +4,7 @@
 ghost use Rattle.std.specs.Prelude.{◌≡◌, ◌≤◌, ◌<◌, ◌^◌, IfSome};
 ghost use Rattle.std.specs.Option.{SomeIff};
 ghost use Rattle.std.specs.Str.Parse.{digits_value};
-ghost use Rattle.ar_numbers.specs.Numbers.{IsDecimal, IsSize, digits_of, size_sectors, suffix_at, unit_of};
+ghost use Rattle.ar_numbers.specs.Numbers.{IsDecimal, IsSize, digits_of, size_sectors, suffix_at, suffix_unit};
 
 /// Parses a number: 1 to 10 decimal digits.
 pub fn number(word: &str) -> Option<u64>
@@ -39,7 +39,7 @@ fn unit(letter: Option<u8>) -> u64
 
 // A size's digits: without the letter, if it has one.
 fn before_unit(bytes: &[u8], unit: u64) -> &[u8]
-    requires unit { unit ≡ unit_of bytes.now }
+    requires unit { unit ≡ suffix_unit bytes.now }
     ensures { result.now ≡ digits_of bytes.now }
 {
     if unit == 512 {
