@@ -4,7 +4,7 @@
 ghost use Rattle.std.specs.Prelude.{◌≡◌, ◌≤◌, ◌<◌, ◌^◌, IfSome};
 ghost use Rattle.std.specs.Option.{SomeIff};
 ghost use Rattle.std.specs.Str.Parse.{digits_value};
-ghost use Rattle.ar_numbers.specs.Numbers.{IsDecimal, IsSize, digits_of, sectors_in, unit_at, unit_of};
+ghost use Rattle.ar_numbers.specs.Numbers.{IsDecimal, IsSize, digits_of, size_sectors, suffix_at, suffix_unit};
 
 /// Parses a number: 1 to 10 decimal digits.
 pub fn number(word: &str) -> Option<u64>
@@ -16,7 +16,7 @@ pub fn number(word: &str) -> Option<u64>
 /// Parses a size, and returns it in sectors of 512 bytes: 1 to 10 decimal digits, which count KiB (K), MiB (M) or GiB (G)
 /// if that letter follows, and sectors otherwise. `None` also if there are 2^32 sectors or more.
 pub fn sectors(word: &str) -> Option<u32>
-    ensures { SomeIff result (IsSize word.now) (sectors_in word.now) }
+    ensures { SomeIff result (IsSize word.now) (size_sectors word.now) }
 {
     let bytes = word.as_bytes();
     let unit = unit(bytes.last().copied());
@@ -26,7 +26,7 @@ pub fn sectors(word: &str) -> Option<u32>
 
 // The bytes that a size's last letter stands for.
 fn unit(letter: Option<u8>) -> u64
-    ensures unit { result ≡ unit_at letter }
+    ensures unit { result ≡ suffix_at letter }
     ensures most { result ≤ 2 ^ 30 }
 {
     match letter {
@@ -39,7 +39,7 @@ fn unit(letter: Option<u8>) -> u64
 
 // A size's digits: without the letter, if it has one.
 fn before_unit(bytes: &[u8], unit: u64) -> &[u8]
-    requires unit { unit ≡ unit_of bytes.now }
+    requires unit { unit ≡ suffix_unit bytes.now }
     ensures { result.now ≡ digits_of bytes.now }
 {
     if unit == 512 {
