@@ -4,3 +4,4 @@ pub mod Creating
 pub mod Encoding
 pub mod Standing
 pub mod Starting
+pub mod Whole

@@ -1,6 +1,7 @@
 -- Reading a log, batch by batch.
-use Rattle.std.specs.Prelude.{◌≡◌, ◌⊎◌, ℕ, ◌+◌, ◌≤◌, Bool, true, List, [], ◌∷◌, ◌++◌, length, take, drop, IsTrue}
-use Rattle.ar_log.specs.Codec.{Batch, number_bytes, encoded}
+use Rattle.std.specs.Prelude.{◌≡◌, ◌⊎◌, ℕ, ◌+◌, ◌≤◌, Bool, true, List, [], ◌∷◌, ◌++◌, length, map, take, drop, IsTrue, Vec}
+use Rattle.std.specs.declared.alloc.Global.{Global}
+use Rattle.ar_log.specs.Codec.{Batch, items_of, number_bytes, encoded}
 use Rattle.ar_log.specs.Log.{AreBatchesFrom, HoldsBatches, batches_len, begins_open, batches_of}
 use Rattle.ar_log.specs.declared.place.Place.{Place}
 
@@ -48,3 +49,14 @@ pub record IsAt (file : List ℕ) (place : Place) : Type 0 where
 pub record ReadsOn (file : List ℕ) (batch : Batch) (old new : Place) : Type 0 where
   pub place : IsAt file new
   pub batches : batches_before new.at file ≡ batches_before old.at file ++ batch ∷ []
+
+-- the batches that the vectors hold
+abbrev pub all_items : List (Vec (Vec ℕ Global) Global) → List Batch
+all_items batches = map (λ b. items_of b.items) batches
+
+-- these are all batches of the file, which end at this place
+pub record IsWhole (file : List ℕ) (batches : List (Vec (Vec ℕ Global) Global)) (end : Place) : Type 0 where
+  pub holds : HoldsBatches (batches_of file) file
+  pub are : all_items batches ≡ batches_of file
+  pub at : end.at ≡ 8 + batches_len (batches_of file)
+  pub number : end.number ≡ length (batches_of file)

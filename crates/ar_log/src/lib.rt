@@ -14,6 +14,7 @@ mod log;
 mod new_log;
 mod place;
 mod read;
+mod recover_log;
 mod start;
 mod write;
 
@@ -22,4 +23,5 @@ pub use log::Log;
 pub use new_log::write_head;
 pub use place::{Place, ReadBatch};
 pub use read::{next_batch, open};
+pub use recover_log::{WholeLog, recover};
 pub use start::{create, cut_torn, resume};
