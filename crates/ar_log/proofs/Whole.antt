@@ -5,7 +5,7 @@ use Rattle.std.proofs.lemmas.List.{map-append}
 use Rattle.ar_media.specs.Media.{LeavesOnly}
 use Rattle.ar_log.specs.Codec.{Batch, items_of}
 use Rattle.ar_log.specs.Log.{HoldsBatches, batches_len, batches_of}
-use Rattle.ar_log.specs.Reading.{OnlyReads, batches_before, IsAt, ReadsOn, all_items, IsWhole}
+use Rattle.ar_log.specs.Reading.{OnlyReads, batches_before, IsAt, ReadsOn, all_items, IsWholeLog}
 use Rattle.ar_log.specs.declared.place.Place.{Place}
 use Rattle.ar_log.proofs.Standing.{batches_of_stands}
 
@@ -26,7 +26,7 @@ more_items file now vs v place next is so_far reads =
     ∙ sym (all_items-push vs v)
 
 pub whole : (file now : List ℕ) (vs : List (Vec (Vec ℕ Global) Global)) (place : Place) → now ≡ file → IsAt file place → batches_before place.at file ≡ all_items vs
-    → HoldsBatches (batches_before place.at now) now → IsWhole file vs place
+    → HoldsBatches (batches_before place.at now) now → IsWholeLog file vs place
 whole file now vs place is at_place so_far holds =
     let P : List ℕ → Type 0 = λ f. HoldsBatches (batches_before place.at f) f in
     let here = subst P is holds in

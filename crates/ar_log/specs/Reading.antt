@@ -55,7 +55,7 @@ abbrev pub all_items : List (Vec (Vec ℕ Global) Global) → List Batch
 all_items batches = map (λ b. items_of b.items) batches
 
 -- these are all batches of the file, which end at this place
-pub record IsWhole (file : List ℕ) (batches : List (Vec (Vec ℕ Global) Global)) (end : Place) : Type 0 where
+pub record IsWholeLog (file : List ℕ) (batches : List (Vec (Vec ℕ Global) Global)) (end : Place) : Type 0 where
   pub holds : HoldsBatches (batches_of file) file
   pub are : all_items batches ≡ batches_of file
   pub at : end.at ≡ 8 + batches_len (batches_of file)

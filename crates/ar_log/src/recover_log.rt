@@ -3,7 +3,7 @@ ghost use Rattle.std.specs.Prelude.{◌≡◌, ◌+◌, length, OnOk, IfOk, IfEr
 ghost use Rattle.ar_media.specs.Media.{Only, LeavesOnly};
 ghost use Rattle.ar_log.specs.Failure.{ReportsMedium};
 ghost use Rattle.ar_log.specs.Log.{HoldsBatches, batches_len, batches_of};
-ghost use Rattle.ar_log.specs.Reading.{OnlyReads, all_items, IsWhole};
+ghost use Rattle.ar_log.specs.Reading.{OnlyReads, all_items, IsWholeLog};
 
 use crate::{LogError, Place, cut_torn, next_batch, open};
 use ar_media::Media;
@@ -21,7 +21,7 @@ pub struct WholeLog {
 /// Reads all batches of a log.
 fn read_all<M: Media>(alloc: Global, media: &mut M) -> Result<WholeLog, LogError>
     ensures whole { IfOk result (λ log. IsTrue (M.is_clean media.new)
-        → IsWhole (M.seen media.old) log.batches.items log.end) }
+        → IsWholeLog (M.seen media.old) log.batches.items log.end) }
     ensures reads { OnlyReads M.seen M.may_leave M.moment M.left_since M.is_clean media.old media.new }
     ensures cause { ReportsMedium (M.faults media.old) (M.faults media.new) result }
 {
@@ -45,14 +45,14 @@ fn read_all<M: Media>(alloc: Global, media: &mut M) -> Result<WholeLog, LogError
     }
 }
 
-/// Reads a log that a crash may have left, and cuts off what it tore. It may crash too, at any moment, and then leaves the
-/// same batches. A medium that is damaged or holds no log is not written.
+/// Reads a log that a crash may have left, and cuts off what it tore. It may crash too, at any moment, and then leaves
+/// the same batches. A medium that is damaged or holds no log is not written.
 pub fn recover<M: Media>(alloc: Global, media: &mut M) -> Result<WholeLog, LogError>
     // After a restart, what is read is what is on the medium.
     requires { Only (M.seen media.old) (M.may_leave media.old) }
 
     ensures whole { IfOk result (λ log. IsTrue (M.is_clean media.new)
-        → IsWhole (M.seen media.old) log.batches.items log.end) }
+        → IsWholeLog (M.seen media.old) log.batches.items log.end) }
     ensures durable { OnOk result (Only (M.seen media.new) (M.may_leave media.new)) }
 
     // A crash at any moment leaves the same batches.

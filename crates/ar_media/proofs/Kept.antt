@@ -6,7 +6,7 @@ use Rattle.std.specs.declared.alloc.Global.{Global}
 use Rattle.ar_media.specs.declared.record.Call.{Call}
 use Rattle.ar_media.specs.declared.record.Call.TheVariants.{Measured, Read, Wrote, Resized, Synced, Failed}
 use Rattle.ar_media.specs.Media.{Cut}
-use Rattle.ar_media.specs.Calls.{Recorded, padded, seen_after, seen_of, LeftAfter, Leaves}
+use Rattle.ar_media.specs.Calls.{Recorded, padded, seen_after, seen_of, LeftAfter, LeftNow}
 use Rattle.ar_media.specs.CallLaws.{length-padded, take_min}
 use Rattle.ar_media.specs.Fates.{LeftBy}
 use Rattle.ar_media.specs.Kept.{calls_of}
@@ -44,13 +44,13 @@ module _ (first : List ℕ) (kept : List Entry) (i : ℕ) (e : Entry) (within : 
       ∙ ap (seen_of first) (sym (calls_more kept i e within is))
 
   pub leaves_more : (seen left new : List ℕ) → seen ≡ seen_of first (calls_of (take i kept))
-      → Leaves first (calls_of (take i kept)) left → LeftBy e.0 e.1.items seen left new
-      → Leaves first (calls_of (take (i + 1) kept)) new
+      → LeftNow first (calls_of (take i kept)) left → LeftBy e.0 e.1.items seen left new
+      → LeftNow first (calls_of (take (i + 1) kept)) new
   leaves_more seen left new was before by_it =
       let by_seen = subst (λ s. LeftBy e.0 e.1.items s left new) was by_it in
-      let now : Leaves first (recorded e ∷ calls_of (take i kept)) new =
-      left_after e.0 e.1.items _ (Leaves first (calls_of (take i kept))) left new before by_seen in
-      subst (λ calls. Leaves first calls new) (sym (calls_more kept i e within is)) now
+      let now : LeftNow first (recorded e ∷ calls_of (take i kept)) new =
+      left_after e.0 e.1.items _ (LeftNow first (calls_of (take i kept))) left new before by_seen in
+      subst (λ calls. LeftNow first calls new) (sym (calls_more kept i e within is)) now
 
 -- any length between is one that a cut may leave
 pub Cut-between : (file : List ℕ) (len m : ℕ) → min len (length file) ≤ m → m ≤ max len (length file)

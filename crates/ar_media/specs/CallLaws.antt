@@ -7,7 +7,7 @@ use Rattle.std.proofs.lemmas.Slice.{drop-append-drop}
 use Rattle.ar_media.specs.Media.{Torn, Cut}
 use Rattle.ar_media.specs.declared.record.Call.{Call}
 use Rattle.ar_media.specs.declared.record.Call.TheVariants.{Measured, Read, Wrote, Resized, Synced, Failed}
-use Rattle.ar_media.specs.Calls.{Recorded, padded, overlaid, seen_after, seen_of, LeftAfter, Leaves, LeftBefore}
+use Rattle.ar_media.specs.Calls.{Recorded, padded, overlaid, seen_after, seen_of, LeftAfter, LeftNow, LeftBefore}
 use Rattle.ar_media.specs.Calls.{LeftSince}
 
 pub length-padded : (file : List ℕ) (len : ℕ) → length (padded file len) ≡ len
@@ -92,13 +92,14 @@ stays Synced bytes seen earlier was = refl
 stays Failed bytes seen earlier was = was
 
 -- what a read returns is what may stay
-pub seen_stays : (first : List ℕ) (calls : List Recorded) → Leaves first calls (seen_of first calls)
+pub seen_stays : (first : List ℕ) (calls : List Recorded) → LeftNow first calls (seen_of first calls)
 seen_stays first [] = refl
-seen_stays first (e ∷ earlier) = stays e.0 e.1 (seen_of first earlier) (Leaves first earlier) (seen_stays first earlier)
+seen_stays first (e ∷ earlier) =
+    stays e.0 e.1 (seen_of first earlier) (LeftNow first earlier) (seen_stays first earlier)
 
 -- the same of a file that keeps what is seen apart
-pub stays_kept : (first seen : List ℕ) (calls : List Recorded) → seen ≡ seen_of first calls → Leaves first calls seen
-stays_kept first seen calls same = subst (Leaves first calls) (sym same) (seen_stays first calls)
+pub stays_kept : (first seen : List ℕ) (calls : List Recorded) → seen ≡ seen_of first calls → LeftNow first calls seen
+stays_kept first seen calls same = subst (LeftNow first calls) (sym same) (seen_stays first calls)
 
 none_before : (first : List ℕ) (calls : List Recorded) (c : List ℕ) → LeftBefore first calls (length calls) c → ⊥
 none_before first [] c left = left
@@ -106,6 +107,6 @@ none_before first (e ∷ earlier) c left = absurd (omega (arith, left.0))
 
 -- since the newest call there is only what it may leave
 pub only_newest : (first : List ℕ) (calls : List Recorded) (c : List ℕ) → LeftSince first calls (length calls) c
-    → Leaves first calls c
+    → LeftNow first calls c
 only_newest first calls c (inl now) = now
 only_newest first calls c (inr before) = absurd (none_before first calls c before)

@@ -44,18 +44,18 @@ LeftAfter Synced bytes seen earlier c = c ≡ seen
 LeftAfter Failed bytes seen earlier c = earlier c
 
 -- what a crash may leave after these calls
-abbrev pub Leaves : List ℕ → List Recorded → List ℕ → Type 0
-Leaves first [] = λ c. c ≡ first
-Leaves first (e ∷ earlier) = LeftAfter e.0 e.1 (seen_of first earlier) (Leaves first earlier)
+abbrev pub LeftNow : List ℕ → List Recorded → List ℕ → Type 0
+LeftNow first [] = λ c. c ≡ first
+LeftNow first (e ∷ earlier) = LeftAfter e.0 e.1 (seen_of first earlier) (LeftNow first earlier)
 
 -- what a crash might have left after the first t calls or any later one but the newest
 abbrev pub LeftBefore : List ℕ → List Recorded → ℕ → List ℕ → Type 0
 LeftBefore first [] t c = ⊥
-LeftBefore first (e ∷ earlier) t c = (t ≤ length earlier) × (Leaves first earlier c ⊎ LeftBefore first earlier t c)
+LeftBefore first (e ∷ earlier) t c = (t ≤ length earlier) × (LeftNow first earlier c ⊎ LeftBefore first earlier t c)
 
 -- what a crash might have left after the first t calls or any later one
 abbrev pub LeftSince : List ℕ → List Recorded → ℕ → List ℕ → Type 0
-LeftSince first calls t c = Leaves first calls c ⊎ LeftBefore first calls t c
+LeftSince first calls t c = LeftNow first calls c ⊎ LeftBefore first calls t c
 
 -- a call that failed, in whole or in part
 abbrev pub has_failed : Call → List ℕ → Bool
@@ -67,9 +67,9 @@ has_failed Synced bytes = false
 has_failed Failed bytes = true
 
 -- how many calls have failed
-abbrev pub faults_of : List Recorded → ℕ
-faults_of [] = 0
-faults_of (e ∷ earlier) = if has_failed e.0 e.1 then faults_of earlier + 1 else faults_of earlier
+abbrev pub failed_calls : List Recorded → ℕ
+failed_calls [] = 0
+failed_calls (e ∷ earlier) = if has_failed e.0 e.1 then failed_calls earlier + 1 else failed_calls earlier
 
 -- the answer is that of a file which holds these bytes
 abbrev pub is_honest : Call → List ℕ → List ℕ → Bool

@@ -1,6 +1,6 @@
 -- What a regular file shows: the model of its record.
 use Rattle.std.specs.Prelude.{ℕ, Bool, List}
-use Rattle.ar_media.specs.Calls.{seen_of, Leaves, is_clean_of}
+use Rattle.ar_media.specs.Calls.{seen_of, LeftNow, is_clean_of}
 use Rattle.ar_media.specs.declared.regular.RegularFile.{RegularFile}
 
 -- its member `seen`
@@ -9,7 +9,7 @@ regular_seen f = seen_of f.history.first f.history.calls
 
 -- its member `may_leave`
 abbrev pub regular_may_leave : RegularFile → List ℕ → Type 0
-regular_may_leave f = Leaves f.history.first f.history.calls
+regular_may_leave f = LeftNow f.history.first f.history.calls
 
 -- its member `is_clean`
 abbrev pub regular_is_clean : RegularFile → Bool

@@ -4,7 +4,7 @@ ghost use Rattle.std.specs.Prelude.{◌≡◌, ◌≢◌, ◌<◌, ◌≤◌, �
 ghost use Rattle.ar_media.specs.declared.error.MediaError.TheVariants.{Memory, Closed};
 ghost use Rattle.ar_media.specs.Media.{ReportsFaults, is_fault, Torn, Cut};
 ghost use Rattle.ar_media.specs.Fates.{LeftBy};
-ghost use Rattle.ar_media.specs.Calls.{padded, overlaid, seen_after, seen_of, Leaves, LeftSince};
+ghost use Rattle.ar_media.specs.Calls.{padded, overlaid, seen_after, seen_of, LeftNow, LeftSince};
 ghost use Rattle.ar_media.specs.CallLaws.{stays_kept, only_newest};
 ghost use Rattle.ar_media.specs.Kept.{calls_of};
 ghost use Rattle.std.proofs.Common.{inl};
@@ -262,7 +262,7 @@ fn between(
 impl Media for MemoryFile {
     ghost seen = { λ m. m.bytes.items };
 
-    ghost may_leave = { λ m. Leaves m.first.items (calls_of m.calls.items) };
+    ghost may_leave = { λ m. LeftNow m.first.items (calls_of m.calls.items) };
 
     ghost moment = { λ m. length (calls_of m.calls.items) };
 

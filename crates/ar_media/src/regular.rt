@@ -2,7 +2,7 @@
 // bytes are done, and then records it with its answer. What the contracts say of values follows from the record alone.
 ghost use Rattle.std.specs.Prelude.{◌≡◌, ◌<◌, ◌≤◌, length, IsTrue, IfOk, OnOk, OnErr};
 ghost use Rattle.ar_media.specs.Media.{is_fault, Only};
-ghost use Rattle.ar_media.specs.Calls.{seen_of, Leaves, LeftSince, faults_of, is_clean_of};
+ghost use Rattle.ar_media.specs.Calls.{seen_of, LeftNow, LeftSince, failed_calls, is_clean_of};
 ghost use Rattle.ar_media.specs.CallLaws.{seen_stays, only_newest};
 ghost use Rattle.std.proofs.Common.{inl};
 
@@ -88,13 +88,13 @@ fn write_front(file: &File, at: usize, bytes: &[u8]) -> (usize, io::Result<()>)
 impl Media for RegularFile {
     ghost seen = { λ f. seen_of f.history.first f.history.calls };
 
-    ghost may_leave = { λ f. Leaves f.history.first f.history.calls };
+    ghost may_leave = { λ f. LeftNow f.history.first f.history.calls };
 
     ghost moment = { λ f. length f.history.calls };
 
     ghost left_since = { λ f. LeftSince f.history.first f.history.calls };
 
-    ghost faults = { λ f. faults_of f.history.calls };
+    ghost faults = { λ f. failed_calls f.history.calls };
 
     ghost is_clean = { λ f. is_clean_of f.history.first f.history.calls };
 

@@ -1,6 +1,6 @@
 -- The record at the front of bytes, and the bytes behind it. There is none where a field is cut short or unknown.
-use Rattle.std.specs.Prelude.{◌≡◌, ℕ, List, [], ◌∷◌, length, take, drop, Option, Some, None, nat_lt, ◌==◌, if◌then◌else◌}
-use Rattle.std.specs.Prelude.{Result, Ok, Err}
+use Rattle.std.specs.Prelude.{◌≡◌, ℕ, List, [], ◌∷◌, length, take, drop, Option, Some, None, nat_lt, ◌==◌}
+use Rattle.std.specs.Prelude.{if◌then◌else◌, Result, Ok, Err}
 use Rattle.std.specs.Int.{Width, w32, byte_len, from_be_bytes}
 use Rattle.ar_record.specs.declared.decoding.DecodeError.{DecodeError}
 use Rattle.ar_record.specs.declared.decoding.DecodeError.TheVariants.{NoMemory, Invalid}

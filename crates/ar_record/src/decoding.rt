@@ -4,7 +4,8 @@ ghost use Rattle.std.specs.Int.{w32};
 ghost use Rattle.ar_record.specs.declared.decoding.DecodeError.TheVariants.{NoMemory};
 ghost use Rattle.ar_record.specs.Record.{RecordData, data_of, IsEncodable};
 ghost use Rattle.ar_record.specs.Encoding.{encoding_of};
-ghost use Rattle.ar_record.specs.Reading.{ReadsAs, bytes_at, number_at, named_unit_at, sized_at, command_at, record_at, decoded};
+ghost use Rattle.ar_record.specs.Reading.{ReadsAs, bytes_at, number_at, named_unit_at, sized_at, command_at};
+ghost use Rattle.ar_record.specs.Reading.{record_at, decoded};
 
 use crate::Record;
 use crate::encoding::{ADD_DISK, COMMAND, GROW, MAKE, REMOVE};

@@ -54,7 +54,8 @@ pub fn encode(entry: &Record, out: &mut Vec<u8>) -> Result<(), AllocError>
 /// Encodes each of the records.
 pub fn encode_each(alloc: Global, records: &[Record]) -> Result<Vec<Vec<u8>>, AllocError>
     requires fit { AreEncodable (all_data records.now) }
-    ensures encoded { IfOk result (λ items. map (λ item. item.items) items.items ≡ encodings_of (all_data records.now)) }
+    ensures encoded { IfOk result (λ items. map (λ item. item.items) items.items
+        ≡ encodings_of (all_data records.now)) }
 {
     let mut items = Vec::new(alloc);
     for entry in records {
