@@ -3,15 +3,14 @@
 #![tactic(auto)]
 
 mod client;
-mod command_line;
 mod fault;
 mod operator;
 
-use ar_cli::{CommandLineFault, end_with, words_of};
+use ar_cli::{end_with, fail, words_of};
+use ar_command_line::{Account, UsageFault, account_in};
 use ar_disks::Host;
 use ar_frames::Linked;
 use client::Client;
-use command_line::{Account, account_in};
 use fault::Failure;
 use operator::operate;
 use std::alloc::Global;
@@ -23,17 +22,18 @@ use std::thread::Threads;
 fn main(rt: HostRuntime) -> ExitCode {
     let alloc = rt.alloc();
     let done = match account(&rt) {
+        Ok(Account::Shown(text)) => print!(rt; "{text}").map_err(|_| Failure::Write),
         Ok(Account::Host { host, port }) => run(&rt, alloc, host, port, rt.stdin(), rt.stdout()),
         Ok(Account::Operator { port }) => {
             run_operator(&rt, alloc, port, rt.stdin(), rt.stdout())
         }
-        Err(fault) => Err(Failure::CommandLine(fault)),
+        Err(fault) => return fail(&rt, &fault),
     };
     end_with(&rt, done)
 }
 
 // Reads the command line.
-fn account(rt: &HostRuntime) -> Result<Account, CommandLineFault> {
+fn account(rt: &HostRuntime) -> Result<Account, UsageFault> {
     let alloc = rt.alloc();
     let words = words_of(rt, alloc)?;
     account_in(alloc, words.as_slice())

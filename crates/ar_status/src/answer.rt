@@ -17,18 +17,25 @@ pub enum Answer {
     Metrics,
     /// `/status.json`: the status as data.
     Json,
-    /// `/healthz`: 200 if all disks are present, and otherwise 503.
+    /// `/healthz`: 200 if the array has data, and otherwise 503.
+    Serving,
+    /// `/healthz/whole`: 200 if all disks are present, and otherwise 503.
     Health,
     /// There is nothing at the path: 404.
     NotFound,
     /// The method is neither GET nor HEAD: 405, whatever the path.
     NotAllowed,
+    /// The request asks for another server: 421, whatever the method and the path.
+    Misdirected,
 }
 
-/// Returns the answer to a method at a path.
-pub fn answer_to(method: &str, path: &str) -> Answer
-    ensures { result ≡ answer_for method.now path.now }
+/// Returns the answer to a method at a path. `is_ours` says whether the request asks for this server.
+pub fn answer_to(is_ours: bool, method: &str, path: &str) -> Answer
+    ensures { result ≡ answer_for is_ours method.now path.now }
 {
+    if !is_ours {
+        return Answer::Misdirected;
+    }
     match method {
         "GET" | "HEAD" => answer_at(path),
         _ => Answer::NotAllowed,
@@ -44,7 +51,8 @@ fn answer_at(path: &str) -> Answer
         "/picture.svg" => Answer::Picture,
         "/metrics" => Answer::Metrics,
         "/status.json" => Answer::Json,
-        "/healthz" => Answer::Health,
+        "/healthz" => Answer::Serving,
+        "/healthz/whole" => Answer::Health,
         _ => Answer::NotFound,
     }
 }
@@ -55,9 +63,11 @@ impl Answer {
         ensures { result ≡ code_of self health }
     {
         match self {
+            Answer::Serving if !health.has_data() => StatusCode::SERVICE_UNAVAILABLE,
             Answer::Health if !health.is_whole() => StatusCode::SERVICE_UNAVAILABLE,
             Answer::NotFound => StatusCode::NOT_FOUND,
             Answer::NotAllowed => StatusCode::METHOD_NOT_ALLOWED,
+            Answer::Misdirected => StatusCode::MISDIRECTED_REQUEST,
             _ => StatusCode::OK,
         }
     }

@@ -5,6 +5,7 @@
 mod answer;
 mod changes;
 mod events;
+mod host;
 mod metrics;
 mod page;
 mod response;
@@ -14,10 +15,11 @@ mod status;
 pub use answer::{Answer, answer_to};
 pub use changes::EventLog;
 pub use events::{EVENTS_MAX, EventKind, RecentEvent, RecentEvents};
+pub use host::asks_us;
 pub use metrics::write_metrics;
 pub use page::PAGE;
 pub use response::{Look, respond};
-pub use serve::{HEAD_MAX, Watched, serve_connection};
+pub use serve::{HEAD_MAX, Watched, serve_connection, serve_named};
 pub use status::{
     ArrayCounters, ArrayHealth, ArrayStatus, HostCounters, MaintenanceSteps, OperationCounters,
     ReplyCounters,

@@ -1,7 +1,7 @@
 // From a request's method and path, and a look at the array, to a response.
 ghost use Rattle.std.specs.Prelude.{◌≡◌, [], ◌++◌, IfOk, OnOk};
 ghost use Rattle.http_server.specs.Response.{IsBlank, fields_of};
-ghost use Rattle.ar_status.specs.Answers.{IsBodyOf, answer_for, code_of, fields_in, health_words};
+ghost use Rattle.ar_status.specs.Answers.{IsBodyOf, answer_for, code_of, fields_in, health_words, serving_words};
 
 use crate::status::write_health;
 use crate::{Answer, ArrayHealth, ArrayStatus, PAGE, answer_to, write_metrics};
@@ -18,22 +18,23 @@ pub struct Look {
     pub picture: Vec<u8>,
 }
 
-/// Fills the response to a method at a path. HEAD has the response of GET: the connection leaves its body out. It fails
+/// Fills the response to a method at a path; `is_ours` says whether the request asks for this server. HEAD has the response of GET: the connection leaves its body out. It fails
 /// only when out of memory.
 pub fn respond(
     alloc: Global,
+    is_ours: bool,
     method: &str,
     path: &str,
     look: Look,
     response: &mut Response,
 ) -> Result<(), AllocError>
     requires blank { IsBlank response.old }
-    ensures code { OnOk result (response.new.status ≡ code_of (answer_for method.now path.now) look.status.health) }
-    ensures fields { OnOk result (fields_of response.new ≡ fields_in (answer_for method.now path.now)) }
+    ensures code { OnOk result (response.new.status ≡ code_of (answer_for is_ours method.now path.now) look.status.health) }
+    ensures fields { OnOk result (fields_of response.new ≡ fields_in (answer_for is_ours method.now path.now)) }
     ensures body { OnOk result
-        (IsBodyOf (answer_for method.now path.now) look.status look.picture.items response.new.body.items) }
+        (IsBodyOf (answer_for is_ours method.now path.now) look.status look.picture.items response.new.body.items) }
 {
-    let answer = answer_to(method, path);
+    let answer = answer_to(is_ours, method, path);
     response.status = answer.code(look.status.health);
     add_fields(response, answer)?;
     let body = body_of(alloc, answer, look)?;
@@ -56,6 +57,18 @@ fn add_fields(response: &mut Response, answer: Answer) -> Result<(), AllocError>
         HeaderName::from_static("connection"),
         HeaderValue::from_static("close"),
     )?;
+    response.add_header(
+        HeaderName::from_static("x-content-type-options"),
+        HeaderValue::from_static("nosniff"),
+    )?;
+    response.add_header(
+        HeaderName::from_static("content-security-policy"),
+        HeaderValue::from_static("frame-ancestors 'none'"),
+    )?;
+    response.add_header(
+        HeaderName::from_static("cross-origin-resource-policy"),
+        HeaderValue::from_static("same-origin"),
+    )?;
     match answer {
         Answer::NotAllowed => response.add_header(
             HeaderName::from_static("allow"),
@@ -74,9 +87,11 @@ fn body_of(alloc: Global, answer: Answer, look: Look) -> Result<Bytes, AllocErro
         Answer::Picture => shared(look.picture),
         Answer::Metrics => metrics_of(alloc, &look.status),
         Answer::Json => json_of(alloc, &look.status),
+        Answer::Serving => Ok(Bytes::from_static(serving_words(look.status.health))),
         Answer::Health => health_of(alloc, look.status.health),
         Answer::NotFound => Ok(Bytes::from_static(b"not found\n")),
         Answer::NotAllowed => Ok(Bytes::from_static(b"method not allowed\n")),
+        Answer::Misdirected => Ok(Bytes::from_static(b"misdirected request\n")),
     }
 }
 
@@ -96,6 +111,16 @@ fn health_of(alloc: Global, health: ArrayHealth) -> Result<Bytes, AllocError>
     let mut text = Vec::new(alloc);
     write_health(&mut text, health).map_err(|_| AllocError)?;
     shared(text)
+}
+
+// Whether the array serves, as a line.
+fn serving_words(health: ArrayHealth) -> &'static [u8]
+    ensures { result.now ≡ serving_words health }
+{
+    match health {
+        ArrayHealth::Broken => b"broken\n",
+        _ => b"serves\n",
+    }
 }
 
 // A text as bytes that are sent from where they are.

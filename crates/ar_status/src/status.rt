@@ -1,7 +1,7 @@
 // What is shown of a served array. It has numbers alone, so that no text from outside gets into a response.
 ghost use Rattle.std.specs.Prelude.{◌≡◌, OnOk};
 ghost use Rattle.std.specs.Io.KnownBytes.{Appends};
-ghost use Rattle.ar_status.specs.Answers.{all_present, health_words};
+ghost use Rattle.ar_status.specs.Answers.{all_present, has_data, health_words};
 
 use crate::RecentEvents;
 use serde::Serialize;
@@ -109,6 +109,13 @@ impl ArrayHealth {
         ensures { result ≡ all_present self }
     {
         matches!(self, ArrayHealth::Whole)
+    }
+
+    /// Whether the array has its data: fewer than two disks are missing.
+    pub fn has_data(self) -> bool
+        ensures { result ≡ has_data self }
+    {
+        !matches!(self, ArrayHealth::Broken)
     }
 
     // Whether a disk is present and rebuilt. On a failed array none is.

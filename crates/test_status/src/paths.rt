@@ -300,10 +300,81 @@ fn health(rt: HostRuntime) {
             more: "",
             body,
         };
+        let get = b"GET /healthz/whole HTTP/1.1\r\nHost: h\r\n\r\n";
+        responds(&rt, rt.alloc(), keys, &array_in(health), get, wanted);
+        let head = b"HEAD /healthz/whole HTTP/1.1\r\nHost: h\r\n\r\n";
+        responds(&rt, rt.alloc(), keys, &array_in(health), head, wanted);
+    }
+}
+
+#[test]
+fn serving(rt: HostRuntime) {
+    let keys = RandomState::new(&rt).expect(&rt, "keys");
+    for (health, code, body) in [
+        (ArrayHealth::Whole, "200 OK", "serves\n"),
+        (ArrayHealth::Out { disk: 3 }, "200 OK", "serves\n"),
+        (REBUILDING, "200 OK", "serves\n"),
+        (ArrayHealth::Broken, "503 Service Unavailable", "broken\n"),
+    ] {
+        let wanted = Wanted {
+            code,
+            media_type: PLAIN,
+            more: "",
+            body,
+        };
         let get = b"GET /healthz HTTP/1.1\r\nHost: h\r\n\r\n";
         responds(&rt, rt.alloc(), keys, &array_in(health), get, wanted);
-        let head = b"HEAD /healthz HTTP/1.1\r\nHost: h\r\n\r\n";
-        responds(&rt, rt.alloc(), keys, &array_in(health), head, wanted);
+    }
+}
+
+const SERVES: Wanted<'static> = Wanted {
+    code: "200 OK",
+    media_type: PLAIN,
+    more: "",
+    body: "serves\n",
+};
+
+// The server is asked by name: those of this machine, with or without a port, and the one that is given.
+#[test]
+fn names_of_the_server(rt: HostRuntime) {
+    let keys = RandomState::new(&rt).expect(&rt, "keys");
+    for request in [
+        &b"GET /healthz HTTP/1.1\r\nHost: 127.0.0.1\r\n\r\n"[..],
+        b"GET /healthz HTTP/1.1\r\nHost: 127.0.0.1:7119\r\n\r\n",
+        b"GET /healthz HTTP/1.1\r\nHost: localhost\r\n\r\n",
+        b"GET /healthz HTTP/1.1\r\nHost: LocalHost:1\r\n\r\n",
+        b"GET /healthz HTTP/1.1\r\nHost: [::1]\r\n\r\n",
+        b"GET /healthz HTTP/1.1\r\nHost: [::1]:65535\r\n\r\n",
+        b"GET /healthz HTTP/1.1\r\nHost: h:7119\r\n\r\n",
+        b"GET /healthz HTTP/1.1\r\nHost: H\r\n\r\n",
+    ] {
+        let array = array_in(ArrayHealth::Whole);
+        responds(&rt, rt.alloc(), keys, &array, request, SERVES);
+    }
+}
+
+// A page of another site that has resolved its own name to 127.0.0.1 learns nothing.
+#[test]
+fn names_of_others(rt: HostRuntime) {
+    let keys = RandomState::new(&rt).expect(&rt, "keys");
+    let wanted = Wanted {
+        code: "421 Misdirected Request",
+        media_type: PLAIN,
+        more: "",
+        body: "misdirected request\n",
+    };
+    for request in [
+        &b"GET /healthz HTTP/1.1\r\nHost: evil.example\r\n\r\n"[..],
+        b"GET / HTTP/1.1\r\nHost: evil.example:7119\r\n\r\n",
+        b"GET /metrics HTTP/1.1\r\nHost: localhost.evil.example\r\n\r\n",
+        b"GET /status.json HTTP/1.1\r\nHost: 127.0.0.1.evil.example\r\n\r\n",
+        b"GET / HTTP/1.1\r\nHost: hh\r\n\r\n",
+        b"GET / HTTP/1.1\r\nHost: xlocalhost\r\n\r\n",
+        b"GET /nowhere HTTP/1.1\r\nHost: 127.0.0.2\r\n\r\n",
+        b"POST / HTTP/1.1\r\nHost: evil.example\r\nContent-Length: 0\r\n\r\n",
+    ] {
+        let array = array_in(ArrayHealth::Whole);
+        responds(&rt, rt.alloc(), keys, &array, request, wanted);
     }
 }
 

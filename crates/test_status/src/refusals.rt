@@ -92,7 +92,9 @@ fn refuses_long(
 }
 
 const UNKNOWN: &[u8] = b"HTTP/1.1 404 Not Found\r\ncontent-type: text/plain; charset=utf-8\r\n\
-cache-control: no-store\r\nconnection: close\r\ncontent-length: 10\r\n\r\nnot found\n";
+cache-control: no-store\r\nconnection: close\r\nx-content-type-options: nosniff\r\n\
+content-security-policy: frame-ancestors 'none'\r\ncross-origin-resource-policy: same-origin\r\n\
+content-length: 10\r\n\r\nnot found\n";
 
 #[test]
 fn long_request_lines(rt: HostRuntime) {

@@ -1,7 +1,7 @@
 // An array that stands still, and connections to it.
 use ar_status::{
     ArrayCounters, ArrayHealth, ArrayStatus, EventKind, HostCounters, Look, MaintenanceSteps,
-    OperationCounters, RecentEvent, RecentEvents, ReplyCounters, Watched, serve_connection,
+    OperationCounters, RecentEvent, RecentEvents, ReplyCounters, Watched, serve_named,
 };
 use std::alloc::{AllocError, Global};
 use std::hash::RandomState;
@@ -131,7 +131,7 @@ impl Wanted<'_> {
         write!(out, "HTTP/1.1 {code}\r\ncontent-type: {media_type}\r\n")?;
         write!(
             out,
-            "cache-control: no-store\r\nconnection: close\r\n{more}"
+            "cache-control: no-store\r\nconnection: close\r\n{GUARDS}{more}"
         )?;
         let len = self.body.len();
         write!(out, "content-length: {len}\r\n\r\n")?;
@@ -141,6 +141,14 @@ impl Wanted<'_> {
         Ok(out)
     }
 }
+
+/// The fields of each response that keep pages of other sites away.
+const GUARDS: &str = "\
+x-content-type-options: nosniff\r\ncontent-security-policy: frame-ancestors 'none'\r\n\
+cross-origin-resource-policy: same-origin\r\n";
+
+/// The name by which requests ask for the server.
+const NAME: Option<&str> = Some("h");
 
 /// Asserts that a request has this response.
 pub fn responds(
@@ -167,7 +175,7 @@ pub fn sends(
 ) {
     let mut reader = request;
     let mut out = Vec::new(alloc);
-    let done = serve_connection(alloc, keys, watched, &mut reader, &mut out).is_ok();
+    let done = serve_named(alloc, keys, NAME, watched, &mut reader, &mut out).is_ok();
     assert!(rt; done, "{request:?} failed");
     let (sent, wanted) = (str::from_utf8(&out), str::from_utf8(wanted));
     assert!(rt; sent == wanted, "{request:?}: {sent:?}");

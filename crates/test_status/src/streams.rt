@@ -6,10 +6,12 @@ use std::hash::RandomState;
 use std::io::{self, ErrorKind, Read, Write};
 use std::process::Abort;
 
-const REQUEST: &[u8] = b"GET /healthz HTTP/1.1\r\nHost: h\r\n\r\n";
+const REQUEST: &[u8] = b"GET /healthz HTTP/1.1\r\nHost: localhost\r\n\r\n";
 
 const RESPONSE: &[u8] = b"HTTP/1.1 200 OK\r\ncontent-type: text/plain; charset=utf-8\r\n\
-cache-control: no-store\r\nconnection: close\r\ncontent-length: 6\r\n\r\nwhole\n";
+cache-control: no-store\r\nconnection: close\r\nx-content-type-options: nosniff\r\n\
+content-security-policy: frame-ancestors 'none'\r\ncross-origin-resource-policy: same-origin\r\n\
+content-length: 7\r\n\r\nserves\n";
 
 // Returns the first `most` bytes of the request one by one; then reads fail.
 #[derive(Drop)]
