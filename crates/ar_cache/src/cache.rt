@@ -1,7 +1,7 @@
 // The invariant: at most `capacity` entries, with different keys, each one block long. If the backing fails in a call,
 // the entry that was being destaged is still there.
 ghost use Rattle.std.specs.Prelude.{◌≡◌, ◌≢◌, ◌≤◌, ◌<◌, ◌↔◌, ◌∷◌, ◌++◌, length, reverse, [], IfOk, IfSome, IsTrue};
-ghost use Rattle.std.specs.Prelude.{IsSome, false};
+ghost use Rattle.std.specs.Prelude.{IsSome, false, is_some};
 ghost use Rattle.std.specs.Map.{keys_of};
 ghost use Rattle.std.specs.Bool.{OnTrue, OnFalse};
 ghost use Rattle.ar_disks.specs.Geometry.{block_len_of};
@@ -93,6 +93,13 @@ impl Cache {
         ensures { IsTrue result ↔ (self.now.entries ≡ []) }
     {
         self.len() == 0
+    }
+
+    /// Returns whether the block of `key` is cached.
+    pub fn holds(&self, key: Key) -> bool
+        ensures { result ≡ is_some (cached self.now key) }
+    {
+        peek(&self.entries, key).is_some()
     }
 
     /// Reads the block of `key`: the cached one, without access to the backing, else the backing's. After `Broken` the
@@ -236,6 +243,13 @@ impl Cache {
         for _ in 0..self.len() {
             self.turn(addr);
         }
+    }
+
+    /// Discards the entry of `key`, if there is one, without destaging it. The other entries keep their order.
+    pub fn discard(&mut self, key: Key)
+        ensures { RemovesEntry self.old key self.new }
+    {
+        self.remove(key);
     }
 
     // Discards the least recently used entry if it belongs to `addr`, and else makes it the most recently used.
@@ -402,9 +416,17 @@ impl Cache {
     fn take_out(&mut self, key: Key)
         ensures { self.new ≡ with_entries self.old (without_key self.old.entries key) }
     {
+        self.destages = self.destages.saturating_add(1);
+        self.remove(key);
+    }
+
+    // Removes the entry of a key, if there is one.
+    fn remove(&mut self, key: Key)
+        ensures entries { self.new ≡ with_entries self.old (without_key self.old.entries key) }
+        ensures sound { IsValidCache self.old }
+    {
         if let Some(block) = self.entries.pop(&key) {
             self.spare = Some(block);
-            self.destages = self.destages.saturating_add(1);
         }
     }
 

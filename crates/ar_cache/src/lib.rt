@@ -1,5 +1,6 @@
 //! A write-back cache of relocation blocks (the blocks of units), in LRU order, over any backing that reads and writes
-//! blocks by key. An entry leaves the cache only after the backing has its block, or by `forget`.
+//! blocks by key. An entry leaves the cache only after the backing has its block, or by `forget` or
+//! `discard`.
 //!
 //!     put --> [ most recently used | .. | least recently used ] --> backing        a get doesn't reorder
 #![tactic(auto)]

@@ -98,7 +98,7 @@ broken_told n mark cdb sent tells =
     ap (λ b. cond b (check capacity_data_has_changed) (broken_obeyed n (reading cdb) sent)) tells
 
 -- the shape of a unit that is there
-shape_present : (s : ArrayState) (addr : Addr) → has_unit s.store.book addr ≡ true
+pub shape_present : (s : ArrayState) (addr : Addr) → has_unit s.store.book addr ≡ true
     → shape_of (image_at s addr)
     ≡ record { present = true; sectors = length_at s.store.book addr; attention = attention_at s.store.book addr }
 shape_present s addr there =
@@ -343,7 +343,7 @@ commands_told old new addr n cdb bytes reply unit tells is cleared seen =
     }
 
 -- where no unit is there is no mark
-absent_mark : (t : Tables) (a : Addr) → has_unit t a ≡ false → attention_at t a ≡ false
+pub absent_mark : (t : Tables) (a : Addr) → has_unit t a ≡ false → attention_at t a ≡ false
 absent_mark t a none = by (lookup (same_addr a) t.units) none
   where
     by : (o : Option UnitTableState) → is_some o ≡ false → (unwrap_or o no_unit).attention ≡ false

@@ -2,25 +2,23 @@
 use Rattle.std.proofs.Common.{◌≡◌, ℕ, zero, suc, true, false, Some, List, [], ◌∷◌, ◌++◌, length, take, ◌⊎◌, inl, inr}
 use Rattle.std.proofs.Common.{refl, sym, ap, subst, ◌∙◌}
 use Rattle.std.specs.Prelude.{slice_get}
-use Rattle.ar_disks.specs.declared.address.Host.{Host}
-use Rattle.ar_scsi.specs.declared.reply.Reply.{Reply}
-use Rattle.ar_unit.specs.Unit.{UnitState, UnitEntry, answer, after, unit_run}
-use Rattle.ar_unit.specs.Broken.{Shape, shape_of, shape_after, broken_answer}
-use Rattle.ar_unit.proofs.Laws.{unit_run-append, after-shape, broken_answer-is}
+use Rattle.ar_unit.specs.Unit.{UnitState, UnitEntry, answer, unmap_answer, after, unit_run}
+use Rattle.ar_unit.specs.Broken.{Shape, shape_of, shape_after, broken_answer, broken_unmap}
+use Rattle.ar_unit.proofs.Laws.{unit_run-append, after-shape, broken_answer-is, broken_unmap-is}
 use Rattle.ar_core.specs.Events.{Event}
-use Rattle.ar_core.specs.declared.event.EventOf.TheVariants.{Cmd as CmdEvent}
+use Rattle.ar_core.specs.declared.event.EventOf.TheVariants.{Cmd as CmdEvent, Unmap as UnmapEvent}
 use Rattle.ar_core.specs.Events.{Outcome}
-use Rattle.ar_core.specs.declared.event.OutcomeOf.TheVariants.{Cmd as CmdOutcome}
+use Rattle.ar_core.specs.declared.event.OutcomeOf.TheVariants.{Cmd as CmdOutcome, Unmap as UnmapOutcome}
 use Rattle.ar_extents.specs.Changes.{is_broken_set}
 use Rattle.ar_volume.specs.Image.{ArrayState, is_broken, image, image_at}
 use Rattle.ar_core.proofs.Causes.{was_sound}
 use Rattle.ar_core.proofs.Looking.{looked_image, looked_shape}
 use Rattle.ar_volume.proofs.Breaking.{broken_is, accessed_sound}
 use Rattle.ar_volume.proofs.Images.{image_here}
-use Rattle.ar_volume.specs.Sectors.{Address}
-use Rattle.ar_core.specs.Step.{Steps, Obeys, addr_in}
+use Rattle.ar_volume.specs.Sectors.{Address, address_of}
+use Rattle.ar_core.specs.Step.{addr_in}
 use Rattle.ar_core.specs.Run.{Turn, Did, Looked, Meets, Run, IsRun, TwoMissing, last_of, own, entry_in, turns_of}
-use Rattle.ar_core.specs.Run.{IsAnswered, IsIsolated, unit_before, AreTwoHitIn}
+use Rattle.ar_core.specs.Run.{IsIsolated, unit_before, AreTwoHitIn}
 
 -- the shape after a run depends on the shape before it
 pub unit_run-shape : (entries : List UnitEntry) (u v : UnitState) → shape_of u ≡ shape_of v
@@ -54,48 +52,32 @@ agrees-turn old Looked new u a looks agrees = record {
   shape = agrees.shape ∙ sym (looked_shape old new looks a);
 }
 
--- the state in which a command of a run was met, and what it was answered there, u being what the unit's own entries
--- made of it
-record Met (u : UnitState) (host : Host) (lun : ℕ) (cdb payload : List ℕ) (reply : Reply) (new : ArrayState)
-    : Type 0 where
+-- the state in which a turn of a run was met, and the one after it, u being what the unit's own entries made of it
+record Met (u : UnitState) (a : Address) (turn : Turn) (new : ArrayState) : Type 0 where
   old : ArrayState
-  agrees : Agrees old u (host.number, lun)
-  obeys : Obeys old (addr_in host lun) cdb payload reply new
-  stays : is_broken new ≡ false → is_broken old ≡ false
-
-first_met : (old s new : ArrayState) (turn : Turn) (u : UnitState) (host : Host) (lun : ℕ) (cdb payload : List ℕ)
-    (reply : Reply)
-    → Meets old turn s → Agrees old u (host.number, lun) → turn ≡ Did (CmdEvent host lun cdb payload) (CmdOutcome reply)
-    → s ≡ new
-    → Met u host lun cdb payload reply new
-first_met old s new turn u host lun cdb payload reply meets agrees is left =
-    let steps : Steps old (CmdEvent host lun cdb payload) (CmdOutcome reply) s =
-    subst (λ (t : Turn). Meets old t s) is meets in
-    subst (λ (n : ArrayState). Met u host lun cdb payload reply n) left
-    (record {
-      old = old;
-      agrees = agrees;
-      obeys = steps.answers;
-      stays = was_sound (CmdEvent host lun cdb payload) old s steps.disks;
-    })
+  agrees : Agrees old u a
+  meets : Meets old turn new
 
 met : (turns : List Turn) (states : List ArrayState) (old : ArrayState) (u : UnitState)
-    (k : ℕ) (host : Host) (lun : ℕ) (cdb payload : List ℕ) (reply : Reply) (new : ArrayState)
-    → Run old turns states → Agrees old u (host.number, lun) → IsAnswered turns k host lun cdb payload reply
+    (k : ℕ) (a : Address) (here : Turn) (new : ArrayState)
+    → Run old turns states → Agrees old u a → slice_get turns k ≡ Some here
     → slice_get states k ≡ Some new
-    → Met (unit_run u (own (host.number, lun) (take k turns))) host lun cdb payload reply new
-met [] states old u k host lun cdb payload reply new run agrees here there = let none = here.turn in absurd (cc)
-met (turn ∷ turns) [] old u k host lun cdb payload reply new run agrees here there = absurd run
-met (turn ∷ turns) (s ∷ states) old u zero host lun cdb payload reply new run agrees here there =
-    let is : turn ≡ Did (CmdEvent host lun cdb payload) (CmdOutcome reply) = cc (here.turn) in
+    → Met (unit_run u (own a (take k turns))) a here new
+met [] states old u k a here new run agrees is there = absurd (cc)
+met (turn ∷ turns) [] old u k a here new run agrees is there = absurd run
+met (turn ∷ turns) (s ∷ states) old u zero a here new run agrees is there =
+    let same : turn ≡ here = cc is in
     let left : s ≡ new = cc there in
-    first_met old s new turn u host lun cdb payload reply run.0 agrees is left
-met (turn ∷ turns) (s ∷ states) old u (suc k) host lun cdb payload reply new run agrees here there =
-    let a : Address = (host.number, lun) in
-    subst (λ (v : UnitState). Met v host lun cdb payload reply new)
+    record {
+      old = old;
+      agrees = agrees;
+      meets = subst (λ (t : Turn). Meets old t new) same (subst (λ (n : ArrayState). Meets old turn n) left run.0);
+    }
+met (turn ∷ turns) (s ∷ states) old u (suc k) a here new run agrees is there =
+    subst (λ (v : UnitState). Met v a here new)
     (sym (unit_run-append u (entry_in a turn) (own a (take k turns))))
-    (met turns states s (unit_run u (entry_in a turn)) k host lun cdb payload reply new run.1
-    (agrees-turn old turn s u a run.0 agrees) (record { turn = here.turn; not_busy = here.not_busy }) there)
+    (met turns states s (unit_run u (entry_in a turn)) k a here new run.1
+    (agrees-turn old turn s u a run.0 agrees) is there)
 
 -- what the unit is after a turn of a run
 left : (turns : List Turn) (states : List ArrayState) (old : ArrayState) (u : UnitState) (k : ℕ) (new : ArrayState)
@@ -148,19 +130,34 @@ pub run-isolated : (old : ArrayState) (turns : List Turn) (states : List ArraySt
 run-isolated old turns states run = record {
   sound = λ k host lun cdb payload reply new here there now.
       (let a : Address = (host.number, lun) in
-      let m = met turns states old (image old a) k host lun cdb payload reply new run
-      (record { sound = λ _. refl; shape = refl }) here there in
-      (m.obeys.sound now).given.answered here.not_busy
+      let m = met turns states old (image old a) k a (Did (CmdEvent host lun cdb payload) (CmdOutcome reply)) new run
+      (record { sound = λ _. refl; shape = refl }) here.turn there in
+      (m.meets.answers.sound now).given.answered here.not_busy
       ∙ ap (λ (v : UnitState). (answer v cdb payload).reply) (sym (image_here (image_at m.old) (addr_in host lun))
-      ∙ sym (m.agrees.sound (m.stays now))));
+      ∙ sym (m.agrees.sound (was_sound (CmdEvent host lun cdb payload) m.old new m.meets.disks now))));
   broken = λ k host lun cdb payload reply new here there lost.
       (let a : Address = (host.number, lun) in
-      let m = met turns states old (image old a) k host lun cdb payload reply new run
-      (record { sound = λ _. refl; shape = refl }) here there in
-      (m.obeys.broken lost).answered here.not_busy
+      let m = met turns states old (image old a) k a (Did (CmdEvent host lun cdb payload) (CmdOutcome reply)) new run
+      (record { sound = λ _. refl; shape = refl }) here.turn there in
+      (m.meets.answers.broken lost).answered here.not_busy
       ∙ ap (λ (s : Shape). broken_answer s cdb (length payload))
       (ap shape_of (sym (image_here (image_at m.old) (addr_in host lun))) ∙ sym m.agrees.shape)
       ∙ broken_answer-is (unit_before old a turns k) cdb payload);
+  unmapped = λ k addr lba count reply new here there now.
+      (let a : Address = address_of addr in
+      let m = met turns states old (image old a) k a (Did (UnmapEvent addr lba count) (UnmapOutcome reply)) new run
+      (record { sound = λ _. refl; shape = refl }) here there in
+      m.meets.answers.sound now
+      ∙ ap (λ (v : UnitState). (unmap_answer v lba count).reply) (sym (image_here (image_at m.old) addr)
+      ∙ sym (m.agrees.sound (was_sound (UnmapEvent addr lba count) m.old new m.meets.disks now))));
+  unmapped_broken = λ k addr lba count reply new here there lost.
+      (let a : Address = address_of addr in
+      let m = met turns states old (image old a) k a (Did (UnmapEvent addr lba count) (UnmapOutcome reply)) new run
+      (record { sound = λ _. refl; shape = refl }) here there in
+      m.meets.answers.broken lost
+      ∙ ap (λ (s : Shape). broken_unmap s lba count)
+      (ap shape_of (sym (image_here (image_at m.old) addr)) ∙ sym m.agrees.shape)
+      ∙ broken_unmap-is (unit_before old a turns k) lba count);
   images = λ k new there now a.
       sym ((left turns states old (image old a) k new a run (record { sound = λ _. refl; shape = refl }) there).sound
       now);

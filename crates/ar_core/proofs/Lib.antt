@@ -1,10 +1,8 @@
 pub mod Balancing
 pub mod Calm
 pub mod Causes
-pub mod Costs
-pub mod WriteCosts
-pub mod ThroughCosts
 pub mod Commanding
+pub mod Costs
 pub mod Events
 pub mod Everywhere
 pub mod Flushing
@@ -17,3 +15,6 @@ pub mod Serving
 pub mod Short
 pub mod TakingIn
 pub mod TakingOut
+pub mod ThroughCosts
+pub mod Unmapping
+pub mod WriteCosts

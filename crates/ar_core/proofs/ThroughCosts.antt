@@ -1,22 +1,20 @@
 -- What a WRITE costs in numbers, while all disks are present and nothing is cached: each of its blocks is one put.
 use Rattle.std.proofs.Common.{◌≡◌, inl, inr, ℕ, zero, suc, ◌-◌, ◌<◌, ◌≤◌, Bool, true, false, if◌then◌else◌, Option}
-use Rattle.std.proofs.Common.{Some, None, is_some, List, [], ◌∷◌, ◌++◌, length, take, drop, refl, sym, ap, subst, ◌∙◌}
+use Rattle.std.proofs.Common.{None, is_some, List, [], ◌∷◌, ◌++◌, length, take, refl, sym, ap, subst, ◌∙◌}
 use Rattle.std.proofs.Common.{arith}
 use Rattle.std.specs.Prelude.{All, nat_lt, slice_index_or}
-use Rattle.std.specs.Map.{keys_of, lookup, remove_entry}
+use Rattle.std.specs.Map.{lookup}
 use Rattle.ar_disks.specs.declared.address.Addr.{Addr}
 use Rattle.ar_disks.specs.declared.address.Key.{Key}
 use Rattle.ar_disks.specs.declared.geometry.Geometry.{Geometry}
 use Rattle.ar_extents.specs.declared.health.Health.TheVariants.{Whole}
 use Rattle.ar_extents.specs.declared.log.AccessKind.{AccessKind}
 use Rattle.ar_extents.specs.declared.log.AccessKind.TheVariants.{Read, Write}
-use Rattle.ar_extents.specs.Set.{SetState}
 use Rattle.ar_extents.specs.Plans.{NoneFaults}
 use Rattle.ar_book.specs.declared.class.Class.TheVariants.{Mirrored}
 use Rattle.ar_book.specs.declared.class.Level.TheVariants.{Mirrored as MirroredLevel, Parity as ParityLevel}
 use Rattle.ar_book.specs.Tables.{Tables, level, free_groups}
 use Rattle.ar_book.specs.Changes.{stamped}
-use Rattle.ar_book.specs.Choices.{IsHole}
 use Rattle.ar_book.proofs.AfterStamp.{stamped_level}
 use Rattle.ar_store.specs.Store.{StoreState}
 use Rattle.ar_store.specs.Placing.{HasNoHole, Puts}
@@ -25,7 +23,7 @@ use Rattle.ar_store.proofs.PutCosts.{put_to_mirrored, put_to_parity}
 use Rattle.ar_store.proofs.SqueezeCosts.{made_none, made_then}
 use Rattle.ar_store.proofs.Ways.{parity_not_mirrored, unplaced_not_parity}
 use Rattle.ar_cache.specs.Backing.{InTurn}
-use Rattle.ar_cache.specs.Cache.{CacheState, TakesIn, same_key, cached, with_entries, with_room, without_key, last_keys}
+use Rattle.ar_cache.specs.Cache.{CacheState, same_key, cached, with_room, without_key, last_keys}
 use Rattle.ar_cache.specs.Cache.{giving_way, pushed_out, put_through}
 use Rattle.ar_volume.specs.Following.{PutsStored}
 use Rattle.ar_volume.specs.Image.{ArrayState, geometry_of, seen_at}
@@ -33,7 +31,7 @@ use Rattle.ar_volume.specs.Sectors.{keys_in}
 use Rattle.ar_volume.specs.Storing.{ReadsBlock, PutsBlock, ForcesBlock, Overwrites, Replaces, StoresBlocks, destaged}
 use Rattle.ar_volume.specs.Storing.{is_whole}
 use Rattle.ar_core.specs.WriteCosts.{for_each, WritesThrough, AreMirrored, StayAtParity}
-use Rattle.ar_core.proofs.WriteCosts.{Grow, calm_first, calm_last, block_grows, block_costs, blocks_grow, forced_grow}
+use Rattle.ar_core.proofs.WriteCosts.{calm_first, calm_last, block_grows, block_costs, blocks_grow, forced_grow}
 
 -- all disks are present, nothing is cached, and no block can be
 record IsThrough (a : ArrayState) : Type 0 where

@@ -1,13 +1,12 @@
 -- What a WRITE costs where no disk faults: the reads of the blocks that it covers in part, and the puts of those that
 -- are destaged.
-use Rattle.std.proofs.Common.{◌≡◌, ◌≢◌, inl, inr, ℕ, ◌+◌, ◌≤◌, Bool, true, false, Option, Some, None, IsSome, is_some}
-use Rattle.std.proofs.Common.{List, [], ◌∷◌, ◌++◌, refl, sym, ap, subst, ◌∙◌, arith}
+use Rattle.std.proofs.Common.{◌≡◌, inl, inr, ℕ, ◌≤◌, Bool, true, false, Option, Some, None, is_some}
+use Rattle.std.proofs.Common.{List, [], ◌∷◌, ◌++◌, refl, sym, ap, ◌∙◌, arith}
 use Rattle.std.proofs.lemmas.List.{append-nil, append_assoc}
 use Rattle.std.proofs.lemmas.Option.{none-some}
 use Rattle.ar_disks.specs.declared.address.Addr.{Addr}
 use Rattle.ar_disks.specs.declared.address.Key.{Key}
 use Rattle.ar_disks.specs.declared.geometry.Geometry.{Geometry}
-use Rattle.ar_extents.specs.declared.health.Health.{Health}
 use Rattle.ar_extents.specs.declared.health.Health.TheVariants.{Broken as AllBroken}
 use Rattle.ar_extents.specs.declared.log.RowAccess.{RowAccess}
 use Rattle.ar_extents.specs.Changes.{is_broken_set}
@@ -15,7 +14,6 @@ use Rattle.ar_extents.specs.Set.{SetState, faults_of}
 use Rattle.ar_extents.specs.Plans.{NoneFaults, planned}
 use Rattle.ar_extents.proofs.Plans.{planned_made}
 use Rattle.ar_store.specs.Store.{StoreState}
-use Rattle.ar_store.specs.Calls.{WasBroken}
 use Rattle.ar_store.specs.Plans.{CarriesOutPlan}
 use Rattle.ar_cache.specs.Backing.{InTurn}
 use Rattle.ar_cache.specs.Cache.{cached}

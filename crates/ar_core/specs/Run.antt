@@ -1,18 +1,19 @@
--- The isolation theorem: each unit replies as one plain list of sectors that only its own create, resize, delete and
--- I/O commands change.
+-- The isolation theorem: each unit replies as one plain list of sectors that only its own create, resize, delete, I/O
+-- commands and discards change.
 use Rattle.std.specs.Prelude.{◌≡◌, ◌≢◌, ◌⊎◌, ℕ, suc, false, IsTrue, Some, List, [], ◌∷◌, ◌++◌, length, take, slice_get}
+use Rattle.ar_disks.specs.declared.address.Addr.{Addr}
 use Rattle.ar_disks.specs.declared.address.Host.{Host}
 use Rattle.ar_scsi.specs.declared.reply.Reply.{Reply}
 use Rattle.ar_scsi.specs.declared.reply.Status.TheVariants.{Busy}
 use Rattle.ar_extents.specs.Follows.{TwoHit}
-use Rattle.ar_unit.specs.Unit.{UnitState, UnitEntry, answer, unit_run}
-use Rattle.ar_unit.specs.Broken.{shape_of, where_broken}
+use Rattle.ar_unit.specs.Unit.{UnitState, UnitEntry, answer, unmap_answer, unit_run}
+use Rattle.ar_unit.specs.Broken.{shape_of, where_broken, unmap_where_broken}
 use Rattle.ar_volume.specs.Image.{ArrayState, is_broken, image}
-use Rattle.ar_volume.specs.Sectors.{Address}
+use Rattle.ar_volume.specs.Sectors.{Address, address_of}
 use Rattle.ar_core.specs.Events.{Event}
-use Rattle.ar_core.specs.declared.event.EventOf.TheVariants.{Cmd as CmdEvent}
+use Rattle.ar_core.specs.declared.event.EventOf.TheVariants.{Cmd as CmdEvent, Unmap as UnmapEvent}
 use Rattle.ar_core.specs.Events.{Outcome}
-use Rattle.ar_core.specs.declared.event.OutcomeOf.TheVariants.{Cmd as CmdOutcome}
+use Rattle.ar_core.specs.declared.event.OutcomeOf.TheVariants.{Cmd as CmdOutcome, Unmap as UnmapOutcome}
 use Rattle.ar_core.specs.Causes.{AreTwoHitBy, FaultsNone, HurtsNone}
 use Rattle.ar_core.specs.Quiet.{LooksAt}
 use Rattle.ar_core.specs.Step.{Steps, entry_at}
@@ -78,9 +79,14 @@ pub record IsAnswered (turns : List Turn) (k : ℕ) (host : Host) (lun : ℕ) (c
   pub turn : slice_get turns k ≡ Some (Did (CmdEvent host lun cdb payload) (CmdOutcome reply))
   pub not_busy : reply.status ≢ Busy
 
+-- step k is a discard with this reply
+abbrev pub IsUnmapped : List Turn → ℕ → Addr → ℕ → ℕ → Reply → Type 0
+IsUnmapped turns k addr lba count reply =
+    slice_get turns k ≡ Some (Did (UnmapEvent addr lba count) (UnmapOutcome reply))
+
 -- Every reply other than BUSY is that of the unit's own list of sectors: the list that the unit's own create, resize,
--- delete and I/O commands before it have made, whatever all other steps did. If the array has failed after the command,
--- the reply is that of a failed array in its place. After each step every unit is that list; on a failed array only its
+-- delete, I/O commands and discards before it have made, whatever all other steps did. If the array has failed after the
+-- command, the reply is that of a failed array in its place. After each step every unit is that list; on a failed array only its
 -- presence, length and pending UNIT ATTENTION are.
 pub record IsIsolated (old : ArrayState) (turns : List Turn) (states : List ArrayState) : Type 0 where
   pub sound :
@@ -91,6 +97,14 @@ pub record IsIsolated (old : ArrayState) (turns : List Turn) (states : List Arra
       (k : ℕ) (host : Host) (lun : ℕ) (cdb payload : List ℕ) (reply : Reply) (new : ArrayState)
       → IsAnswered turns k host lun cdb payload reply → slice_get states k ≡ Some new → IsTrue (is_broken new)
       → reply ≡ where_broken cdb (answer (unit_before old (host.number, lun) turns k) cdb payload).reply
+  pub unmapped :
+      (k : ℕ) (addr : Addr) (lba count : ℕ) (reply : Reply) (new : ArrayState)
+      → IsUnmapped turns k addr lba count reply → slice_get states k ≡ Some new → is_broken new ≡ false
+      → reply ≡ (unmap_answer (unit_before old (address_of addr) turns k) lba count).reply
+  pub unmapped_broken :
+      (k : ℕ) (addr : Addr) (lba count : ℕ) (reply : Reply) (new : ArrayState)
+      → IsUnmapped turns k addr lba count reply → slice_get states k ≡ Some new → IsTrue (is_broken new)
+      → reply ≡ unmap_where_broken (unmap_answer (unit_before old (address_of addr) turns k) lba count).reply
   pub images :
       (k : ℕ) (new : ArrayState) → slice_get states k ≡ Some new → is_broken new ≡ false
       → (a : Address) → image new a ≡ unit_before old a turns (suc k)

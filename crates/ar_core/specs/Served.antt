@@ -9,16 +9,17 @@ use Rattle.ar_scsi.specs.declared.reply.Status.TheVariants.{Good, CheckCondition
 use Rattle.ar_scsi.specs.declared.sense.Sense.{Sense}
 use Rattle.ar_scsi.specs.Reply.{check}
 use Rattle.ar_scsi.specs.Sense.{internal_target_failure}
-use Rattle.ar_unit.specs.Unit.{Answered, Cmd, unit_run, IsGiven, IsServed}
+use Rattle.ar_unit.specs.Unit.{Answered, Cmd, Unmap, after, unit_run, IsGiven, IsServed}
 use Rattle.ar_unit.specs.Broken.{shape_of}
 use Rattle.ar_volume.specs.Image.{ArrayState, geometry_of, is_broken, seen_at, image_at}
 use Rattle.ar_volume.specs.Following.{ArrayFollows}
 use Rattle.ar_store.specs.Calls.{IsAccessed}
-use Rattle.ar_core.specs.Step.{Obeys, is_write, is_busy, moves_sectors}
+use Rattle.ar_core.specs.Step.{Obeys, Unmaps, is_write, is_busy, moves_sectors}
 use Rattle.ar_volume.specs.Sectors.{keys_in}
 use Rattle.ar_cache.specs.Backing.{InTurn}
 use Rattle.ar_volume.specs.Storing.{ReadsBlock, ReadsFirst, StopsStoring, StoresBlocks}
 use Rattle.ar_volume.specs.Seen.{IsForced, SamePlaces, present_at}
+use Rattle.ar_volume.specs.Unmap.{DiscardsBlocks, StopsBlocks}
 
 -- The reply and the unit's new sectors are those of `table`, from its sectors before the command, and no other unit's
 -- contents change; or the array has failed after it, and the reply is `otherwise`.
@@ -61,6 +62,26 @@ pub record ExecutesCommand (old : ArrayState) (addr : Addr) (cdb bytes : List �
   pub others : is_broken new ≡ false → (b : Addr) → b ≢ addr → image_at new b ≡ image_at old b
   pub shape : shape_of (image_at new addr)
       ≡ shape_of (unit_run (image_at old addr) (if is_busy reply.status then [] else Cmd cdb bytes ∷ []))
+  pub other_shapes : (b : Addr) → b ≢ addr → shape_of (image_at new b) ≡ shape_of (image_at old b)
+  pub accessed : IsAccessed old.store.disks new.store.disks
+  pub capacity : new.cache.capacity ≡ old.cache.capacity
+
+-- Which blocks a discard leaves where: a refused one, and one to a failed array, all of them; a GOOD one has discarded
+-- each of its blocks once, and one at which the array failed those up to the block at which it did.
+pub record SettlesUnmap (old : ArrayState) (addr : Addr) (lba count : ℕ) (reply : Reply) (new : ArrayState)
+    : Type 0 where
+  pub refused : reply.status ≡ CheckCondition → reply ≢ check internal_target_failure → new ≡ old
+  pub lost : IsTrue (is_broken old) → new ≡ old
+  pub discarded : reply.status ≡ Good → DiscardsBlocks addr lba count old new
+  pub stopped : is_broken old ≡ false → IsTrue (is_broken new) → StopsBlocks addr lba count old new
+
+-- What a discard does to the array: `Unmaps` holds of its unit, until data loss no other unit changes, and the presence,
+-- length and pending UNIT ATTENTION of every unit are what it makes of them.
+pub record ExecutesUnmap (old : ArrayState) (addr : Addr) (lba count : ℕ) (reply : Reply) (new : ArrayState)
+    : Type 0 where
+  pub unmaps : Unmaps old addr lba count reply new
+  pub others : is_broken new ≡ false → (b : Addr) → b ≢ addr → image_at new b ≡ image_at old b
+  pub shape : shape_of (image_at new addr) ≡ shape_of (after (image_at old addr) (Unmap lba count))
   pub other_shapes : (b : Addr) → b ≢ addr → shape_of (image_at new b) ≡ shape_of (image_at old b)
   pub accessed : IsAccessed old.store.disks new.store.disks
   pub capacity : new.cache.capacity ≡ old.cache.capacity

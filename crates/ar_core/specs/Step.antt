@@ -17,8 +17,9 @@ use Rattle.ar_extents.specs.Follows.{Keeps, Anywhere}
 use Rattle.ar_book.specs.Tables.{Tables}
 use Rattle.ar_book.specs.Changes.{unmarked}
 use Rattle.ar_store.specs.Placing.{SameUnits}
-use Rattle.ar_unit.specs.Unit.{UnitEntry, Make, Grow, Remove, Cmd, answer, unit_run, IsGiven, IsServed}
-use Rattle.ar_unit.specs.Broken.{shape_of, broken_answer}
+use Rattle.ar_unit.specs.Unit.{UnitEntry, Make, Grow, Remove, Cmd, Unmap, answer, unmap_answer, unit_run, IsGiven}
+use Rattle.ar_unit.specs.Unit.{IsServed}
+use Rattle.ar_unit.specs.Broken.{shape_of, broken_answer, broken_unmap}
 use Rattle.ar_core.specs.Events.{Event}
 use Rattle.ar_core.specs.declared.event.EventOf.TheVariants.{Make as MakeEvent, Grow as GrowEvent}
 use Rattle.ar_core.specs.declared.event.EventOf.TheVariants.{Remove as RemoveEvent, Cmd as CmdEvent}
@@ -26,7 +27,7 @@ use Rattle.ar_core.specs.declared.event.EventOf.TheVariants.{Flush as FlushEvent
 use Rattle.ar_core.specs.declared.event.EventOf.TheVariants.{Demote as DemoteEvent, Clean as CleanEvent}
 use Rattle.ar_core.specs.declared.event.EventOf.TheVariants.{Balance as BalanceEvent, AddDisk as AddDiskEvent}
 use Rattle.ar_core.specs.declared.event.EventOf.TheVariants.{DiskOut as DiskOutEvent, Replace as ReplaceEvent}
-use Rattle.ar_core.specs.declared.event.EventOf.TheVariants.{Rebuild as RebuildEvent}
+use Rattle.ar_core.specs.declared.event.EventOf.TheVariants.{Rebuild as RebuildEvent, Unmap as UnmapEvent}
 use Rattle.ar_core.specs.Events.{Outcome}
 use Rattle.ar_core.specs.declared.event.OutcomeOf.TheVariants.{Make as MakeOutcome, Grow as GrowOutcome}
 use Rattle.ar_core.specs.declared.event.OutcomeOf.TheVariants.{Remove as RemoveOutcome, Cmd as CmdOutcome}
@@ -34,7 +35,7 @@ use Rattle.ar_core.specs.declared.event.OutcomeOf.TheVariants.{Flush as FlushOut
 use Rattle.ar_core.specs.declared.event.OutcomeOf.TheVariants.{Demote as DemoteOutcome, Clean as CleanOutcome}
 use Rattle.ar_core.specs.declared.event.OutcomeOf.TheVariants.{Balance as BalanceOutcome, AddDisk as AddDiskOutcome}
 use Rattle.ar_core.specs.declared.event.OutcomeOf.TheVariants.{DiskOut as DiskOutOutcome, Replace as ReplaceOutcome}
-use Rattle.ar_core.specs.declared.event.OutcomeOf.TheVariants.{Rebuild as RebuildOutcome}
+use Rattle.ar_core.specs.declared.event.OutcomeOf.TheVariants.{Rebuild as RebuildOutcome, Unmap as UnmapOutcome}
 use Rattle.ar_volume.specs.Sectors.{Address, address_of, keys_in, same_address}
 use Rattle.ar_volume.specs.Image.{ArrayState, geometry_of, is_broken, attention_at, image_at, image, with_book}
 use Rattle.ar_core.specs.Causes.{HasCause}
@@ -50,6 +51,7 @@ use Rattle.ar_volume.specs.Rebuild.{RebuildsOne}
 use Rattle.ar_volume.specs.Balance.{BalancesOne}
 use Rattle.ar_volume.specs.DiskIn.{AddsDisk, ReplacesDisk}
 use Rattle.ar_volume.specs.DiskOut.{TakesDiskOut}
+use Rattle.ar_volume.specs.Unmap.{DiscardsBlocks, StopsBlocks}
 
 -- the address of a host's LUN
 abbrev pub addr_in : Host → ℕ → Addr
@@ -61,6 +63,7 @@ is_about (MakeEvent addr sectors) a = same_address (address_of addr) a
 is_about (GrowEvent addr sectors) a = same_address (address_of addr) a
 is_about (RemoveEvent addr) a = same_address (address_of addr) a
 is_about (CmdEvent host lun cdb payload) a = same_address (host.number, lun) a
+is_about (UnmapEvent addr lba count) a = same_address (address_of addr) a
 is_about event a = false
 
 -- whether an event comes often: a host's command, or a step of maintenance
@@ -79,6 +82,7 @@ is_quiet (MakeEvent addr sectors) = false
 is_quiet (GrowEvent addr sectors) = false
 is_quiet (RemoveEvent addr) = false
 is_quiet (CmdEvent host lun cdb payload) = false
+is_quiet (UnmapEvent addr lba count) = false
 is_quiet event = true
 
 abbrev pub is_busy : Status → Bool
@@ -86,12 +90,14 @@ is_busy Busy = true
 is_busy Good = false
 is_busy CheckCondition = false
 
--- the entry of an event in its unit: a create, resize or delete that was done, or a command whose reply isn't BUSY
+-- the entry of an event in its unit: a create, resize or delete that was done, a command whose reply isn't BUSY, or a
+-- discard
 abbrev pub entry_of : Event → Outcome → List UnitEntry
 entry_of (MakeEvent addr sectors) (MakeOutcome (Ok done)) = Make sectors ∷ []
 entry_of (GrowEvent addr sectors) (GrowOutcome (Ok done)) = Grow sectors ∷ []
 entry_of (RemoveEvent addr) (RemoveOutcome (Ok done)) = Remove ∷ []
 entry_of (CmdEvent host lun cdb payload) (CmdOutcome reply) = if is_busy reply.status then [] else Cmd cdb payload ∷ []
+entry_of (UnmapEvent addr lba count) (UnmapOutcome reply) = Unmap lba count ∷ []
 entry_of event outcome = []
 
 -- its entry in the unit at one address; none if it is about another
@@ -167,12 +173,42 @@ pub record Obeys (old : ArrayState) (addr : Addr) (cdb bytes : List ℕ) (reply 
       → IsTrue (is_broken new)
       → StopsStoring addr lba count fua old new
 
+-- the tables after a discard has reported and cleared a pending UNIT ATTENTION
+abbrev pub reported : Tables → Addr → Tables
+reported t addr = if attention_at t addr then unmarked t addr else t
+
+-- the array after that: nothing else has changed, and no disk was accessed
+abbrev pub once_reported : ArrayState → Addr → ArrayState
+once_reported s addr = with_book s (reported s.store.book addr)
+
+-- A discard has the reply of its unit's sectors as they were, and leaves the unit so; or, if the array has failed after
+-- it, that of a failed array. None of these replies is BUSY.
+pub record Unmaps (old : ArrayState) (addr : Addr) (lba count : ℕ) (reply : Reply) (new : ArrayState) : Type 0 where
+  pub sound : is_broken new ≡ false → reply ≡ (unmap_answer (image_at old addr) lba count).reply
+  pub left : is_broken new ≡ false → image_at new addr ≡ (unmap_answer (image_at old addr) lba count).state
+  pub broken : IsTrue (is_broken new) → reply ≡ broken_unmap (shape_of (image_at old addr)) lba count
+  -- only a failed array replies HARDWARE ERROR, INTERNAL TARGET FAILURE
+  pub failure : reply ≡ check internal_target_failure → IsTrue (is_broken new)
+  -- units change only in slots, write sequence numbers and the reported UNIT ATTENTION, and the room stays
+  pub units : SameUnits (reported old.store.book addr) new.store.book
+  -- no disk fails without a fault, and the unassigned extents stay
+  pub accessed : IsAccessed old.store.disks new.store.disks
+  -- a refused one, and one to a failed array, accesses no disk and changes nothing but the UNIT ATTENTION
+  pub refused : reply.status ≡ CheckCondition → reply ≢ check internal_target_failure → new ≡ once_reported old addr
+  pub lost : IsTrue (is_broken old) → new ≡ once_reported old addr
+  -- a GOOD one has discarded each of its blocks once, in ascending order, and no other: exactly those of which all
+  -- sectors are discarded lose home and cache entry
+  pub discarded : reply.status ≡ Good → DiscardsBlocks addr lba count old new
+  -- one at which the array failed has discarded its blocks so up to the one whose read or put failed it, and no other
+  pub stopped : is_broken old ≡ false → IsTrue (is_broken new) → StopsBlocks addr lba count old new
+
 -- the outcome is of the event's kind, and its relation holds
 abbrev pub Answers : ArrayState → Event → Outcome → ArrayState → Type 0
 Answers old (MakeEvent addr sectors) (MakeOutcome result) new = Makes old addr sectors result new
 Answers old (GrowEvent addr sectors) (GrowOutcome result) new = Grows old addr sectors result new
 Answers old (RemoveEvent addr) (RemoveOutcome result) new = Removes old addr result new
 Answers old (CmdEvent host lun cdb payload) (CmdOutcome reply) new = Obeys old (addr_in host lun) cdb payload reply new
+Answers old (UnmapEvent addr lba count) (UnmapOutcome reply) new = Unmaps old addr lba count reply new
 Answers old FlushEvent (FlushOutcome answer) new = FlushesOne old answer new
 Answers old (FlushUnitEvent addr) (FlushUnitOutcome answer) new = FlushesUnit old addr answer new
 Answers old DemoteEvent (DemoteOutcome answer) new = DemotesOne old answer new

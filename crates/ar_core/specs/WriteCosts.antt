@@ -1,5 +1,5 @@
 -- What a WRITE costs in disk accesses where no disk faults.
-use Rattle.std.specs.Prelude.{◌≡◌, ℕ, ◌<◌, Bool, true, false, IsSome, List, [], ◌∷◌, ◌++◌, Option, None, All}
+use Rattle.std.specs.Prelude.{◌≡◌, ℕ, ◌<◌, Bool, true, false, IsSome, List, [], ◌∷◌, ◌++◌, None, All}
 use Rattle.ar_disks.specs.declared.address.Addr.{Addr}
 use Rattle.ar_disks.specs.declared.address.Key.{Key}
 use Rattle.ar_extents.specs.declared.health.Health.TheVariants.{Whole}

@@ -127,7 +127,7 @@ impl<D: Disk + Drop> Array<D> {
         }
     }
 
-    // Executes an event of an operator, or the flush of a unit (SYNCHRONIZE CACHE over iSCSI).
+    // Executes an event of an operator, or the discard or flush of a unit that its host asks for.
     fn step_rarely(&mut self, event: Event<D>) -> Outcome<D>
         requires { is_frequent event ≡ false }
         ensures { Steps self.old event result self.new }
@@ -136,6 +136,7 @@ impl<D: Disk + Drop> Array<D> {
             EventOf::Make(addr, sectors) => OutcomeOf::Make(self.make(addr, sectors)),
             EventOf::Grow(addr, sectors) => OutcomeOf::Grow(self.grow(addr, sectors)),
             EventOf::Remove(addr) => OutcomeOf::Remove(self.remove(addr)),
+            EventOf::Unmap(addr, lba, count) => OutcomeOf::Unmap(self.unmap(addr, lba, count)),
             EventOf::FlushUnit(addr) => OutcomeOf::FlushUnit(self.flush_unit(addr)),
             EventOf::AddDisk(disk) => OutcomeOf::AddDisk(self.add_disk(disk)),
             EventOf::DiskOut(disk) => OutcomeOf::DiskOut(self.disk_out(disk)),

@@ -27,7 +27,7 @@ ghost use Rattle.ar_book.specs.Changes.{unmarked};
 use crate::{Array, Completion};
 use ar_disks::{Addr, Block, Disk, Geometry};
 use ar_scsi::{Command, Reply, Sense, decode, is_inquiry};
-use ar_unit::{absent, capacity, inquiry, is_past_end};
+use ar_unit::{absent, capacity, inquiry};
 use ar_volume::{Backing, read_sectors, write_sectors};
 use bytes::{Bytes, BytesMut};
 use std::alloc::{AllocError, Global};
@@ -62,7 +62,7 @@ impl<D: Disk> Array<D> {
     }
 
     // Reports the pending UNIT ATTENTION, and clears it.
-    fn tell_growth(&mut self, addr: Addr) -> Reply
+    pub(crate) fn tell_growth(&mut self, addr: Addr) -> Reply
         ensures told { result ≡ check capacity_data_has_changed }
         ensures cleared { self.new ≡ with_book self.old (unmarked self.old.store.book addr) }
         ensures seen { SameSeen self.old self.new }
@@ -318,6 +318,13 @@ impl<D: Disk> Array<D> {
     }
 }
 
+// Whether the range of a READ or WRITE ends past a unit of `sectors` sectors.
+fn is_past_end(sectors: u32, lba: u64, count: u16) -> bool
+    ensures { result ≡ nat_lt sectors (lba + count) }
+{
+    ar_unit::is_past_end(sectors, lba, u32::from(count))
+}
+
 // The reply to a READ of at least one sector; memory for its bytes is allocated before a block is read. It is generic
 // over the backing, since a read of the array may leave no trace: there, to read one block may equal reading all.
 fn fetch_sectors<B: Backing>(
@@ -450,8 +457,8 @@ fn good_with(bytes: &mut BytesMut) -> Reply
     }
 }
 
-// The reply to a WRITE whose transfer had this result.
-fn reply_to_write(stored: Completion) -> Reply
+// The reply to a WRITE, or to a discard, whose transfer had this result.
+pub(crate) fn reply_to_write(stored: Completion) -> Reply
     ensures done { stored ≡ Completion.Done → result ≡ good [] }
     ensures broken { stored ≡ Completion.Broken → result ≡ check internal_target_failure }
 {

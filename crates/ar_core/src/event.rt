@@ -1,5 +1,5 @@
-// The events of an array and their outcomes. `Make`, `Grow`, `Remove` and `Cmd` are a unit's own; every other one is a
-// maintenance event, and until data loss changes no unit's contents.
+// The events of an array and their outcomes. `Make`, `Grow`, `Remove`, `Cmd` and `Unmap` are a unit's own; every other
+// one is a maintenance event, and until data loss changes no unit's contents.
 use ar_balance::Balance;
 use ar_disks::{Addr, Host};
 use ar_moves::Move;
@@ -31,6 +31,10 @@ pub enum EventOf<N> {
         cdb: [u8; 16],
         payload: Bytes,
     },
+    /// Discards sectors of a unit for its host, from an LBA on and so many (UNMAP, SBC-3): they are zeros afterwards, and
+    /// blocks of which all sectors are discarded give their slots back. It is answered as a WRITE of the sectors, never
+    /// by BUSY.
+    Unmap(Addr, u64, u32),
     /// Destages the least recently used block of the cache.
     Flush,
     /// Destages all cached blocks of a unit, for a host that requests it by SYNCHRONIZE CACHE (SBC-2).
@@ -58,6 +62,7 @@ pub enum OutcomeOf<N> {
     Grow(Result<(), Refusal>),
     Remove(Result<(), Refusal>),
     Cmd(Reply),
+    Unmap(Reply),
     Flush(Flush),
     FlushUnit(UnitFlush),
     Demote(Move),

@@ -1,5 +1,6 @@
 // Laws of steps and runs, in the terms of a host. A law is the contract of a function that does nothing.
-ghost use Rattle.std.specs.Prelude.{◌≡◌, ℕ, suc, [], ◌∷◌, ◌++◌, false, Some, Ok, List, take, slice_get, Bool};
+ghost use Rattle.std.specs.Prelude.{◌≡◌, ℕ, suc, [], ◌∷◌, ◌++◌, true, false, Some, Ok, List, take, slice_get, Bool};
+ghost use Rattle.std.specs.Prelude.{All};
 ghost use Rattle.ar_disks.specs.declared.address.Host.{Host};
 ghost use Rattle.ar_scsi.specs.declared.reply.Reply.{Reply};
 ghost use Rattle.ar_scsi.specs.Reply.{good};
@@ -24,6 +25,7 @@ ghost use Rattle.ar_scsi.specs.Reading.{reading};
 ghost use Rattle.ar_scsi.specs.declared.reply.Status.TheVariants.{Good};
 ghost use Rattle.ar_extents.specs.Plans.{NoneFaults};
 ghost use Rattle.ar_volume.specs.Sectors.{keys_in};
+ghost use Rattle.ar_volume.specs.Storing.{is_whole};
 ghost use Rattle.ar_core.specs.Laws.{RunOf, IsAlikeAt, IsShapedAlikeAt, IsAnsweredSoundly, IsAnsweredBroken};
 ghost use Rattle.ar_core.specs.Laws.{IsWriteWithin};
 ghost use Rattle.ar_extents.specs.declared.health.Health.TheVariants.{Whole};
@@ -34,9 +36,9 @@ use crate::{EventOf, OutcomeOf};
 use ar_scsi::Command;
 
 /// A unit's own entries decide its replies. In two runs, on any arrays that haven't failed, a command has the same
-/// reply, BUSY apart, if its unit began the same and had the same create, resize, delete and I/O commands before it,
-/// whatever else happened. On failed arrays the unit need only have begun with the same presence, length and pending
-/// UNIT ATTENTION. The function does nothing.
+/// reply, BUSY apart, if its unit began the same and had the same create, resize, delete, I/O commands and discards
+/// before it, whatever else happened. On failed arrays the unit need only have begun with the same presence, length and
+/// pending UNIT ATTENTION. The function does nothing.
 pub fn own_entries_decide_replies()
     ensures sound { (one other : RunOf) (k j : ℕ) (host : Host) (lun : ℕ) (cdb payload : List ℕ) (reply answer : Reply)
         → IsIsolated one.first one.turns one.states → IsIsolated other.first other.turns other.states
@@ -139,4 +141,13 @@ pub fn flushes_are_accounted_for()
         → Steps old (EventOf.FlushUnit addr) (OutcomeOf.FlushUnit Done) new
         → NoneFaults old.store.disks new.store.disks
         → CostsExactly (MakesInTurn ForceMakes (unit_keys old addr) old new) old.store.disks new.store.disks }
+{}
+
+/// A GOOD discard of sectors that cover all of each of their blocks accesses no disk: each of these blocks has lost its
+/// home and its cache entry (`DiscardsBlocks`), and nothing else. The function does nothing.
+pub fn unmaps_of_whole_blocks_are_free()
+    ensures { (old new : ArrayState) (addr : Addr) (lba count : ℕ) (reply : Reply)
+        → Steps old (EventOf.Unmap addr lba count) (OutcomeOf.Unmap reply) new
+        → All (λ key. is_whole (geometry_of old) lba count key ≡ true) (keys_in (geometry_of old) addr lba count)
+        → reply.status ≡ Good → new.store.disks ≡ old.store.disks }
 {}

@@ -1,5 +1,5 @@
-//! The disk array: each unit is to its host a plain list of sectors that only the unit's own create, resize, delete and
-//! I/O commands change, whatever happens to other units and to any one disk. `Array::run` has this as its contract.
+//! The disk array: each unit is to its host a plain list of sectors that only the unit's own create, resize, delete, I/O
+//! commands and discards change, whatever happens to other units and to any one disk. `Array::run` has this as its contract.
 #![tactic(auto)]
 
 mod array;
@@ -13,6 +13,7 @@ mod laws;
 mod map;
 mod moves;
 mod rebuild;
+mod unmap;
 mod views;
 
 pub use ar_balance::Balance;
@@ -27,8 +28,8 @@ pub use array::Array;
 pub use event::{Event, EventOf, Outcome, OutcomeOf};
 pub use laws::{
     any_disk_may_go, flushes_are_accounted_for, own_entries_decide_replies,
-    reads_are_accounted_for, whole_disks_stay_whole, write_accesses, writes_are_accounted_for,
-    writes_that_fit_are_done,
+    reads_are_accounted_for, unmaps_of_whole_blocks_are_free, whole_disks_stay_whole,
+    write_accesses, writes_are_accounted_for, writes_that_fit_are_done,
 };
 pub use map::GroupView;
 pub use views::{GroupUse, HomeOf, LevelOf, Shown};

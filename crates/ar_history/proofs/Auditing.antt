@@ -7,7 +7,7 @@ use Rattle.std.proofs.lemmas.List.Sums.{sum_by-append}
 use Rattle.std.proofs.lemmas.List.{append-nil, take_at, take_all, length-take-le}
 use Rattle.std.proofs.lemmas.Option.{slice_get_past, slice_get_within, slice_get_cases}
 use Rattle.ar_history.specs.declared.entry.Entry.{Entry}
-use Rattle.ar_history.specs.declared.entry.Entry.TheVariants.{Make, Grow, Remove, Cmd}
+use Rattle.ar_history.specs.declared.entry.Entry.TheVariants.{Make, Grow, Remove, Cmd, Unmap}
 use Rattle.ar_history.specs.declared.entry.Exchange.{Exchange}
 use Rattle.ar_disks.specs.declared.address.Host.{Host}
 use Rattle.ar_unit.specs.Unit.{answer}
@@ -45,6 +45,7 @@ pub part_more : (number : ℕ) (entry : Entry) (rest : List Entry) (exchange : E
 part_more number (Make addr n) rest exchange is = absurd (cc)
 part_more number (Grow addr n) rest exchange is = absurd (cc)
 part_more number (Remove addr) rest exchange is = absurd (cc)
+part_more number (Unmap addr lba count) rest exchange is = absurd (cc)
 part_more number (Cmd host x) rest exchange is = more_by (host.number == number) x exchange (part number rest) is
 
 same_by : (b : Bool) (x : Exchange) (rest : List Exchange) → cond b (Some x) None ≡ None → cond b (x ∷ rest) rest ≡ rest
@@ -56,6 +57,7 @@ pub part_same : (number : ℕ) (entry : Entry) (rest : List Entry) → command_o
 part_same number (Make addr n) rest is = refl
 part_same number (Grow addr n) rest is = refl
 part_same number (Remove addr) rest is = refl
+part_same number (Unmap addr lba count) rest is = refl
 part_same number (Cmd host x) rest is = same_by (host.number == number) x (part number rest) is
 
 -- an entry that isn't a command of the host
@@ -158,6 +160,7 @@ host_of : (number : ℕ) (entry : Entry) (exchange : Exchange) → command_of nu
 host_of number (Make addr n) exchange is = absurd (cc)
 host_of number (Grow addr n) exchange is = absurd (cc)
 host_of number (Remove addr) exchange is = absurd (cc)
+host_of number (Unmap addr lba count) exchange is = absurd (cc)
 host_of number (Cmd host x) exchange is =
     let parts = host_by (host.number == number) host x exchange number refl is in
     (host, ap (λ (y : Exchange). Cmd host y) parts.0, parts.1)
@@ -268,6 +271,7 @@ four_parts [] = refl
 four_parts (Make addr n ∷ history) = let rest = four_parts history in omega (arith, rest)
 four_parts (Grow addr n ∷ history) = let rest = four_parts history in omega (arith, rest)
 four_parts (Remove addr ∷ history) = let rest = four_parts history in omega (arith, rest)
+four_parts (Unmap addr lba count ∷ history) = let rest = four_parts history in omega (arith, rest)
 four_parts (Cmd host x ∷ history) =
     one_host host.number x (part 0 history) (part 1 history) (part 2 history) (part 3 history) host.in_range
     ∙ ap (λ (n : ℕ). 1 + n) (four_parts history) ∙ sym (one_more (Cmd host x) history refl)

@@ -35,6 +35,7 @@ quiet_none (events.Make addr n) outcome a quiet = absurd (true≢false (sym quie
 quiet_none (events.Grow addr n) outcome a quiet = absurd (true≢false (sym quiet))
 quiet_none (events.Remove addr) outcome a quiet = absurd (true≢false (sym quiet))
 quiet_none (events.Cmd host lun cdb payload) outcome a quiet = absurd (true≢false (sym quiet))
+quiet_none (events.Unmap addr lba count) outcome a quiet = absurd (true≢false (sym quiet))
 quiet_none events.Flush outcome a quiet = refl
 quiet_none (events.FlushUnit addr) outcome a quiet = refl
 quiet_none events.Demote outcome a quiet = refl
@@ -226,6 +227,7 @@ tells_by old new (events.Make addr n) (outcomes.Remove result) history entry kep
 tells_by old new (events.Make addr n) (outcomes.Cmd result) history entry kept answers asked = absurd answers
 tells_by old new (events.Make addr n) (outcomes.Flush result) history entry kept answers asked = absurd answers
 tells_by old new (events.Make addr n) (outcomes.FlushUnit result) history entry kept answers asked = absurd answers
+tells_by old new (events.Make addr n) (outcomes.Unmap reply) history entry kept answers asked = absurd answers
 tells_by old new (events.Make addr n) (outcomes.Demote result) history entry kept answers asked = absurd answers
 tells_by old new (events.Make addr n) (outcomes.Clean result) history entry kept answers asked = absurd answers
 tells_by old new (events.Make addr n) (outcomes.Balance result) history entry kept answers asked = absurd answers
@@ -241,6 +243,7 @@ tells_by old new (events.Grow addr n) (outcomes.Remove result) history entry kep
 tells_by old new (events.Grow addr n) (outcomes.Cmd result) history entry kept answers asked = absurd answers
 tells_by old new (events.Grow addr n) (outcomes.Flush result) history entry kept answers asked = absurd answers
 tells_by old new (events.Grow addr n) (outcomes.FlushUnit result) history entry kept answers asked = absurd answers
+tells_by old new (events.Grow addr n) (outcomes.Unmap reply) history entry kept answers asked = absurd answers
 tells_by old new (events.Grow addr n) (outcomes.Demote result) history entry kept answers asked = absurd answers
 tells_by old new (events.Grow addr n) (outcomes.Clean result) history entry kept answers asked = absurd answers
 tells_by old new (events.Grow addr n) (outcomes.Balance result) history entry kept answers asked = absurd answers
@@ -256,6 +259,7 @@ tells_by old new (events.Remove addr) (outcomes.Remove result) history entry kep
 tells_by old new (events.Remove addr) (outcomes.Cmd result) history entry kept answers asked = absurd answers
 tells_by old new (events.Remove addr) (outcomes.Flush result) history entry kept answers asked = absurd answers
 tells_by old new (events.Remove addr) (outcomes.FlushUnit result) history entry kept answers asked = absurd answers
+tells_by old new (events.Remove addr) (outcomes.Unmap reply) history entry kept answers asked = absurd answers
 tells_by old new (events.Remove addr) (outcomes.Demote result) history entry kept answers asked = absurd answers
 tells_by old new (events.Remove addr) (outcomes.Clean result) history entry kept answers asked = absurd answers
 tells_by old new (events.Remove addr) (outcomes.Balance result) history entry kept answers asked = absurd answers
@@ -264,6 +268,7 @@ tells_by old new (events.Remove addr) (outcomes.DiskOut result) history entry ke
 tells_by old new (events.Remove addr) (outcomes.Replace result) history entry kept answers asked = absurd answers
 tells_by old new (events.Remove addr) (outcomes.Rebuild result) history entry kept answers asked = absurd answers
 tells_by old new (events.Cmd host lun cdb payload) outcome history entry kept answers asked = absurd (cc)
+tells_by old new (events.Unmap addr lba count) outcome history entry kept answers asked = absurd (cc)
 tells_by old new events.Flush outcome history entry kept answers asked = absurd (cc)
 tells_by old new (events.FlushUnit addr) outcome history entry kept answers asked = absurd (cc)
 tells_by old new events.Demote outcome history entry kept answers asked = absurd (cc)

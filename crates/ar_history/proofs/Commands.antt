@@ -4,32 +4,35 @@ use Rattle.std.proofs.Common.{length, take, refl, sym, ap, subst, ◌∙◌, inl
 use Rattle.std.specs.Prelude.{◌==◌, ◌&&◌, not, count_by, ◌+◌}
 use Rattle.std.proofs.lemmas.Bool.{eqb-true}
 use Rattle.std.proofs.lemmas.List.Sums.{sum_by-append}
+use Rattle.ar_disks.specs.declared.address.Addr.{Addr}
 use Rattle.ar_disks.specs.declared.address.Host.{Host}
 use Rattle.ar_scsi.specs.declared.reply.Reply.{Reply}
 use Rattle.ar_scsi.specs.declared.reply.Status.{Status}
 use Rattle.ar_scsi.specs.declared.reply.Status.TheVariants.{Good, CheckCondition, Busy}
 use Rattle.ar_scsi.specs.Reply.{busy}
 use Rattle.ar_unit.specs.Unit.{UnitState, Absent, Present, UnitEntry, Cmd as UnitCmd, answer, after, unit_run, IsGiven}
-use Rattle.ar_unit.specs.Broken.{Shape, shape_of, shape_after, where_broken, broken_answer}
-use Rattle.ar_unit.proofs.Laws.{after-shape, answer-with_bytes, broken_answer-is}
-use Rattle.ar_volume.specs.Sectors.{Address, same_address}
+use Rattle.ar_unit.specs.Unit.{Unmap as UnitUnmap, unmap_answer}
+use Rattle.ar_unit.specs.Broken.{Shape, shape_of, shape_after, where_broken, broken_answer, broken_unmap}
+use Rattle.ar_unit.proofs.Laws.{after-shape, answer-with_bytes, broken_answer-is, broken_unmap-is}
+use Rattle.ar_volume.specs.Sectors.{Address, address_of, same_address}
 use Rattle.ar_volume.specs.Image.{ArrayState, is_broken, image, image_at}
 use Rattle.ar_extents.specs.Changes.{is_broken_set}
 use Rattle.ar_volume.proofs.Breaking.{broken_is}
 use Rattle.ar_volume.proofs.Images.{image_here}
 use Rattle.ar_core.specs.Events.{Event, Outcome}
 use Rattle.ar_core.specs.Step.{Steps, is_busy, addr_in, entry_at}
-use Rattle.ar_core.specs.declared.event.EventOf.TheVariants.{Cmd as CmdEvent}
-use Rattle.ar_core.specs.declared.event.OutcomeOf.TheVariants.{Cmd as CmdOutcome}
+use Rattle.ar_core.specs.declared.event.EventOf.TheVariants.{Cmd as CmdEvent, Unmap as UnmapEvent}
+use Rattle.ar_core.specs.declared.event.OutcomeOf.TheVariants.{Cmd as CmdOutcome, Unmap as UnmapOutcome}
 use Rattle.ar_core.proofs.Causes.{was_sound}
 use Rattle.ar_history.specs.declared.counts.Counts.{Counts}
 use Rattle.ar_history.specs.declared.entry.Entry.{Entry}
-use Rattle.ar_history.specs.declared.entry.Entry.TheVariants.{Cmd}
+use Rattle.ar_history.specs.declared.entry.Entry.TheVariants.{Cmd, Unmap}
 use Rattle.ar_history.specs.History.{replay, is_command, before_last}
 use Rattle.ar_history.specs.Kept.{KeptState, SameLength, HistoryAgrees, with_attention, replayed_unit, exchange_of}
 use Rattle.ar_history.specs.Seat.{SeatState}
 use Rattle.ar_history.specs.declared.entry.Exchange.{Exchange}
 use Rattle.ar_history.specs.Serving.{IsRecorded, IsUnrecorded, ServesCommand, ServesHost, Begins, is_recorded}
+use Rattle.ar_history.specs.Serving.{ServesUnmap, unmap_entry}
 use Rattle.ar_history.proofs.Keeping.{kept_more}
 
 abbrev no_entry : List UnitEntry
@@ -440,3 +443,91 @@ serves_counted old before lun cdb payload reply (Some position) new after counts
   not_busy = serves.not_busy;
   sound = serves.sound;
 }
+
+-- whether a unit is there, and its length, no discard changes
+lengths_unmapped : (b : Bool) (u : UnitState) (lba count : ℕ)
+    → SameLength (unit_run u (cond b (UnitUnmap lba count ∷ []) no_entry)) u
+lengths_unmapped false u lba count = record { present = refl; sectors = refl }
+lengths_unmapped true u lba count = record {
+  present = ap (λ (s : Shape). s.present) (after-shape u (UnitUnmap lba count));
+  sectors = ap (λ (s : Shape). s.sectors) (after-shape u (UnitUnmap lba count));
+}
+
+-- a discard, whose history is then `now`
+pub served_unmap : (old new : ArrayState) (addr : Addr) (lba count : ℕ) (reply : Reply) (was now : List Entry)
+    → HistoryAgrees old was → Steps old (UnmapEvent addr lba count) (UnmapOutcome reply) new
+    → now ≡ was ++ unmap_entry addr lba count new
+    → ServesUnmap old was addr lba count reply new now
+served_unmap old new addr lba count reply was now kept steps grown = record {
+  history = grown;
+  reply_is = λ sound.
+      steps.answers.sound sound
+      ∙ ap (λ (u : UnitState). (unmap_answer u lba count).reply)
+      (sym (image_here (image_at old) addr)
+      ∙ kept.images (was_sound (UnmapEvent addr lba count) old new steps.disks sound) (address_of addr));
+  broken = λ lost.
+      (let a : Address = address_of addr in
+      let unit : shape_of (image_at old addr) ≡ shape_of (replayed_unit old was a) =
+      ap shape_of (sym (image_here (image_at old) addr))
+      ∙ sym (shape_marked (image old a) (replay was a) (kept.lengths a)) in
+      steps.answers.broken lost
+      ∙ ap (λ (s : Shape). broken_unmap s lba count) unit
+      ∙ broken_unmap-is (replayed_unit old was a) lba count);
+}
+
+-- and the array is what that history makes it
+pub kept_unmap : (old new : ArrayState) (addr : Addr) (lba count : ℕ) (reply : Reply) (was now : List Entry)
+    → HistoryAgrees old was → Steps old (UnmapEvent addr lba count) (UnmapOutcome reply) new
+    → now ≡ was ++ unmap_entry addr lba count new → HistoryAgrees new now
+kept_unmap old new addr lba count reply was now kept steps grown =
+    subst (λ (l : List Entry). HistoryAgrees new l) (sym grown) (by (is_broken new) refl)
+  where
+    by : (lost : Bool) → is_broken new ≡ lost
+        → HistoryAgrees new (was ++ cond lost [] (Unmap addr lba count ∷ []))
+    by true lost =
+        subst (λ (l : List Entry). HistoryAgrees new l) (sym (append-nil was)) (record {
+          legal = kept.legal;
+          images = λ now. absurd (let no : true ≡ false = sym lost ∙ now in cc);
+          lengths = λ a.
+              (let after = lengths_unmapped (same_address (address_of addr) a) (image old a) lba count in
+              record {
+                present = ap (λ (s : Shape). s.present) (steps.shapes a) ∙ after.present ∙ (kept.lengths a).present;
+                sectors = ap (λ (s : Shape). s.sectors) (steps.shapes a) ∙ after.sectors ∙ (kept.lengths a).sectors;
+              });
+        })
+    by false sound =
+        kept_more old new (UnmapEvent addr lba count) (UnmapOutcome reply) was (Unmap addr lba count) kept steps
+        (λ a. refl) tt
+
+-- a stored history that is the ghost one, before a discard, is it after one that is recorded
+pub unmap_stored : (new : ArrayState) (addr : Addr) (lba count : ℕ) (was items now stored : List Entry) → was ≡ items
+    → now ≡ was ++ unmap_entry addr lba count new → is_broken new ≡ false
+    → stored ≡ items ++ Unmap addr lba count ∷ [] → now ≡ stored
+unmap_stored new addr lba count was items now stored same grown sound kept =
+    grown
+    ∙ ap (λ (b : Bool). was ++ cond b [] (Unmap addr lba count ∷ [])) sound
+    ∙ ap (λ (l : List Entry). l ++ Unmap addr lba count ∷ []) same ∙ sym kept
+
+-- and after one that isn't
+pub unmap_unstored : (new : ArrayState) (addr : Addr) (lba count : ℕ) (was items now : List Entry) → was ≡ items
+    → now ≡ was ++ unmap_entry addr lba count new → is_broken new ≡ true → now ≡ items
+unmap_unstored new addr lba count was items now same grown lost =
+    grown
+    ∙ ap (λ (b : Bool). was ++ cond b [] (Unmap addr lba count ∷ [])) lost
+    ∙ append-nil was ∙ same
+
+-- a discard of a live array is one of the stored history
+pub served_unmap_stored : (old new : ArrayState) (addr : Addr) (lba count : ℕ) (reply : Reply)
+    (was items now stored : List Entry) → was ≡ items → now ≡ stored
+    → ServesUnmap old was addr lba count reply new now → ServesUnmap old items addr lba count reply new stored
+served_unmap_stored old new addr lba count reply was items now stored same same_now serves =
+    subst (λ (l : List Entry). ServesUnmap old items addr lba count reply new l) same_now
+    (subst (λ (l : List Entry). ServesUnmap old l addr lba count reply new now) same serves)
+
+-- one entry more that is no command
+pub count_unmap : (total : ℕ) (history stored : List Entry) (addr : Addr) (lba count : ℕ)
+    → total ≡ count_by is_command history → stored ≡ history ++ Unmap addr lba count ∷ []
+    → total ≡ count_by is_command stored
+count_unmap total history stored addr lba count was is =
+    let more = sum_by-append (λ (e : Entry). cond {A = ℕ} (is_command e) 1 0) history (Unmap addr lba count ∷ []) in
+    was ∙ omega (arith, more) ∙ ap (λ (l : List Entry). count_by is_command l) (sym is)

@@ -4,7 +4,7 @@ use Rattle.std.proofs.Common.{take, refl, sym, ap, subst, ◌∙◌, inl, inr}
 use Rattle.std.specs.Prelude.{slice_get, max, if◌then◌else◌}
 use Rattle.std.proofs.lemmas.Bool.{cases_lt}
 use Rattle.ar_unit.specs.Unit.{UnitState, Absent, Present, UnitEntry, Make as UnitMake, Grow as UnitGrow}
-use Rattle.ar_unit.specs.Unit.{Remove as UnitRemove, Cmd as UnitCmd, after, unit_run}
+use Rattle.ar_unit.specs.Unit.{Remove as UnitRemove, Cmd as UnitCmd, Unmap as UnitUnmap, after, unit_run}
 use Rattle.ar_unit.specs.Broken.{Shape, shape_of}
 use Rattle.ar_unit.proofs.Laws.{unit_run-append, after-shape}
 use Rattle.ar_volume.specs.Sectors.{Address, same_address}
@@ -89,6 +89,14 @@ lengths_after u v (UnitCmd cdb bytes) same = record {
   sectors =
       ap (λ (s : Shape). s.sectors) (after-shape u (UnitCmd cdb bytes)) ∙ same.sectors
       ∙ sym (ap (λ (s : Shape). s.sectors) (after-shape v (UnitCmd cdb bytes)));
+}
+lengths_after u v (UnitUnmap lba count) same = record {
+  present =
+      ap (λ (s : Shape). s.present) (after-shape u (UnitUnmap lba count)) ∙ same.present
+      ∙ sym (ap (λ (s : Shape). s.present) (after-shape v (UnitUnmap lba count)));
+  sectors =
+      ap (λ (s : Shape). s.sectors) (after-shape u (UnitUnmap lba count)) ∙ same.sectors
+      ∙ sym (ap (λ (s : Shape). s.sectors) (after-shape v (UnitUnmap lba count)));
 }
 lengths_after Absent Absent (UnitGrow n) same = record { present = refl; sectors = refl }
 lengths_after Absent (Present t m) (UnitGrow n) same = let p = same.present in absurd (cc)

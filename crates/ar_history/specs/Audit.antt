@@ -5,7 +5,7 @@ use Rattle.ar_disks.specs.declared.address.Host.{Host}
 use Rattle.ar_unit.specs.Unit.{answer}
 use Rattle.ar_history.specs.declared.entry.Exchange.{Exchange}
 use Rattle.ar_history.specs.declared.entry.Entry.{Entry}
-use Rattle.ar_history.specs.declared.entry.Entry.TheVariants.{Make, Grow, Remove, Cmd}
+use Rattle.ar_history.specs.declared.entry.Entry.TheVariants.{Make, Grow, Remove, Cmd, Unmap}
 use Rattle.ar_history.specs.History.{part, replay}
 use Rattle.ar_history.specs.Seat.{SeatState}
 
@@ -32,6 +32,7 @@ command_of number (Make addr sectors) = None
 command_of number (Grow addr sectors) = None
 command_of number (Remove addr) = None
 command_of number (Cmd host exchange) = if host.number == number then Some exchange else None
+command_of number (Unmap addr lba count) = None
 
 -- a transcript agrees with an entry at this position and continues at the next one, whatever follows the entry
 pub record Agrees (number : ℕ) (entry : Entry) (transcript : List Exchange) (at next : ℕ) : Type 0 where
@@ -50,7 +51,7 @@ pub record IsSame (test : Bool) (one other : Exchange) : Type 0 where
   pub others : test ≡ false → one ≢ other
 
 -- A command of a host's part is in the history at `place`, after `position` others of the part, and its reply is that
--- of its unit, as the unit's own create, resize, delete and I/O commands before it have made it.
+-- of its unit, as the unit's own create, resize, delete, I/O commands and discards before it have made it.
 pub record IsExecutedAt (history : List Entry) (number position : ℕ) (exchange : Exchange) (place : ℕ) (host : Host)
     : Type 0 where
   pub entry : slice_get history place ≡ Some (Cmd host exchange)

@@ -54,6 +54,7 @@ IsNoMemory (events.Make addr sectors) outcome = outcome ≡ outcomes.Make (Err (
 IsNoMemory (events.Grow addr sectors) outcome = outcome ≡ outcomes.Grow (Err (UnitRefused NoMemory))
 IsNoMemory (events.Remove addr) outcome = outcome ≡ outcomes.Remove (Err (UnitRefused NoMemory))
 IsNoMemory (events.Cmd host lun cdb payload) outcome = outcome ≡ outcomes.Cmd busy
+IsNoMemory (events.Unmap addr lba count) outcome = outcome ≡ outcomes.Unmap busy
 IsNoMemory event outcome = ⊥
 
 -- The event was not begun, since the history couldn't grow: the array is unchanged. A failed array records nothing, so

@@ -1,20 +1,21 @@
 -- How a host's command is executed, and recorded in history and transcript.
 use Rattle.std.specs.Prelude.{◌≡◌, ◌≢◌, ◌⊎◌, ◌&&◌, ◌<◌, ℕ, Bool, true, false, not, if◌then◌else◌, List, [], ◌∷◌, ◌++◌}
 use Rattle.std.specs.Prelude.{length, Option, Some, None}
+use Rattle.ar_disks.specs.declared.address.Addr.{Addr}
 use Rattle.ar_disks.specs.declared.address.Host.{Host}
 use Rattle.ar_scsi.specs.declared.reply.Reply.{Reply}
 use Rattle.ar_scsi.specs.Reply.{busy}
 use Rattle.ar_extents.specs.Follows.{Keeps, Anywhere}
-use Rattle.ar_unit.specs.Unit.{answer, unit_run, IsGiven}
-use Rattle.ar_unit.specs.Broken.{shape_of, where_broken}
-use Rattle.ar_volume.specs.Sectors.{Address}
+use Rattle.ar_unit.specs.Unit.{answer, unmap_answer, unit_run, IsGiven}
+use Rattle.ar_unit.specs.Broken.{shape_of, where_broken, unmap_where_broken}
+use Rattle.ar_volume.specs.Sectors.{Address, address_of}
 use Rattle.ar_volume.specs.Image.{ArrayState, is_broken, image}
 use Rattle.ar_core.specs.Step.{Steps, is_busy, entry_at}
 use Rattle.ar_core.specs.declared.event.EventOf.TheVariants.{Cmd as CmdEvent}
 use Rattle.ar_core.specs.declared.event.OutcomeOf.TheVariants.{Cmd as CmdOutcome}
 use Rattle.ar_history.specs.declared.entry.Exchange.{Exchange}
 use Rattle.ar_history.specs.declared.entry.Entry.{Entry}
-use Rattle.ar_history.specs.declared.entry.Entry.TheVariants.{Cmd}
+use Rattle.ar_history.specs.declared.entry.Entry.TheVariants.{Cmd, Unmap}
 use Rattle.ar_history.specs.History.{replay}
 use Rattle.ar_history.specs.Kept.{KeptState, MayGrow, exchange_of, replayed_unit, history_unit}
 use Rattle.ar_history.specs.Operations.{Does}
@@ -141,3 +142,31 @@ pub record Allocates (old : KeptState) (before : SeatState) (new : KeptState) (a
   pub seat_grown : MayGrow before.room after.room
   pub seat_unasked : new.room ≡ length old.history → after.room ≡ before.room
   pub lost : is_broken old.array ≡ true → GrowsNothing old before new after
+
+-- the entry of a discard in the history; a failed array records none
+abbrev pub unmap_entry : Addr → ℕ → ℕ → ArrayState → List Entry
+unmap_entry addr lba count new = if is_broken new then [] else Unmap addr lba count ∷ []
+
+-- A discard by a live array. Its reply is that of its unit, as the history so far has made the unit, or on a failed
+-- array that of a failed one in its place.
+pub record ServesUnmap (old : ArrayState) (was : List Entry) (addr : Addr) (lba count : ℕ) (reply : Reply)
+    (new : ArrayState) (now : List Entry) : Type 0 where
+  pub history : now ≡ was ++ unmap_entry addr lba count new
+  pub reply_is : is_broken new ≡ false → reply ≡ (unmap_answer (replay was (address_of addr)) lba count).reply
+  pub broken :
+      is_broken new ≡ true
+      → reply ≡ unmap_where_broken (unmap_answer (replayed_unit old was (address_of addr)) lba count).reply
+
+-- a discard was not begun, as the history couldn't grow
+pub record LeavesUnbegun (old : KeptState) (reply : Reply) (new : KeptState) : Type 0 where
+  pub reply_is : reply ≡ busy
+  pub array : new.array ≡ old.array
+  pub history : new.history ≡ old.history
+  pub sound : is_broken old.array ≡ false
+
+-- The memory that is allocated to record one entry: a history with capacity left keeps it, a full one may grow. Nothing
+-- is allocated for a failed array.
+pub record AllocatesOne (old new : KeptState) : Type 0 where
+  pub placed : length old.history < old.room → new.room ≡ old.room
+  pub grown : MayGrow old.room new.room
+  pub lost : is_broken old.array ≡ true → new.room ≡ old.room

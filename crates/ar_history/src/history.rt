@@ -51,6 +51,15 @@ impl GhostHistory {
         *self = self.with(entry);
     }
 
+    // Appends an entry, unless the array is lost.
+    pub(crate) fn push_unless(&mut self, entry: &Entry, lost: bool)
+        ensures { self.new.entries ≡ self.old.entries ++ (if lost then [] else entry.now ∷ []) }
+    {
+        if !lost {
+            *self = self.with(entry);
+        }
+    }
+
     // Appends a command with its reply, if it is recorded.
     pub(crate) fn record(&mut self, asked: &Asked, reply: &Reply, recorded: bool)
         ensures { self.new.entries ≡ self.old.entries ++ (if recorded

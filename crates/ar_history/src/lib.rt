@@ -1,10 +1,11 @@
-//! The array with a stored history: each create, resize and delete of a unit, and each command with its reply, BUSY
-//! apart. Each entry fits the unit that the entries before it make (`IsLegal`); the audit compares it with hosts'
+//! The array with a stored history: each create, resize and delete of a unit, each command with its reply, BUSY apart,
+//! and each discard. Each entry fits the unit that the entries before it make (`IsLegal`); the audit compares it with hosts'
 //! transcripts.
 #![tactic(auto)]
 
 mod audit;
 mod counts;
+mod discard;
 mod entry;
 mod history;
 mod host;

@@ -16,8 +16,8 @@ use Rattle.ar_book.specs.declared.class.Class.TheVariants.{Free, Parity}
 use Rattle.ar_book.specs.declared.class.Slot.{Slot}
 use Rattle.ar_disks.specs.Addresses.{same_addr}
 use Rattle.ar_book.specs.Tables.{UnitTableState, Tables, is_free, no_unit, has_unit, group_in, class_of, key_at, home}
-use Rattle.ar_book.specs.Tables.{free_groups}
-use Rattle.ar_book.specs.Changes.{made, grown, dropped, unmarked}
+use Rattle.ar_book.specs.Tables.{free_groups, key_in, HasBlock}
+use Rattle.ar_book.specs.Changes.{made, grown, dropped, released, unmarked, vacated}
 use Rattle.ar_book.specs.Refusals.{unit_make_refusal, unit_grow_refusal}
 use Rattle.ar_book.specs.Book.{TablesAgree}
 use Rattle.ar_disks.proofs.Addresses.{addr_tells}
@@ -27,9 +27,15 @@ use Rattle.ar_book.proofs.AfterMake.{made_home, made_agrees, grown_home, grown_a
 use Rattle.ar_book.proofs.DropLemmas.{dropped_home_own, dropped_home_other, dropped_key_empty, dropped_key_own}
 use Rattle.ar_book.proofs.DropLemmas.{dropped_key_other, dropped_group_count, dropped_members, dropped_class}
 use Rattle.ar_book.proofs.DropLemmas.{dropped_class_named, dropped_free_groups, dropped_agrees}
+use Rattle.ar_book.proofs.AfterRelease.{released_group_count, released_members, released_class, released_class_named}
+use Rattle.ar_book.proofs.AfterRelease.{released_order, released_sectors, released_attention}
+use Rattle.ar_book.proofs.AfterRelease.{released_blocks, released_home, released_home_other, released_reserved}
+use Rattle.ar_book.proofs.AfterRelease.{released_key, released_key_other}
+use Rattle.ar_book.proofs.PlaceLemmas.{released_agrees}
 use Rattle.ar_store.specs.Store.{store_of}
 use Rattle.ar_store.specs.Slots.{HoldsBlock, stands}
 use Rattle.ar_store.specs.Kept.{IsSpace, FieldsAgree}
+use Rattle.ar_store.specs.Placing.{SameUnits}
 use Rattle.ar_store.proofs.Standing.{stands_same, stands_nowhere, block_same}
 use Rattle.ar_store.proofs.Changes.{extents_same}
 
@@ -136,6 +142,72 @@ module _ (a : SetState) (t : Tables) (b : Addr) (space : IsSpace (store_of a t))
   -- and the unit's own are read as zeros
   pub own_dropped : (k : Key) → k.addr ≡ b → stands (store_of a (dropped t b)) k ≡ zeros (block_len_of a.geometry)
   own_dropped k own = stands_nowhere (store_of a (dropped t b)) k (dropped_home_own t b space.tables k own)
+
+-- a slot that names a block after another was discarded named it before
+named_before : (t : Tables) (k : Key) → TablesAgree t → HasBlock t k → (slot : Slot) (j : Key)
+    → key_at (released t k) slot ≡ Some j → key_at t slot ≡ Some j
+named_before t k ok block slot j names = by (home t k) refl
+  where
+    by : (o : Option Slot) → home t k ≡ o → key_at t slot ≡ Some j
+    by None is = subst (λ (o : Option Slot). key_in (vacated t.groups o) slot ≡ Some j) is names
+    by (Some q) is =
+        sym (released_key_other t k ok block slot
+        (λ mine. none-some j (sym (released_key t k ok block slot mine) ∙ names))) ∙ names
+
+module _ (a : SetState) (t : Tables) (k : Key) (space : IsSpace (store_of a t)) (block : HasBlock t k) where
+  -- a block is discarded: what a slot still names it named before
+  held_still : (slot : Slot) (j : Key) → key_at (released t k) slot ≡ Some j → HoldsBlock (store_of a t) slot
+  held_still slot j names = space.named slot j (named_before t k space.tables block slot j names)
+
+  -- and a group that has parity had it before
+  parity_still : (g : ℕ) → KeepsClass (class_of t g) (group_in (released t k).groups g)
+      → class_of (released t k) g ≡ Parity
+      → class_of t g ≡ Parity
+  parity_still g (inl same) is = sym same ∙ is
+  parity_still g (inr free) is = absurd (free_not_parity (sym free.0 ∙ is))
+    where
+      free_not_parity : Free ≢ Parity
+      free_not_parity e = true≢false (ap is_free e)
+
+  pub space_released : IsSpace (store_of a (released t k))
+  space_released =
+      let u : Tables = released t k in
+      record {
+        geometry = space.geometry;
+        tables = released_agrees t k space.tables block;
+        extents = extents_same a t u space (released_group_count t k) (released_members t k);
+        named = λ slot j names.
+            block_same a t u slot (released_class_named t k slot j names) (released_members t k slot.group)
+            (held_still slot j names);
+        parity = λ slot inside is lt.
+            let before = parity_still slot.group (released_class t k slot.group) is in
+            block_same a t u slot (is ∙ sym before) (released_members t k slot.group)
+            (space.parity slot (subst (λ n. slot.group < n) (released_group_count t k) inside) before lt);
+      }
+
+  -- every other block stands as it did
+  pub others_released : (j : Key) → j ≢ k → stands (store_of a (released t k)) j ≡ stands (store_of a t) j
+  others_released j ne =
+      stands_same a t (released t k) j (released_home_other t k block j ne)
+      (λ slot is. released_class_named t k slot j
+      (home_key (released t k) (released_agrees t k space.tables block) j slot
+      (released_home_other t k block j ne ∙ is)))
+      (released_members t k)
+
+  -- and this one is read as zeros
+  pub own_released : stands (store_of a (released t k)) k ≡ zeros (block_len_of a.geometry)
+  own_released = stands_nowhere (store_of a (released t k)) k (released_home t k block)
+
+  -- the unit keeps all but the home
+  pub units_released : SameUnits t (released t k)
+  units_released = record {
+    order = released_order t k;
+    sectors = released_sectors t k;
+    attention = released_attention t k;
+    blocks = released_blocks t k;
+    groups = released_group_count t k;
+    reserved = released_reserved t k block;
+  }
 
 -- a key has no home where there is no unit at its address
 home_absent : (t : Tables) (b : Addr) (k : Key) → (IsTrue (has_unit t b) → ⊥) → k.addr ≡ b → home t k ≡ None

@@ -1,8 +1,9 @@
-// Creates, resizes and deletes units. Only the tables change: no disk is accessed.
+// Creates, resizes and deletes units, and discards their blocks. Only the tables change: no disk is accessed.
 
 use crate::Store;
 use ar_book::Refusal;
-use ar_disks::{Addr, Disk};
+use ar_disks::{Addr, Disk, Key};
+use ar_index::Steps;
 
 impl<D: Disk> Store<D> {
     ghost use Rattle.std.specs.Prelude.{◌≡◌, ◌≢◌, ◌↔◌, IsOk, IsTrue, None, IfErr, OnOk, OnErr};
@@ -10,10 +11,11 @@ impl<D: Disk> Store<D> {
     ghost use Rattle.ar_disks.specs.Block.{zeros};
     ghost use Rattle.ar_disks.specs.Geometry.{block_len_of};
     ghost use Rattle.ar_disks.specs.declared.address.Key.{Key};
-    ghost use Rattle.ar_book.specs.Tables.{has_unit};
-    ghost use Rattle.ar_book.specs.Changes.{made, grown, dropped, unmarked};
+    ghost use Rattle.ar_book.specs.Tables.{has_unit, HasBlock};
+    ghost use Rattle.ar_book.specs.Changes.{made, grown, dropped, released, unmarked};
     ghost use Rattle.ar_book.specs.Refusals.{unit_make_refusal, unit_grow_refusal};
     ghost use Rattle.ar_store.specs.Slots.{stands};
+    ghost use Rattle.ar_store.specs.Placing.{SameUnits};
 
     /// Creates a unit of `sectors` sectors, 1 to 1,048,576. None of its blocks has a home, so all read as zeros.
     /// Errors, in this order: `BadLun` for a LUN above 7, `Exists`, `Size`, `NoRoom` with the number of blocks that
@@ -57,6 +59,19 @@ impl<D: Disk> Store<D> {
         ensures zeros { (k : Key) → k.addr ≡ addr → stands self.new k ≡ zeros (block_len_of self.old.disks.geometry) }
     {
         self.space.book.drop_unit(addr)
+    }
+
+    /// Discards a block: it loses its home and reads as zeros, and every other block keeps its contents. Its slot is
+    /// empty, and its group free if no slot of it is occupied. The unit keeps all of its blocks, so the room stays.
+    pub fn release(&mut self, key: Key)
+        requires { HasBlock self.old.book key }
+        ensures released { self.new.book ≡ released self.old.book key }
+        ensures disks { self.new.disks ≡ self.old.disks }
+        ensures units { SameUnits self.old.book self.new.book }
+        ensures others { (k : Key) → k ≢ key → stands self.new k ≡ stands self.old k }
+        ensures zeros { stands self.new key ≡ zeros (block_len_of self.old.disks.geometry) }
+    {
+        self.space.book.release(key, &mut Steps::new());
     }
 
     /// Clears a unit's pending UNIT ATTENTION. Nothing changes if there is no unit.

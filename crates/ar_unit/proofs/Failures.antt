@@ -1,5 +1,5 @@
 -- No reply of the table is HARDWARE ERROR, INTERNAL TARGET FAILURE: only an array that has lost its data answers that.
-use Rattle.std.proofs.Common.{◌≡◌, ◌≢◌, ℕ, Bool, true, false, cond, eqb, not, ◌*◌, List, [], length, take, drop, Option}
+use Rattle.std.proofs.Common.{◌≡◌, ◌≢◌, ℕ, Bool, true, false, eqb, not, ◌*◌, List, [], length, take, drop, Option}
 use Rattle.std.proofs.Common.{None, Some, Result, Ok, Err, get_or, refl, sym, ap, ◌∙◌}
 use Rattle.std.proofs.lemmas.Bool.{cond_both}
 use Rattle.ar_scsi.specs.declared.command.Command.{Command}
@@ -13,8 +13,10 @@ use Rattle.ar_scsi.specs.Reply.{good, check}
 use Rattle.ar_scsi.specs.Sense.{logical_unit_not_supported, capacity_data_has_changed}
 use Rattle.ar_scsi.specs.Sense.{logical_block_address_out_of_range, internal_target_failure, invalid_field_in_cdb}
 use Rattle.ar_scsi.specs.Sense.{invalid_command_operation_code, data_phase_error}
-use Rattle.ar_unit.specs.Sectors.{Sector, joined, written}
+use Rattle.ar_unit.specs.Sectors.{Sector, joined}
 use Rattle.ar_unit.specs.Unit.{UnitState, Absent, Present, Answered, leaving, obeyed, answer, is_past_end}
+use Rattle.ar_unit.specs.Unit.{unmap_answer}
+use Rattle.ar_unit.proofs.Laws.{each_unmapped}
 
 -- the additional sense code of a reply
 code_in : Option (List ℕ) → ℕ
@@ -91,3 +93,12 @@ answer_other (Present sectors true) cdb bytes =
     (λ _. obeyed_other sectors true (reading cdb) bytes (reading_other cdb))
     (λ _. other_code (check capacity_data_has_changed) refl)
 answer_other (Present sectors false) cdb bytes = obeyed_other sectors false (reading cdb) bytes (reading_other cdb)
+
+-- nor does a reply to a discard
+pub unmap_answer_other : (state : UnitState) (lba count : ℕ)
+    → (unmap_answer state lba count).reply ≢ check internal_target_failure
+unfolding code_of code_in
+unmap_answer_other Absent lba count = other_code (check logical_unit_not_supported) refl
+unmap_answer_other (Present sectors attention) lba count =
+    each_unmapped IsOtherAnswer sectors attention lba count (other_code (check capacity_data_has_changed) refl)
+    (other_code (check logical_block_address_out_of_range) refl) (λ _. good_other [])

@@ -2,10 +2,12 @@
 use Rattle.std.proofs.Common.{◌≡◌, ◌≢◌, ◌≤◌, ◌+◌, ◌-◌, ◌*◌, ℕ, zero, suc, Bool, true, false, cond, eqb, ◌&&◌, not, List}
 use Rattle.std.proofs.Common.{[], ◌∷◌, ◌++◌, length, take, drop, Result, Ok, Err, refl, sym, ap, ◌∙◌, arith}
 use Rattle.std.proofs.Common.{length-append, length-take, length-drop}
-use Rattle.std.specs.Prelude.{All}
+use Rattle.std.specs.Prelude.{All, replicate}
 use Rattle.std.proofs.Math.ListN.{length-replicate}
 use Rattle.std.proofs.Math.Nat.{suc-mul}
 use Rattle.std.proofs.lemmas.Bool.{true≢false, cond_both, ltb-false, eqb-true, not-false}
+use Rattle.std.proofs.lemmas.Bool.Decides.{nat_tests}
+use Rattle.std.proofs.lemmas.List.{take-replicate, drop-replicate}
 use Rattle.std.proofs.lemmas.List.Elements.{All-append, All-nil, All-cons, All-take, All-drop, All-replicate}
 use Rattle.ar_scsi.specs.declared.command.Command.{Command}
 use Rattle.ar_scsi.specs.declared.command.Command.TheVariants.{TestReady, Inquiry, Capacity, Read, Write}
@@ -20,10 +22,11 @@ use Rattle.ar_scsi.specs.Sense.{logical_unit_not_supported, capacity_data_has_ch
 use Rattle.ar_scsi.specs.Sense.{logical_block_address_out_of_range, internal_target_failure, invalid_field_in_cdb}
 use Rattle.ar_scsi.specs.Sense.{data_phase_error}
 use Rattle.ar_unit.specs.Broken.{Shape, shape_of, shape_after, needs_blocks, is_good, where_broken, broken_obeyed}
-use Rattle.ar_unit.specs.Broken.{broken_answer}
-use Rattle.ar_unit.specs.Sectors.{Sector, zero_sector, zero_sectors, joined, cut, written}
+use Rattle.ar_unit.specs.Broken.{broken_answer, broken_unmap, unmap_where_broken}
+use Rattle.ar_unit.specs.Sectors.{Sector, zero_sector, zero_sectors, joined, cut, written, zeroed}
 use Rattle.ar_unit.specs.Unit.{UnitState, Absent, Present, Answered, leaving, write_answer, obeyed, answer, is_past_end}
-use Rattle.ar_unit.specs.Unit.{IsWhole, TakesNoMemory, UnitEntry, Make, Grow, Remove, Cmd, after, unit_run}
+use Rattle.ar_unit.specs.Unit.{IsWhole, TakesNoMemory, UnitEntry, Make, Grow, Remove, Cmd, Unmap, after, unit_run}
+use Rattle.ar_unit.specs.Unit.{unmap_obeyed, unmap_answer}
 
 -- a run over a list that is put together goes on where its first part ends
 pub unit_run-append : (state : UnitState) (first later : List UnitEntry)
@@ -145,6 +148,31 @@ answer-shape (Present sectors false) cdb bytes =
     (λ _. refl)
     (λ lba count within _. same_shape (length-written sectors lba count bytes within) refl)
 
+-- what is known of a reply to a discard and the state after it, at a unit that is there
+pub each_unmapped :
+    (P : Answered → Type 0) (sectors : List Sector) (attention : Bool) (lba count : ℕ)
+    → P (record { reply = check capacity_data_has_changed; state = Present sectors false })
+    → P (record { reply = check logical_block_address_out_of_range; state = Present sectors false })
+    → (lba + count ≤ length sectors → P (record { reply = good []; state = Present (zeroed sectors lba count) false }))
+    → P (unmap_answer (Present sectors attention) lba count)
+each_unmapped P sectors true lba count tells past within = tells
+each_unmapped P sectors false lba count tells past within =
+    cond_both (is_past_end (length sectors) lba count) _ _ P (λ _. past) (λ e. within (ltb-false _ _ e))
+
+-- a discard within the unit leaves its length
+pub length-zeroed :
+    (sectors : List Sector) (lba count : ℕ) → lba + count ≤ length sectors
+    → length (zeroed sectors lba count) ≡ length sectors
+length-zeroed sectors lba count h = simp (length-append, length-take, length-drop, length-replicate) (omega arith)
+
+-- presence, length and mark after a discard
+pub unmap-shape : (state : UnitState) (lba count : ℕ)
+    → shape_of (unmap_answer state lba count).state ≡ shape_after (shape_of state) (Unmap lba count)
+unmap-shape Absent lba count = refl
+unmap-shape (Present sectors attention) lba count =
+    each_unmapped (λ a. shape_of a.state ≡ of_unit (length sectors) false) sectors attention lba count refl refl
+    (λ within. same_shape (length-zeroed sectors lba count within) refl)
+
 -- presence, length and mark after an entry
 pub after-shape : (state : UnitState) (entry : UnitEntry)
     → shape_of (after state entry) ≡ shape_after (shape_of state) entry
@@ -154,6 +182,7 @@ after-shape (Present sectors attention) (Grow n) =
     same_shape (simp (length-append, length-replicate) (omega arith)) refl
 after-shape state Remove = refl
 after-shape state (Cmd cdb bytes) = answer-shape state cdb bytes
+after-shape state (Unmap lba count) = unmap-shape state lba count
 
 -- pieces of bytes that are enough have the length
 pub cut-whole : (len n : ℕ) (bytes : List ℕ) → n * len ≤ length bytes
@@ -191,6 +220,14 @@ after-whole (Present sectors attention) (Cmd cdb bytes) h =
     (cut-whole 512 count bytes (omega arith)))
     (All-drop W (lba + count) sectors h))
     (λ _ _. h)
+after-whole Absent (Unmap lba count) h = tt
+after-whole (Present sectors attention) (Unmap lba count) h =
+    let W : Sector → Type 0 = λ sector. length sector ≡ 512 in
+    each_unmapped (λ a. IsWhole a.state) sectors attention lba count h h
+    (λ within.
+    All-append W (take lba sectors ++ zero_sectors count) (drop (lba + count) sectors)
+    (All-append W (take lba sectors) (zero_sectors count) (All-take W lba sectors h) (zero_sectors-whole count))
+    (All-drop W (lba + count) sectors h))
 
 -- what a broken array says in place of a reply, with what the block reads as
 abbrev in_place : Result Command Sense → Reply → Reply
@@ -319,3 +356,84 @@ answer-takes_no_memory (Present sectors true) cdb bytes =
     (λ _. no_bytes cdb (check capacity_data_has_changed) refl)
 answer-takes_no_memory (Present sectors false) cdb bytes =
     obeyed-takes_no_memory sectors false cdb bytes (reading cdb) refl
+
+-- no reply to a discard is BUSY
+pub unmap-not_busy : (state : UnitState) (lba count : ℕ) → (unmap_answer state lba count).reply.status ≢ Busy
+unmap-not_busy Absent lba count = λ e. cc
+unmap-not_busy (Present sectors attention) lba count =
+    each_unmapped (λ a. a.reply.status ≢ Busy) sectors attention lba count (λ e. cc) (λ e. cc) (λ _ e. cc)
+
+-- or has bytes
+pub unmap-no_bytes : (state : UnitState) (lba count : ℕ) → (unmap_answer state lba count).reply.payload ≡ []
+unmap-no_bytes Absent lba count = refl
+unmap-no_bytes (Present sectors attention) lba count =
+    each_unmapped (λ a. a.reply.payload ≡ []) sectors attention lba count refl refl (λ _. refl)
+
+-- what a broken array answers to a discard goes by the shape
+pub broken_unmap-is :
+    (state : UnitState) (lba count : ℕ)
+    → broken_unmap (shape_of state) lba count ≡ unmap_where_broken (unmap_answer state lba count).reply
+broken_unmap-is Absent lba count = refl
+broken_unmap-is (Present sectors true) lba count = refl
+broken_unmap-is (Present sectors false) lba count = by (is_past_end (length sectors) lba count)
+  where
+    by : (past : Bool)
+        → cond past (check logical_block_address_out_of_range) (check internal_target_failure)
+        ≡ unmap_where_broken (cond past (leaving (Present sectors false) (check logical_block_address_out_of_range))
+        (leaving (Present (zeroed sectors lba count) false) (good []))).reply
+    by true = refl
+    by false = refl
+
+-- zeros are cut into zero sectors
+cut-zeros : (n : ℕ) → cut 512 n (replicate (n * 512) 0) ≡ zero_sectors n
+unfolding zero_sector
+cut-zeros zero = refl
+cut-zeros (suc n) =
+    let long : suc n * 512 ≡ 512 + n * 512 = omega (arith, suc-mul n 512) in
+    ap (λ (k : ℕ). cut 512 (suc n) (replicate k 0)) long
+    ∙ ap (λ (l : List ℕ). l ∷ cut 512 n (drop 512 (replicate (512 + n * 512) 0)))
+    (take-replicate 512 (512 + n * 512) 0 (omega arith))
+    ∙ ap (λ (l : List ℕ). replicate 512 0 ∷ cut 512 n l)
+    (drop-replicate 512 (512 + n * 512) 0 ∙ ap (λ (k : ℕ). replicate k 0) (omega arith))
+    ∙ ap (λ (l : List Sector). replicate 512 0 ∷ l) (cut-zeros n)
+
+-- equal numbers pass the test
+eqb-same : (m n : ℕ) → m ≡ n → eqb m n ≡ true
+eqb-same m n same = grind (arith, nat_tests)
+
+-- a WRITE of zeros that is within the unit
+pub zeros_written : (sectors : List Sector) (lba count : ℕ)
+    → unmap_obeyed sectors lba count ≡ write_answer sectors false lba count (replicate (count * 512) 0)
+zeros_written sectors lba count =
+    let sent : not (eqb (length (replicate (count * 512) 0)) (count * 512)) ≡ false =
+    ap not (eqb-same (length (replicate (count * 512) 0)) (count * 512) (length-replicate (count * 512) 0)) in
+    ap (λ (l : List Sector). cond (is_past_end (length sectors) lba count)
+    (leaving (Present sectors false) (check logical_block_address_out_of_range))
+    (leaving (Present (take lba sectors ++ l ++ drop (lba + count) sectors) false) (good []))) (sym (cut-zeros count))
+    ∙ ap (λ (wrong : Bool). cond (is_past_end (length sectors) lba count)
+    (leaving (Present sectors false) (check logical_block_address_out_of_range))
+    (cond wrong (leaving (Present sectors false) (check data_phase_error))
+    (leaving (Present (written sectors lba count (replicate (count * 512) 0)) false) (good [])))) (sym sent)
+
+-- a block that reads as a WRITE isn't an INQUIRY
+write-not_inquiry : (cdb : List ℕ) (lba count : ℕ) (fua : Bool) → reading cdb ≡ Ok (Write lba count fua)
+    → eqb (operation_code cdb) 0x12 ≡ false
+write-not_inquiry cdb lba count fua is = by (eqb (operation_code cdb) 0x12) refl
+  where
+    by : (b : Bool) → eqb (operation_code cdb) 0x12 ≡ b → b ≡ false
+    by false e = refl
+    by true e =
+        absurd (true≢false (sym (ap needs_blocks is) ∙ inquiry-needs_none cdb (eqb-true (operation_code cdb) 0x12 e)))
+
+-- a discard is a WRITE of zeros
+pub unmap-writes_zeros :
+    (state : UnitState) (cdb : List ℕ) (lba count : ℕ) (fua : Bool) → reading cdb ≡ Ok (Write lba count fua)
+    → unmap_answer state lba count ≡ answer state cdb (replicate (count * 512) 0)
+unfolding answer obeyed
+unmap-writes_zeros Absent cdb lba count fua is =
+    let other = write-not_inquiry cdb lba count fua is in rw other refl
+unmap-writes_zeros (Present sectors true) cdb lba count fua is =
+    let other = write-not_inquiry cdb lba count fua is in rw other refl
+unmap-writes_zeros (Present sectors false) cdb lba count fua is =
+    zeros_written sectors lba count
+    ∙ ap (λ (r : Result Command Sense). obeyed sectors false r (replicate (count * 512) 0)) (sym is)

@@ -2,11 +2,12 @@
 use Rattle.std.proofs.Common.{◌≡◌, ◌<◌, ◌+◌, ◌*◌, ℕ, zero, suc, List, [], ◌∷◌, ◌++◌, length, get_or, take, drop, refl}
 use Rattle.std.proofs.Common.{sym, ap, subst, ◌∙◌, arith, append_assoc, add-one, length-append}
 use Rattle.std.specs.List.{concat}
-use Rattle.std.proofs.Math.ListN.{set}
+use Rattle.std.proofs.Math.ListN.{set, length-replicate}
+use Rattle.std.specs.Prelude.{replicate}
 use Rattle.std.proofs.Math.Seq.{set-append_seam, drop-cons}
 use Rattle.std.proofs.Math.Nat.{mul-suc, mul-zero}
-use Rattle.std.proofs.lemmas.List.{append-nil, drop-drop}
-use Rattle.ar_unit.specs.Sectors.{cut}
+use Rattle.std.proofs.lemmas.List.{append-nil, drop-drop, replicate-append-replicate}
+use Rattle.ar_unit.specs.Sectors.{cut, zero_sector, zero_sectors}
 use Rattle.ar_unit.proofs.Laws.{length-cut}
 
 -- lists of one length, joined
@@ -56,3 +57,30 @@ overwrite-more len i bytes sectors old piece d e h p =
     let more : cut len (i + 1) bytes ≡ front ++ piece ∷ [] = rw (add-one, p) (cut-more len i bytes) in
     ap (λ (xs : List (List ℕ)). set xs i piece) (e ∙ ap (λ (ys : List (List ℕ)). front ++ ys) next) ∙ put
     ∙ sym (append_assoc front (piece ∷ []) rest) ∙ ap (λ (xs : List (List ℕ)). xs ++ rest) (sym more)
+
+-- one more zero sector
+zeros-more : (i : ℕ) → zero_sectors (i + 1) ≡ zero_sectors i ++ zero_sector ∷ []
+zeros-more i = sym (replicate-append-replicate i 1 zero_sector)
+
+-- a zero sector written over the next of the old sectors
+pub clear-more :
+    (i : ℕ) (sectors old : List (List ℕ)) (piece d : List ℕ) → sectors ≡ zero_sectors i ++ drop i old
+    → i < length old → piece ≡ zero_sector
+    → set sectors i piece ≡ zero_sectors (i + 1) ++ drop (i + 1) old
+clear-more i sectors old piece d e h p =
+    let front : List (List ℕ) = zero_sectors i in
+    let rest : List (List ℕ) = drop (i + 1) old in
+    let next : drop i old ≡ get_or old i d ∷ rest = rw add-one (drop-cons old i d h) in
+    let put : set (front ++ get_or old i d ∷ rest) i piece ≡ front ++ piece ∷ rest =
+    subst (λ (k : ℕ). set (front ++ get_or old i d ∷ rest) k piece ≡ front ++ piece ∷ rest)
+    (length-replicate i zero_sector)
+    (set-append_seam front (get_or old i d) rest piece) in
+    ap (λ (xs : List (List ℕ)). set xs i piece) (e ∙ ap (λ (ys : List (List ℕ)). front ++ ys) next) ∙ put
+    ∙ ap (λ (x : List ℕ). front ++ x ∷ rest) p
+    ∙ sym (append_assoc front (zero_sector ∷ []) rest)
+    ∙ ap (λ (xs : List (List ℕ)). xs ++ rest) (sym (zeros-more i))
+
+-- 512 zeros
+pub zero_sector-is : (bytes : List ℕ) → bytes ≡ replicate 512 0 → bytes ≡ zero_sector
+unfolding zero_sector
+zero_sector-is bytes is = is

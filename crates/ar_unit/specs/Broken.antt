@@ -12,9 +12,9 @@ use Rattle.ar_scsi.specs.Field.{operation_code}
 use Rattle.ar_scsi.specs.Reading.{reading}
 use Rattle.ar_scsi.specs.Reply.{good, check}
 use Rattle.ar_scsi.specs.Sense.{internal_target_failure, capacity_data_has_changed, logical_block_address_out_of_range}
-use Rattle.ar_scsi.specs.Sense.{data_phase_error}
+use Rattle.ar_scsi.specs.Sense.{data_phase_error, logical_unit_not_supported}
 use Rattle.ar_unit.specs.Unit.{UnitState, Absent, Present, absent_reply, is_past_end, UnitEntry, Make, Grow, Remove}
-use Rattle.ar_unit.specs.Unit.{Cmd}
+use Rattle.ar_unit.specs.Unit.{Cmd, Unmap}
 
 -- whether the unit is present, its number of sectors, and whether a UNIT ATTENTION is pending (its mark)
 pub record Shape : Type 0 where
@@ -27,13 +27,15 @@ abbrev pub shape_of : UnitState → Shape
 shape_of Absent = record { present = false; sectors = 0; attention = false }
 shape_of (Present sectors attention) = record { present = true; sectors = length sectors; attention = attention }
 
--- the shape after an entry: any command but INQUIRY clears a pending UNIT ATTENTION, and a command changes nothing else
+-- the shape after an entry: any command but INQUIRY, and a discard, clears a pending UNIT ATTENTION, and changes nothing
+-- else
 abbrev pub shape_after : Shape → UnitEntry → Shape
 shape_after shape (Make n) = record { present = true; sectors = n; attention = false }
 shape_after shape (Grow n) =
     if shape.present then (record { present = true; sectors = max shape.sectors n; attention = true }) else shape
 shape_after shape Remove = record { present = false; sectors = 0; attention = false }
 shape_after shape (Cmd cdb bytes) = record shape { attention = shape.attention && (operation_code cdb == 0x12) }
+shape_after shape (Unmap lba count) = record shape { attention = false }
 
 -- the command accesses the unit's blocks or, as TEST UNIT READY, reports that they can be accessed
 abbrev pub needs_blocks : Result Command Sense → Bool
@@ -71,3 +73,15 @@ broken_answer shape cdb sent =
     if not shape.present then absent_reply cdb
     else (if shape.attention && not (operation_code cdb == 0x12) then check capacity_data_has_changed
     else broken_obeyed shape.sectors (reading cdb) sent)
+
+-- a failed array's reply in place of `reply` to a discard: HARDWARE ERROR for GOOD
+abbrev pub unmap_where_broken : Reply → Reply
+unmap_where_broken reply = if is_good reply.status then check internal_target_failure else reply
+
+-- its reply to a discard of `count` sectors from `lba` on, by the unit's shape alone
+abbrev pub broken_unmap : Shape → ℕ → ℕ → Reply
+broken_unmap shape lba count =
+    if not shape.present then check logical_unit_not_supported
+    else (if shape.attention then check capacity_data_has_changed
+    else (if is_past_end shape.sectors lba count then check logical_block_address_out_of_range
+    else check internal_target_failure))

@@ -26,3 +26,7 @@ cut len (suc n) bytes = take len bytes ∷ cut len n (drop len bytes)
 -- the sectors, `count` of them from `lba` on overwritten by `bytes`
 abbrev pub written : List Sector → ℕ → ℕ → List ℕ → List Sector
 written sectors lba count bytes = take lba sectors ++ cut 512 count bytes ++ drop (lba + count) sectors
+
+-- the sectors, `count` of them from `lba` on zero
+abbrev pub zeroed : List Sector → ℕ → ℕ → List Sector
+zeroed sectors lba count = take lba sectors ++ zero_sectors count ++ drop (lba + count) sectors

@@ -12,7 +12,7 @@ use Rattle.ar_scsi.specs.Reading.{reading}
 use Rattle.ar_scsi.specs.Reply.{good, check, busy}
 use Rattle.ar_scsi.specs.Sense.{logical_unit_not_supported, capacity_data_has_changed}
 use Rattle.ar_scsi.specs.Sense.{logical_block_address_out_of_range, data_phase_error}
-use Rattle.ar_unit.specs.Sectors.{Sector, zero_sectors, joined, written}
+use Rattle.ar_unit.specs.Sectors.{Sector, zero_sectors, joined, written, zeroed}
 
 -- absent; or its sectors, and whether a UNIT ATTENTION is pending since it has grown (SAM-3, Unit attention condition)
 pub data UnitState : Type 0 where
@@ -76,6 +76,21 @@ answer (Present sectors true) cdb bytes =
     else leaving (Present sectors false) (check capacity_data_has_changed)
 answer (Present sectors false) cdb bytes = obeyed sectors false (reading cdb) bytes
 
+-- the reply to a discard (UNMAP) of these sectors with no UNIT ATTENTION to report, and the unit after it: they are
+-- zeros
+abbrev pub unmap_obeyed : List Sector → ℕ → ℕ → Answered
+unmap_obeyed sectors lba count =
+    if is_past_end (length sectors) lba count then leaving (Present sectors false)
+    (check logical_block_address_out_of_range)
+    else leaving (Present (zeroed sectors lba count) false) (good [])
+
+-- The reply to a discard (UNMAP) of `count` sectors from `lba` on, and the unit after it, as to a WRITE of zeros there.
+-- An absent unit comes first, then a pending UNIT ATTENTION, which it reports and clears, then the range.
+abbrev pub unmap_answer : UnitState → ℕ → ℕ → Answered
+unmap_answer Absent lba count = leaving Absent (check logical_unit_not_supported)
+unmap_answer (Present sectors true) lba count = leaving (Present sectors false) (check capacity_data_has_changed)
+unmap_answer (Present sectors false) lba count = unmap_obeyed sectors lba count
+
 -- the reply of a program, whose allocations may fail: the model's (`table`), or BUSY where the model's reply has data
 pub record IsGiven (table reply : Reply) : Type 0 where
   pub answered : reply.status ≢ Busy → reply ≡ table
@@ -99,12 +114,13 @@ abbrev pub IsWhole : UnitState → Type 0
 IsWhole Absent = Unit {0}
 IsWhole (Present sectors attention) = All (λ sector. length sector ≡ 512) sectors
 
--- a unit's create, resize, delete or command
+-- a unit's create, resize, delete, command or discard
 pub data UnitEntry : Type 0 where
   Make : (sectors : ℕ) → UnitEntry
   Grow : (sectors : ℕ) → UnitEntry
   Remove : UnitEntry
   Cmd : (cdb bytes : List ℕ) → UnitEntry
+  Unmap : (lba count : ℕ) → UnitEntry
 
 -- the unit after an entry
 abbrev pub after : UnitState → UnitEntry → UnitState
@@ -113,6 +129,7 @@ after Absent (Grow n) = Absent
 after (Present sectors attention) (Grow n) = Present (sectors ++ zero_sectors (n - length sectors)) true
 after state Remove = Absent
 after state (Cmd cdb bytes) = (answer state cdb bytes).state
+after state (Unmap lba count) = (unmap_answer state lba count).state
 
 -- the unit after these entries, in order
 abbrev pub unit_run : UnitState → List UnitEntry → UnitState

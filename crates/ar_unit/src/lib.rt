@@ -2,10 +2,14 @@
 //! cache and no other unit occurs in it.
 #![tactic(auto)]
 
-ghost use Rattle.std.specs.Prelude.{◌≡◌, ◌≢◌, ◌++◌, ℕ, [], List, length};
+ghost use Rattle.std.specs.Prelude.{◌≡◌, ◌≢◌, ◌++◌, ◌*◌, ℕ, Bool, Ok, [], List, length, replicate};
+ghost use Rattle.ar_scsi.specs.declared.command.Command.TheVariants.{Write};
 ghost use Rattle.ar_scsi.specs.declared.reply.Status.TheVariants.{Busy};
-ghost use Rattle.ar_unit.specs.Broken.{shape_of, shape_after, broken_answer, where_broken};
-ghost use Rattle.ar_unit.specs.Unit.{UnitState, IsWhole, TakesNoMemory, UnitEntry, answer, after, unit_run};
+ghost use Rattle.ar_scsi.specs.Reading.{reading};
+ghost use Rattle.ar_unit.specs.Broken.{shape_of, shape_after, broken_answer, where_broken, broken_unmap};
+ghost use Rattle.ar_unit.specs.Broken.{unmap_where_broken};
+ghost use Rattle.ar_unit.specs.Unit.{UnitState, IsWhole, TakesNoMemory, UnitEntry, answer, unmap_answer, after};
+ghost use Rattle.ar_unit.specs.Unit.{unit_run};
 
 mod plain;
 mod reply;
@@ -51,4 +55,22 @@ pub fn sectors_stay_whole()
 pub fn broken_replies_go_by_shape()
     ensures { (state : UnitState) (cdb bytes : List ℕ)
         → broken_answer (shape_of state) cdb (length bytes) ≡ where_broken cdb (answer state cdb bytes).reply }
+{}
+
+/// Law: a discard is a WRITE of zeros to its sectors.
+pub fn unmaps_are_writes_of_zeros()
+    ensures { (state : UnitState) (cdb : List ℕ) (lba count : ℕ) (fua : Bool) → reading cdb ≡ Ok (Write lba count fua)
+        → unmap_answer state lba count ≡ answer state cdb (replicate (count * 512) 0) }
+{}
+
+/// Law: no reply to a discard is BUSY or has data.
+pub fn unmaps_take_no_memory()
+    ensures busy { (state : UnitState) (lba count : ℕ) → (unmap_answer state lba count).reply.status ≢ Busy }
+    ensures bytes { (state : UnitState) (lba count : ℕ) → (unmap_answer state lba count).reply.payload ≡ [] }
+{}
+
+/// Law: a failed array's reply to a discard depends on presence, length and pending UNIT ATTENTION.
+pub fn broken_unmaps_go_by_shape()
+    ensures { (state : UnitState) (lba count : ℕ)
+        → broken_unmap (shape_of state) lba count ≡ unmap_where_broken (unmap_answer state lba count).reply }
 {}

@@ -1,5 +1,6 @@
 // The model as a program: a unit is a vector of sectors. A call that is out of memory leaves it unchanged.
-ghost use Rattle.std.specs.Prelude.{◌≡◌, ◌+◌, ◌-◌, ◌++◌, ◌*◌, ◌<◌, ◌≤◌, ◌^◌, Bool, true, if◌then◌else◌, length, OnOk};
+ghost use Rattle.std.specs.Prelude.{◌≡◌, ◌+◌, ◌-◌, ◌++◌, ◌*◌, ◌<◌, ◌≤◌, ◌^◌, Bool, true, false, length, OnOk};
+ghost use Rattle.std.specs.Prelude.{if◌then◌else◌};
 ghost use Rattle.std.specs.Prelude.{OnErr, IfOk, vec_len};
 ghost use Rattle.std.specs.List.{concat};
 ghost use Rattle.ar_scsi.specs.Data as table;
@@ -8,7 +9,7 @@ ghost use Rattle.ar_unit.specs.Broken.{shape_of};
 ghost use Rattle.ar_unit.specs.Sectors.{cut, zero_sectors};
 ghost use Rattle.ar_unit.specs.Unit as unit;
 ghost use Rattle.ar_unit.specs.Unit.{Absent, Present, Make, Grow, Remove, answer, after, obeyed, leaving, read_reply};
-ghost use Rattle.ar_unit.specs.Unit.{write_answer, IsGiven, IsServed};
+ghost use Rattle.ar_unit.specs.Unit.{write_answer, unmap_answer, unmap_obeyed, IsGiven, IsServed};
 
 use crate::reply::{absent, capacity, inquiry, is_past_end, with_bytes};
 use ar_scsi::{Command, Reply, Sense, decode, is_inquiry};
@@ -105,6 +106,21 @@ impl PlainUnit {
             Err(sense) => Reply::check(sense),
         }
     }
+
+    /// Discards `count` sectors from `lba` on (UNMAP): they are zeros afterwards. The reply is that to a WRITE of them,
+    /// and never BUSY.
+    pub fn unmap(&mut self, lba: u64, count: u32) -> Reply
+        ensures { leaving self.new result ≡ unmap_answer self.old lba count }
+    {
+        if !self.present {
+            return Reply::check(Sense::LOGICAL_UNIT_NOT_SUPPORTED);
+        }
+        if self.attention {
+            self.attention = false;
+            return Reply::check(Sense::CAPACITY_DATA_HAS_CHANGED);
+        }
+        discard(&mut self.sectors, lba, count)
+    }
 }
 
 // Executes a valid command on a present unit.
@@ -130,7 +146,7 @@ fn read(alloc: Global, sectors: &Vec<[u8; 512]>, lba: u64, count: u16) -> Reply
     requires few { vec_len sectors.now < 2 ^ 32 }
     ensures { IsGiven (read_reply sectors.now.items lba count) result }
 {
-    if is_past_end(sectors.len() as u32, lba, count) {
+    if is_past_end(sectors.len() as u32, lba, u32::from(count)) {
         return Reply::check(Sense::LOGICAL_BLOCK_ADDRESS_OUT_OF_RANGE);
     }
     let first = lba as usize;
@@ -171,7 +187,7 @@ fn write(sectors: &mut Vec<[u8; 512]>, lba: u64, count: u16, bytes: &[u8]) -> Re
         ≡ write_answer sectors.old.items attention lba count bytes.now }
     ensures len { vec_len sectors.new ≡ vec_len sectors.old }
 {
-    if is_past_end(sectors.len() as u32, lba, count) {
+    if is_past_end(sectors.len() as u32, lba, u32::from(count)) {
         return Reply::check(Sense::LOGICAL_BLOCK_ADDRESS_OUT_OF_RANGE);
     }
     if bytes.len() != usize::from(count) * 512 {
@@ -191,6 +207,31 @@ fn overwrite(sectors: &mut [[u8; 512]], bytes: &[u8])
     for i in 0..sectors.len() {
         let sector = &mut sectors[i];
         sector.copy_from_slice(&bytes[512 * i..512 * (i + 1)]);
+    }
+}
+
+// Sets the range to zero.
+fn discard(sectors: &mut Vec<[u8; 512]>, lba: u64, count: u32) -> Reply
+    requires few { vec_len sectors.old < 2 ^ 32 }
+    ensures served { leaving (Present sectors.new.items false) result ≡ unmap_obeyed sectors.old.items lba count }
+    ensures len { vec_len sectors.new ≡ vec_len sectors.old }
+{
+    if is_past_end(sectors.len() as u32, lba, count) {
+        return Reply::check(Sense::LOGICAL_BLOCK_ADDRESS_OUT_OF_RANGE);
+    }
+    let first = lba as usize;
+    let end = first + count as usize;
+    clear(&mut sectors[first..end]);
+    Reply::good(Bytes::new())
+}
+
+// Sets the sectors to zero.
+fn clear(sectors: &mut [[u8; 512]])
+    ensures { sectors.new ≡ zero_sectors (length sectors.old) }
+{
+    for i in 0..sectors.len() {
+        let sector = &mut sectors[i];
+        sector.copy_from_slice(&ZERO_SECTOR);
     }
 }
 

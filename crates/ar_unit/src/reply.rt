@@ -52,7 +52,7 @@ pub fn capacity(alloc: Global, sectors: u32) -> Reply
 
 /// Whether the range of `count` sectors from `lba` on ends past a unit of `sectors` sectors. The sum, in 128 bits,
 /// doesn't overflow.
-pub fn is_past_end(sectors: u32, lba: u64, count: u16) -> bool
+pub fn is_past_end(sectors: u32, lba: u64, count: u32) -> bool
     ensures { result ≡ nat_lt sectors (lba + count) }
 {
     u128::from(lba) + u128::from(count) > u128::from(sectors)

@@ -142,8 +142,15 @@ some_mod : (g : Geometry) (i : ℕ) → i % sectors_of g < sectors_of g
 some_mod Paper i = omega arith
 some_mod Small i = omega arith
 
+-- a sector of zeros
+pub sectors_at-zero : (n i : ℕ) → i < n → sectors_at (zeros (n * 512)) i 1 ≡ zero_sector
+unfolding zeros zero_sector
+sectors_at-zero n i within =
+    sectors_at_is (replicate (n * 512) 0) i 1 ∙ ap (λ l. take 512 l) (drop-replicate (512 * i) (n * 512) 0)
+    ∙ take-replicate 512 (n * 512 - 512 * i) 0 (omega arith)
+
 -- a sector of a block of zeros
-sectors_at-zeros : (g : Geometry) (f : ℕ) → f < sectors_of g → sectors_at (zeros (block_len_of g)) f 1 ≡ zero_sector
+pub sectors_at-zeros : (g : Geometry) (f : ℕ) → f < sectors_of g → sectors_at (zeros (block_len_of g)) f 1 ≡ zero_sector
 unfolding zeros zero_sector
 sectors_at-zeros Paper f within =
     sectors_at_is (replicate 65536 0) f 1 ∙ ap (λ l. take 512 l) (drop-replicate (512 * f) 65536 0)

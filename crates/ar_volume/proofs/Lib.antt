@@ -1,5 +1,6 @@
 pub mod Balancing
 pub mod Breaking
+pub mod Discarding
 pub mod Flushing
 pub mod Images
 pub mod Moving

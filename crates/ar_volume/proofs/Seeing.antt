@@ -1,6 +1,6 @@
 -- What is seen under keys, and what calls of the store and of the cache leave of it.
-use Rattle.std.proofs.Common.{◌≡◌, ◌↔◌, ℕ, ◌/◌, ◌<◌, ◌≤◌, Bool, true, false, nat_lt, IsTrue, is_some, List, [], ◌∷◌}
-use Rattle.std.proofs.Common.{length, Option, None, Some, option_map, MatchOption, map, get_or, Result, Ok, Err, OnOk}
+use Rattle.std.proofs.Common.{◌≡◌, ◌↔◌, ℕ, ◌/◌, ◌<◌, ◌≤◌, Bool, true, false, nat_lt, IsTrue, is_some, List, []}
+use Rattle.std.proofs.Common.{length, Option, None, Some, option_map, MatchOption, Result, Ok, Err, OnOk}
 use Rattle.std.proofs.Common.{OnErr, refl, sym, ap, subst, ◌∙◌, inl, inr, true≢false, length-append, arith}
 use Rattle.std.specs.Option.{unwrap_or}
 use Rattle.std.specs.Map.{lookup}
@@ -15,7 +15,7 @@ use Rattle.ar_extents.specs.declared.health.Health.{Health}
 use Rattle.ar_extents.specs.declared.health.Health.TheVariants.{Whole, Out, Rebuilding, Broken as AllBroken}
 use Rattle.ar_disks.specs.declared.completion.Completion.{Completion}
 use Rattle.ar_disks.specs.declared.completion.Completion.TheVariants.{Done, Broken as NotDone}
-use Rattle.ar_extents.specs.Set.{SetState, disk_in}
+use Rattle.ar_extents.specs.Set.{SetState}
 use Rattle.ar_extents.specs.Changes.{is_broken_set, started}
 use Rattle.ar_extents.specs.Groups.{outcome_of}
 use Rattle.ar_extents.proofs.Losses.{stays_broken}

@@ -13,6 +13,7 @@ pub mod Seen
 pub mod Start
 pub mod Storing
 pub mod Texts
+pub mod Unmap
 -- the words of lower crates that clauses of this crate cite
 pub use Rattle.ar_store.specs.Store
 pub use Rattle.ar_store.specs.Slots

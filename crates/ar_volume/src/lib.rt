@@ -17,6 +17,7 @@ mod new_disk;
 mod rebuild;
 mod refusal;
 mod transfer;
+mod unmap;
 
 pub use ar_book::{Refusal as UnitRefusal, Slot};
 pub use ar_cache::{Backing, CAPACITY_LIMIT, Flush};

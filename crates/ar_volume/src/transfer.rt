@@ -3,13 +3,13 @@ ghost use Rattle.std.specs.Prelude.{◌≡◌, ◌≢◌, ◌⊎◌, ◌+◌, �
 ghost use Rattle.std.specs.List.{concat};
 ghost use Rattle.ar_disks.specs.declared.address.Key.{Key};
 ghost use Rattle.ar_disks.specs.Geometry.{sectors_of, block_len_of};
-ghost use Rattle.ar_disks.specs.Block.{sectors_at};
+ghost use Rattle.ar_disks.specs.Block.{sectors_at, with_sectors, zeros};
 ghost use Rattle.ar_cache.specs.Backing.{stored, InTurn, StopsInTurn, KeepsBacking, SameBlocks};
 ghost use Rattle.ar_volume.specs.Sectors.{sector_in, sectors_in, key_of, keys_in, unit_block};
 ghost use Rattle.ar_volume.specs.Storing.{Overwrites, ReadsFirst, Replaces, StopsOver, StopsReading, StopsReplacing};
 
 use ar_cache::Backing;
-use ar_disks::{Addr, Block, Completion, Geometry, Key, SECTOR_LEN};
+use ar_disks::{Addr, Block, Completion, Geometry, Key, SECTOR_LEN, zero};
 
 #[tactic(auto, unfolding(ar_disks::specs::Block::sectors_at))]
 // Reads sectors of one block into `out`: a whole block without a copy on the way, part of one by way of `block`.
@@ -141,6 +141,54 @@ fn write_part<B: Backing>(
             blocks.put(key, block.bytes())
         }
     }
+}
+
+// Overwrites sectors of one block with zeros. The block is read first.
+pub(crate) fn zero_part<B: Backing>(
+    blocks: &mut B,
+    geometry: Geometry,
+    key: Key,
+    first: usize,
+    count: usize,
+    block: &mut Block,
+) -> Completion
+    requires shape { geometry ≡ B.geometry blocks.old }
+    requires known { IsTrue (B.knows blocks.old key) }
+    requires whole { length block.old ≡ block_len_of geometry }
+    requires within { first + count ≤ sectors_of geometry }
+
+    ensures inside { result ≡ Completion.Done → (i : ℕ) → first ≤ i → i < first + count
+        → sectors_at (B.block_at blocks.new key) i 1 ≡ sectors_at (zeros (count * 512)) (i - first) 1 }
+    ensures outside { result ≡ Completion.Done → (i : ℕ) → (i < first) ⊎ (first + count ≤ i) → i < sectors_of geometry
+        → sectors_at (B.block_at blocks.new key) i 1 ≡ sectors_at (B.block_at blocks.old key) i 1 }
+    ensures others { result ≡ Completion.Done → (k : Key) → k ≢ key
+        → B.block_at blocks.new k ≡ B.block_at blocks.old k }
+    ensures puts { result ≡ Completion.Done → Replaces B.gets B.puts false blocks.old key blocks.new }
+    ensures stopped { result ≡ Completion.Broken
+        → StopsReplacing B.gets B.breaks B.is_broken false blocks.old key blocks.new }
+
+    ensures answer { result ≡ stored (B.is_broken blocks.new) }
+    ensures keeps { KeepsBacking B.geometry B.knows B.is_broken B.follows blocks.old blocks.new }
+    ensures len { length block.new ≡ length block.old }
+{
+    match blocks.get(key, block.bytes_mut()) {
+        Completion::Broken => Completion::Broken,
+        Completion::Done => {
+            zero_sectors(block, first, count);
+            blocks.put(key, block.bytes())
+        }
+    }
+}
+
+#[tactic(auto, unfolding(ar_disks::specs::Block::with_sectors))]
+// Overwrites sectors of a block with zeros.
+fn zero_sectors(block: &mut Block, first: usize, count: usize)
+    requires { 512 * (first + count) ≤ length block.old }
+    ensures zeroed { block.new ≡ with_sectors block.old first (zeros (count * 512)) }
+    ensures len { length block.new ≡ length block.old }
+{
+    let bytes = block.bytes_mut();
+    zero(&mut bytes[first * SECTOR_LEN..(first + count) * SECTOR_LEN]);
 }
 
 /// Overwrites sectors `lba` to `lba + count - 1` of a unit, all below 1,048,576, with `bytes`, block by block in

@@ -62,6 +62,9 @@ impl<L: Ledger> Rig<L> {
                 cdb,
                 payload,
             } => OutcomeOf::Cmd(self.host(host.number(), lun, cdb, payload).reply),
+            EventOf::Unmap(unit, lba, count) => {
+                OutcomeOf::Unmap(self.kept.discard(unit.host, unit.lun, lba, count))
+            }
             EventOf::Make(unit, sectors) => self.operate(OperationOf::Make(unit, sectors)),
             EventOf::Grow(unit, sectors) => self.operate(OperationOf::Grow(unit, sectors)),
             EventOf::Remove(unit) => self.operate(OperationOf::Remove(unit)),

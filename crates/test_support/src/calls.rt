@@ -156,7 +156,7 @@ fn command(addr: Addr, bytes: [u8; 10], payload: Bytes) -> Event<FuseDisk> {
 /// What an array returned.
 pub fn returned<N>(outcome: &OutcomeOf<N>) -> Return {
     match outcome {
-        OutcomeOf::Cmd(reply) => returned_of(reply),
+        OutcomeOf::Cmd(reply) | OutcomeOf::Unmap(reply) => returned_of(reply),
         OutcomeOf::Make(done)
         | OutcomeOf::Grow(done)
         | OutcomeOf::Remove(done)

@@ -1,19 +1,15 @@
-use Rattle.std.proofs.Common.{◌≡◌, ◌≢◌, ℕ, [], false, IsTrue, List, length, refl, subst, sym, ap, ◌∙◌, arith}
-use Rattle.ar_disks.specs.declared.address.Addr.{Addr}
+use Rattle.std.proofs.Common.{◌≡◌, length, refl, subst, sym, ap, ◌∙◌, arith}
 use Rattle.ar_disks.specs.declared.address.Key.{Key}
 use Rattle.ar_disks.specs.declared.geometry.Geometry.{Geometry}
 use Rattle.ar_disks.specs.Geometry.{block_len_of}
-use Rattle.ar_scsi.specs.Reply.{good, check, busy}
+use Rattle.ar_scsi.specs.Reply.{good, check}
 use Rattle.ar_scsi.specs.Sense.{internal_target_failure}
-use Rattle.ar_scsi.specs.declared.reply.Reply.{Reply}
-use Rattle.ar_scsi.specs.declared.reply.Status.{Status}
-use Rattle.ar_scsi.specs.declared.reply.Status.TheVariants.{Good, CheckCondition, Busy}
-use Rattle.ar_unit.specs.Unit.{IsGiven, leaving}
-use Rattle.ar_volume.specs.Image.{ArrayState, is_broken, geometry_of, seen_at}
+use Rattle.ar_unit.specs.Unit.{leaving}
+use Rattle.ar_volume.specs.Image.{ArrayState, geometry_of, seen_at}
 use Rattle.ar_volume.specs.Following.{ArrayFollows}
 use Rattle.std.specs.List.{concat}
 use Rattle.ar_volume.specs.Sectors.{sectors_in, unit_block}
-use Rattle.ar_volume.specs.Seen.{SameSeen, present_at, sectors_read}
+use Rattle.ar_volume.specs.Seen.{present_at, sectors_read}
 use Rattle.ar_core.specs.Served.{Serves}
 use Rattle.ar_core.proofs.Events.{padded_follows}
 use Rattle.ar_core.proofs.Serving.{serves_read, sectors_read-some}

@@ -1,7 +1,7 @@
 use Rattle.std.proofs.Common.{List, sym, subst, ◌∙◌}
 use Rattle.ar_history.specs.declared.entry.Entry.{Entry}
 use Rattle.ar_history.specs.Kept.{KeptState, HistoryAgrees}
-use Rattle.ar_history.proofs.Changing.{done_kept}
+use Rattle.ar_history.proofs.Changing.{done_kept, not_done_kept}
 use Rattle.ar_history.proofs.live.LiveArray.change.Goals as goal
 
 pub invariant_of-self : goal.invariant_of-self
@@ -19,4 +19,19 @@ returns-then-is_done-clause-kept g c = record {
       (done_kept c.self.inside.array c.step-outcome.new.self c.args.event c.step-outcome.result
       c.self.inside.history.entries c.args.entry.now c.self.invariant
       c.step-outcome.ensures c.requires (sym c.is_done.ensures ∙ c.if-is_done.true));
+}
+
+pub invariant_of-self-else-is_done : goal.invariant_of-self-else-is_done
+invariant_of-self-else-is_done g c =
+    not_done_kept c.self.inside.array c.step-outcome.new.self c.args.event c.step-outcome.result
+    c.self.inside.history.entries c.args.entry.now c.self.invariant c.step-outcome.ensures c.requires
+    (sym c.is_done.ensures ∙ c.if-is_done.false)
+
+pub returns-else-is_done-clause-kept : goal.returns-else-is_done-clause-kept
+returns-else-is_done-clause-kept g c = record {
+  before = subst (λ (k : KeptState). HistoryAgrees k.array k.history) c.self.view_is c.self.invariant;
+  after =
+      not_done_kept c.self.inside.array c.step-outcome.new.self c.args.event c.step-outcome.result
+      c.self.inside.history.entries c.args.entry.now c.self.invariant c.step-outcome.ensures c.requires
+      (sym c.is_done.ensures ∙ c.if-is_done.false);
 }

@@ -1,0 +1,123 @@
+// Discards of a unit's sectors, for its host (UNMAP). Each is one step of the array and, unless the array has failed, the
+// history's next entry.
+ghost use Rattle.std.specs.Prelude.{◌≡◌, ◌<◌, true, false, length};
+ghost use Rattle.ar_volume.specs.Image.{is_broken};
+ghost use Rattle.ar_core.specs.Step.{Steps, addr_in, is_busy};
+ghost use Rattle.ar_history.specs.Counts.{CountsNothing, CountsOperation};
+ghost use Rattle.ar_history.specs.Kept.{StaysKept};
+ghost use Rattle.ar_history.specs.Operations.{Does};
+ghost use Rattle.ar_history.specs.Serving.{AllocatesOne, LeavesUnbegun, ServesUnmap};
+
+use crate::live::is_lost;
+use crate::{Entry, Kept, LiveArray};
+use ar_core::{Array, EventOf, OutcomeOf};
+use ar_disks::{Addr, Disk, Host};
+use ar_scsi::Reply;
+use std::alloc::Global;
+use std::sync::ledger::Ledger;
+
+impl<D: Disk + Drop> LiveArray<D> {
+    /// Discards `count` sectors of a host's LUN from `lba` on, and returns the reply, which is that to a WRITE of zeros to
+    /// them and never BUSY. The history grows by the discard, unless the array has failed after it.
+    pub fn discard(&mut self, host: Host, lun: u8, lba: u64, count: u32) -> Reply
+        ensures serves { ServesUnmap self.old.array self.old.history (addr_in host lun) lba count result self.new.array
+            self.new.history }
+        ensures steps { Steps self.old.array (EventOf.Unmap (addr_in host lun) lba count) (OutcomeOf.Unmap result)
+            self.new.array }
+        ensures kept { StaysKept self.old self.new }
+        ensures counts { CountsOperation self.old self.new }
+        ensures room { self.new.room ≡ self.old.room }
+    {
+        let reply = self.unmap(Addr { host, lun }, lba, count);
+        self.count_event();
+        reply
+    }
+
+    // Discards sectors, and counts nothing.
+    fn unmap(&mut self, addr: Addr, lba: u64, count: u32) -> Reply
+        ensures serves { ServesUnmap self.old.array self.old.history addr lba count result self.new.array
+            self.new.history }
+        ensures steps { Steps self.old.array (EventOf.Unmap addr lba count) (OutcomeOf.Unmap result) self.new.array }
+        ensures kept { StaysKept self.old self.new }
+        ensures uncounted { CountsNothing self.old self.new }
+        ensures room { self.new.room ≡ self.old.room }
+    {
+        let reply = unmap(&mut self.array, self.alloc, addr, lba, count);
+        let lost = is_lost(&self.array);
+        self.history
+            .push_unless(&Entry::Unmap(addr, lba, count), lost);
+        reply
+    }
+}
+
+impl<D: Disk + Drop, L: Ledger> Kept<D, L> {
+    /// Discards `count` sectors of a host's LUN from `lba` on, and returns the reply, which is that to a WRITE of zeros to
+    /// them. The history grows by the discard, unless the array has failed after it; no transcript does. If a full
+    /// history can't grow, the reply is BUSY and nothing is done; nothing is allocated on a failed array.
+    pub fn discard(&mut self, host: Host, lun: u8, lba: u64, count: u32) -> Reply
+        ensures serves { is_busy result.status ≡ false
+            → ServesUnmap self.old.array self.old.history (addr_in host lun) lba count result self.new.array
+            self.new.history }
+        ensures does { Does self.old.array (EventOf.Unmap (addr_in host lun) lba count) (OutcomeOf.Unmap result)
+            self.new.array }
+        ensures unbegun { is_busy result.status ≡ true → LeavesUnbegun self.old result self.new }
+        ensures begun { length self.old.history < self.new.room → is_busy result.status ≡ false }
+        ensures kept { StaysKept self.old self.new }
+        ensures counts { CountsOperation self.old self.new }
+        ensures memory { AllocatesOne self.old self.new }
+    {
+        // The type's invariant holds before the discard.
+        let _ = &self.live;
+        let reply = self.unmap(Addr { host, lun }, lba, count);
+        self.live.count_event();
+        reply
+    }
+
+    // Discards sectors, and counts nothing.
+    fn unmap(&mut self, addr: Addr, lba: u64, count: u32) -> Reply
+        ensures serves { is_busy result.status ≡ false
+            → ServesUnmap self.old.array self.old.history addr lba count result self.new.array self.new.history }
+        ensures does { Does self.old.array (EventOf.Unmap addr lba count) (OutcomeOf.Unmap result) self.new.array }
+        ensures unbegun { is_busy result.status ≡ true → LeavesUnbegun self.old result self.new }
+        ensures begun { length self.old.history < self.new.room → is_busy result.status ≡ false }
+        ensures uncounted { CountsNothing self.old self.new }
+        ensures memory { AllocatesOne self.old self.new }
+    {
+        if !self.can_record() {
+            return Reply::busy();
+        }
+        self.unmap_recorded(addr, lba, count)
+    }
+
+    // Discards sectors, where the discard can be recorded.
+    fn unmap_recorded(&mut self, addr: Addr, lba: u64, count: u32) -> Reply
+        requires room { is_broken self.old.array ≡ false → length self.old.history < self.old.room }
+        ensures serves { ServesUnmap self.old.array self.old.history addr lba count result self.new.array
+            self.new.history }
+        ensures steps { Steps self.old.array (EventOf.Unmap addr lba count) (OutcomeOf.Unmap result) self.new.array }
+        ensures uncounted { CountsNothing self.old self.new }
+        ensures room { self.new.room ≡ self.old.room }
+    {
+        let reply = self.live.unmap(addr, lba, count);
+        if !self.live.is_lost() {
+            self.history.push_reserved(Entry::Unmap(addr, lba, count));
+        }
+        reply
+    }
+}
+
+// Discards sectors on the array.
+fn unmap<D: Disk + Drop>(
+    array: &mut Array<D>,
+    alloc: Global,
+    addr: Addr,
+    lba: u64,
+    count: u32,
+) -> Reply
+    ensures { Steps array.old (EventOf.Unmap addr lba count) (OutcomeOf.Unmap result) array.new }
+{
+    match array.step(alloc, EventOf::Unmap(addr, lba, count)) {
+        OutcomeOf::Unmap(reply) => reply,
+        _ => unreachable!(),
+    }
+}
