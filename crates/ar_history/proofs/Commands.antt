@@ -335,6 +335,7 @@ unrecorded old before lun cdb payload reply new serves none = record {
   history = unrecorded_history old.array new.array before.host lun cdb payload reply old.history new.history serves
       none;
   transcript = refl;
+  commands = refl;
   busy_is = λ sound. serves.busy_is sound (then_busy (is_broken new.array) (is_busy reply.status) none sound);
   images = λ sound. serves.images sound (then_busy (is_broken new.array) (is_busy reply.status) none sound);
   broken = serves.broken;
@@ -350,6 +351,7 @@ pub unrecorded_busy : (old : KeptState) (before : SeatState) (lun : ℕ) (cdb pa
 unrecorded_busy old before lun cdb payload first new steps none now same = record {
   history = same;
   transcript = refl;
+  commands = refl;
   busy_is = λ _. refl;
   images = λ _. same_images old.array new.array before.host lun cdb payload first steps none now;
   broken = λ lost. absurd (let no : true ≡ false = sym lost ∙ now in cc);
@@ -375,15 +377,17 @@ pub recorded : (old : KeptState) (before : SeatState) (lun : ℕ) (cdb payload :
     → ServesCommand old.array old.history before.host lun cdb payload reply new.array now
     → is_recorded new.array reply ≡ true
     → position ≡ length old.history → new.history ≡ old.history ++ Cmd before.host ours ∷ []
-    → after.transcript ≡ before.transcript ++ theirs ∷ []
+    → after.transcript ≡ before.transcript ++ theirs ∷ [] → after.commands ≡ before.commands + 1
     → ours ≡ exchange_of lun cdb payload reply → theirs ≡ exchange_of lun cdb payload reply
     → IsRecorded old before lun cdb payload reply position new after
-recorded old before lun cdb payload reply position new after now ours theirs serves is at history transcript one other =
+recorded old before lun cdb payload reply position new after now ours theirs serves is at history transcript more one
+    other =
     let parts = recorded_parts (is_broken new.array) (is_busy reply.status) is in
     record {
       position_is = at;
       history = history ∙ ap (λ (x : Exchange). old.history ++ Cmd before.host x ∷ []) one;
       transcript = transcript ∙ ap (λ (x : Exchange). before.transcript ++ x ∷ []) other;
+      commands = more;
       reply_is = serves.reply_is is;
       not_busy = parts.1;
       sound = parts.0;
@@ -397,6 +401,7 @@ serves_roomy : (old : KeptState) (before : SeatState) (room seat_room : ℕ) (lu
 serves_roomy old before room seat_room lun cdb payload reply None new after serves = record {
   history = serves.history;
   transcript = serves.transcript;
+  commands = serves.commands;
   busy_is = serves.busy_is;
   images = serves.images;
   broken = serves.broken;
@@ -406,6 +411,7 @@ serves_roomy old before room seat_room lun cdb payload reply (Some position) new
   position_is = serves.position_is;
   history = serves.history;
   transcript = serves.transcript;
+  commands = serves.commands;
   reply_is = serves.reply_is;
   not_busy = serves.not_busy;
   sound = serves.sound;
@@ -430,6 +436,7 @@ pub serves_counted : (old : KeptState) (before : SeatState) (lun : ℕ) (cdb pay
 serves_counted old before lun cdb payload reply None new after counts events serves = record {
   history = serves.history;
   transcript = serves.transcript;
+  commands = serves.commands;
   busy_is = serves.busy_is;
   images = serves.images;
   broken = serves.broken;
@@ -439,6 +446,7 @@ serves_counted old before lun cdb payload reply (Some position) new after counts
   position_is = serves.position_is;
   history = serves.history;
   transcript = serves.transcript;
+  commands = serves.commands;
   reply_is = serves.reply_is;
   not_busy = serves.not_busy;
   sound = serves.sound;

@@ -3,8 +3,8 @@ pub mod Counts
 pub mod History
 pub mod Kept
 pub mod Operations
-pub mod Recorded
 pub mod Seat
+pub mod Served
 pub mod Serving
 -- definitions of lower crates that contracts of this crate cite
 pub use Rattle.ar_core.specs.Events

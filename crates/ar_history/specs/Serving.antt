@@ -1,5 +1,5 @@
 -- How a host's command is executed, and recorded in history and transcript.
-use Rattle.std.specs.Prelude.{◌≡◌, ◌≢◌, ◌⊎◌, ◌&&◌, ◌<◌, ℕ, Bool, true, false, not, if◌then◌else◌, List, [], ◌∷◌, ◌++◌}
+use Rattle.std.specs.Prelude.{◌≡◌, ◌≢◌, ◌⊎◌, ◌&&◌, ◌<◌, ◌+◌, ℕ, Bool, true, false, not, if◌then◌else◌, List, [], ◌∷◌, ◌++◌}
 use Rattle.std.specs.Prelude.{length, Option, Some, None}
 use Rattle.ar_disks.specs.declared.address.Addr.{Addr}
 use Rattle.ar_disks.specs.declared.address.Host.{Host}
@@ -50,24 +50,26 @@ pub record ServesCommand (old : ArrayState) (was : List Entry) (host : Host) (lu
 abbrev pub with_reply : Exchange → Reply → Exchange
 with_reply exchange reply = record exchange { reply = reply }
 
--- The command is recorded: history and transcript have grown by it and its reply, which is that of its unit, as the
--- history so far has made the unit.
+-- The command is recorded: history, transcript and the seat's share have grown by it and its reply, which is that of its
+-- unit, as the history so far has made the unit.
 pub record IsRecorded (old : KeptState) (before : SeatState) (lun : ℕ) (cdb payload : List ℕ) (reply : Reply)
     (position : ℕ)
     (new : KeptState) (after : SeatState) : Type 0 where
   pub position_is : position ≡ length old.history
   pub history : new.history ≡ old.history ++ Cmd before.host (exchange_of lun cdb payload reply) ∷ []
   pub transcript : after.transcript ≡ before.transcript ++ exchange_of lun cdb payload reply ∷ []
+  pub commands : after.commands ≡ before.commands + 1
   pub reply_is : reply ≡ (answer (replay old.history (before.host.number, lun)) cdb payload).reply
   pub not_busy : is_busy reply.status ≡ false
   pub sound : is_broken new.array ≡ false
 
--- It is not recorded: history and transcript stay. Either the reply is BUSY and no unit has changed; or the array has
+-- It is not recorded: history, transcript and share stay. Either the reply is BUSY and no unit has changed; or the array has
 -- failed after it, and the reply is that of a failed array in place of the unit's.
 pub record IsUnrecorded (old : KeptState) (before : SeatState) (lun : ℕ) (cdb payload : List ℕ) (reply : Reply)
     (new : KeptState) (after : SeatState) : Type 0 where
   pub history : new.history ≡ old.history
   pub transcript : after.transcript ≡ before.transcript
+  pub commands : after.commands ≡ before.commands
   pub busy_is : is_broken new.array ≡ false → reply ≡ busy
   pub images : is_broken new.array ≡ false → (a : Address) → image new.array a ≡ image old.array a
   pub broken :

@@ -38,7 +38,7 @@ struct Copies {
 impl<D: Disk + Drop, L: Ledger> Kept<D, L> {
     /// Executes a command of the seat's host to its LUN `lun`: `cdb` is padded with zeros, `payload` is the data-out.
     /// Unless the reply is BUSY, history and transcript have both grown by the command with its reply, which is the one
-    /// that the unit's own entries give. If memory to record the command can't be allocated, the reply is BUSY and the
+    /// that the unit's own entries give, and the seat's share by one. If memory to record the command can't be allocated, the reply is BUSY and the
     /// command isn't begun; if the bytes of its reply can't be shared, it is BUSY, too, and no unit has changed. A
     /// failed array records nothing, and nothing is allocated to record it.
     pub fn host(&mut self, seat: &mut Seat<L>, lun: u8, cdb: [u8; 16], payload: Bytes) -> Served
@@ -230,6 +230,7 @@ fn record<L: Ledger>(
     ensures history { history.new.items ≡ history.old.items ++ Entry.Cmd seat.old.host copies.ours ∷ [] }
     ensures total { book.new.total ≡ book.old.total + 1 }
     ensures transcript { seat.new.transcript ≡ seat.old.transcript ++ copies.theirs ∷ [] }
+    ensures commands { seat.new.commands ≡ seat.old.commands + 1 }
     ensures host { seat.new.host ≡ seat.old.host }
 
     ensures kept_room { vec_capacity history.new ≡ vec_capacity history.old }

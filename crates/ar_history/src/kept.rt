@@ -125,6 +125,7 @@ pub(crate) fn seats<L: Ledger>(alloc: Global, share: &mut Share<L>) -> [Seat<L>;
     ensures hosts { map (λ (s : SeatState). s.host.number) result ≡ 0 ∷ 1 ∷ 2 ∷ 3 ∷ [] }
     ensures transcripts { map (λ (s : SeatState). s.transcript) result ≡ [] ∷ [] ∷ [] ∷ [] ∷ [] }
     ensures rooms { map (λ (s : SeatState). s.room) result ≡ 0 ∷ 0 ∷ 0 ∷ 0 ∷ [] }
+    ensures commands { map (λ (s : SeatState). s.commands) result ≡ 0 ∷ 0 ∷ 0 ∷ 0 ∷ [] }
 {
     [
         seat(alloc, share, 0),
@@ -142,6 +143,7 @@ fn seat<L: Ledger>(alloc: Global, share: &mut Share<L>, number: u8) -> Seat<L>
     ensures host { result.host.number ≡ number }
     ensures transcript { result.transcript ≡ [] }
     ensures room { result.room ≡ 0 }
+    ensures commands { result.commands ≡ 0 }
     ensures parts { share.new.parts + 1 ≡ share.old.parts }
     ensures amount { share.new.amount ≡ 0 }
 {

@@ -4,6 +4,7 @@
 #![tactic(auto)]
 
 mod audit;
+mod counted;
 mod counts;
 mod discard;
 mod entry;
@@ -15,15 +16,16 @@ mod live_host;
 mod live_operate;
 mod operate;
 mod operation;
-mod recorded;
 mod seat;
+mod served_array;
 
 pub use audit::{Mismatch, Report, first_difference};
+pub use counted::CountedArray;
 pub use counts::{Counts, HostCounts, OperationCounts, ReplyCounts, TaskCounts, is_idle};
 pub use entry::{Entry, Exchange};
 pub use host::Served;
 pub use kept::Kept;
 pub use live::LiveArray;
 pub use operation::{Operation, OperationOf, Task};
-pub use recorded::RecordedArray;
 pub use seat::Seat;
+pub use served_array::ServedArray;

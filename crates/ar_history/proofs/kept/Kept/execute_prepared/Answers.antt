@@ -54,6 +54,7 @@ returns-then-not-has_recorded-clause-serves g c =
       host = c.seat.inside.host;
       transcript = c.seat.inside.transcript.items;
       room = vec_capacity c.seat.inside.transcript;
+      commands = c.seat.inside.share.amount;
     } in
     let none : is_recorded now.array reply ≡ false = sym c.if-not-has_recorded.ensures in
     subst (λ (k : KeptState). IsUnrecorded k c.args.seat.now lun cdb c.args.payload reply new c.args.seat.now)
@@ -82,6 +83,7 @@ returns-then-not-answer-clause-serves g c =
       host = c.seat.inside.host;
       transcript = c.seat.inside.transcript.items;
       room = vec_capacity c.seat.inside.transcript;
+      commands = c.seat.inside.share.amount;
     } in
     let none : IsBusyFor reply = inr (c.if-not-answer.ensures.bytes refl) in
     let is : is_recorded now.array reply ≡ true = sym c.if-not-has_recorded.ensures in

@@ -1,0 +1,75 @@
+-- What each call does to a served array: what the array, its history and the caller's seat are afterwards.
+use Rattle.std.specs.Prelude.{◌≡◌, ◌&&◌, ◌+◌, ℕ, Bool, true, false, if◌then◌else◌, List, [], ◌∷◌, ◌++◌, length}
+use Rattle.ar_disks.specs.declared.address.Addr.{Addr}
+use Rattle.ar_scsi.specs.declared.reply.Reply.{Reply}
+use Rattle.ar_volume.specs.declared.flush.UnitFlush.{UnitFlush}
+use Rattle.ar_volume.specs.declared.flush.UnitFlush.TheVariants.{Done}
+use Rattle.ar_volume.specs.Image.{is_broken, image, image_at, image_on_disks}
+use Rattle.ar_volume.specs.Sectors.{Address}
+use Rattle.ar_core.specs.Events.{Event, Outcome}
+use Rattle.ar_core.specs.Step.{Steps}
+use Rattle.ar_core.specs.declared.event.EventOf.TheVariants.{Cmd as CmdEvent, FlushUnit as FlushUnitEvent}
+use Rattle.ar_core.specs.declared.event.OutcomeOf.TheVariants.{Cmd as CmdOutcome, FlushUnit as FlushUnitOutcome}
+use Rattle.ar_history.specs.Counts.{CountsCommand, CountsOperation, CountsTask}
+use Rattle.ar_history.specs.Kept.{KeptState, StaysKept, exchange_of, history_entry}
+use Rattle.ar_history.specs.Operations.{Does, event_of_task}
+use Rattle.ar_history.specs.Seat.{SeatState}
+use Rattle.ar_history.specs.Serving.{ServesCommand, BeginsByPlace, DoesCommand, Allocates, is_recorded}
+use Rattle.ar_history.specs.declared.operation.Task.{Task}
+
+-- What a command costs to record. Where transcripts are stored (`true`), it is begun if both lists have capacity for it
+-- and it has no data to share, and only full lists grow; where they aren't, it is always begun, and nothing grows.
+abbrev pub RecordsWithin : Bool → KeptState → SeatState → ℕ → List ℕ → List ℕ → Reply → KeptState → SeatState → Type 0
+RecordsWithin true old before lun cdb payload reply new after =
+    BeginsByPlace old before lun cdb payload reply new after × Allocates old before new after
+RecordsWithin false old before lun cdb payload reply new after =
+    Steps old.array (CmdEvent before.host lun cdb payload) (CmdOutcome reply) new.array
+    × (new.room ≡ old.room) × (after.room ≡ before.room)
+
+-- A command of a seat's host, at an array that stores transcripts or doesn't: one step of the array at most, between two
+-- states in both of which each unit is what the history makes it. The history has grown by the command and its reply
+-- exactly if the reply isn't BUSY and the array hasn't failed; the reply is then the one that the unit's own entries
+-- give. With the history grow the seat's share by one and, if transcripts are stored, its transcript by the command.
+pub record AnswersCommand (stores : Bool) (old : KeptState) (before : SeatState) (lun : ℕ) (cdb payload : List ℕ)
+    (reply : Reply)
+    (new : KeptState) (after : SeatState) : Type 0 where
+  pub kept : StaysKept old new
+  pub serves : ServesCommand old.array old.history before.host lun cdb payload reply new.array new.history
+  pub does : DoesCommand old.array before.host lun cdb payload reply new.array
+  pub counts : CountsCommand old before.host.number cdb (length payload) reply new
+  pub host : after.host ≡ before.host
+  pub commands : after.commands ≡ before.commands + (if is_recorded new.array reply then 1 else 0)
+  pub transcript :
+      after.transcript
+      ≡ before.transcript
+      ++ (if stores && is_recorded new.array reply then exchange_of lun cdb payload reply ∷ [] else [])
+  pub memory : RecordsWithin stores old before lun cdb payload reply new after
+
+-- An operation's event was one step of the array, or was not begun. The history has grown by what was done, the array
+-- was kept before and after, and an event is counted.
+pub record Operates (event : Event) (old : KeptState) (outcome : Outcome) (new : KeptState) : Type 0 where
+  pub does : Does old.array event outcome new.array
+  pub recorded : new.history ≡ old.history ++ history_entry event outcome
+  pub kept : StaysKept old new
+  pub counts : CountsOperation old new
+
+-- A task's event was one step of the array, and the history and its capacity stay, as until data loss do the contents of
+-- all units. The array was kept before and after, and the task is counted if it did something.
+pub record Maintains (task : Task) (old : KeptState) (outcome : Outcome) (new : KeptState) : Type 0 where
+  pub steps : Steps old.array (event_of_task task) outcome new.array
+  pub history : new.history ≡ old.history
+  pub room : new.room ≡ old.room
+  pub images : is_broken new.array ≡ false → (a : Address) → image new.array a ≡ image old.array a
+  pub kept : StaysKept old new
+  pub counts : CountsTask old task outcome new
+
+-- A unit's cached blocks were destaged, as one step of the array: if that is done, there is such a unit, and the disks
+-- have all of its contents. The history stays, each unit is what it makes it, until data loss every unit stays, and an
+-- event is counted.
+pub record DestagesUnit (old : KeptState) (addr : Addr) (answer : UnitFlush) (new : KeptState) : Type 0 where
+  pub steps : Steps old.array (FlushUnitEvent addr) (FlushUnitOutcome answer) new.array
+  pub on_disks : answer ≡ Done → image_at new.array addr ≡ image_on_disks new.array.store addr
+  pub history : new.history ≡ old.history
+  pub kept : StaysKept old new
+  pub images : is_broken new.array ≡ false → (a : Address) → image new.array a ≡ image old.array a
+  pub counts : CountsOperation old new

@@ -1,0 +1,127 @@
+// A live array whose commands are counted in a ledger: a seat's share grows with the history, and nowhere else, so that
+// who holds the seat can tell that its commands were executed.
+ghost use Rattle.std.specs.Prelude.{◌≡◌, ◌∷◌, [], false, map};
+ghost use Rattle.ar_history.specs.Counts.{no_counts};
+ghost use Rattle.ar_history.specs.Kept.{HistoryAgrees};
+ghost use Rattle.ar_history.specs.Seat.{SeatState};
+ghost use Rattle.ar_history.specs.Served.{AnswersCommand, DestagesUnit, Maintains, Operates};
+ghost use Rattle.ar_history.specs.Operations.{event_of};
+
+use crate::kept::seats;
+use crate::{Counts, LiveArray, Operation, Seat, Task};
+use ar_core::{Array, Outcome, UnitFlush};
+use ar_disks::{Addr, Disk};
+use ar_scsi::Reply;
+use bytes::Bytes;
+use std::alloc::Global;
+use std::marker::Model;
+use std::sync::ledger::{Blank, Book, Ledger};
+
+/// A live array with the book of a ledger, which counts the commands in its history. To record a command costs no
+/// memory.
+#[derive(Drop)]
+pub struct CountedArray<D: Disk, L: Ledger> {
+    live: LiveArray<D>,
+    book: Book<L>,
+}
+
+impl<D: Disk, L: Ledger> Model for CountedArray<D, L> {
+    ghost use Rattle.std.specs.Prelude.{◌≡◌, count_by};
+    ghost use Rattle.ar_history.specs.History.{is_command};
+    ghost use Rattle.ar_history.specs.Kept.{KeptState};
+
+    ghost Value = { KeptState };
+
+    ghost view = { λ counted. counted.live };
+
+    ghost invariant = { λ counted. counted.book.total ≡ count_by is_command counted.live.history };
+}
+
+impl<D: Disk, L: Ledger> CountedArray<D, L> {
+    /// Gives an array without units an empty history, and returns it with the seats of hosts 0 to 3, in order.
+    pub fn start(alloc: Global, blank: Blank, array: Array<D>) -> (CountedArray<D, L>, [Seat<L>; 4])
+        requires name { blank.name ≡ L.name }
+        requires parts { blank.parts ≡ L.parts }
+        requires four { blank.parts ≡ 4 }
+        requires no_unit { array.store.book.units ≡ [] }
+        ensures array { result.0.array ≡ array }
+        ensures history { result.0.history ≡ [] }
+        ensures counts { result.0.counts ≡ no_counts }
+        ensures events { result.0.events ≡ 0 }
+        ensures hosts { map (λ (s : SeatState). s.host.number) result.1 ≡ 0 ∷ 1 ∷ 2 ∷ 3 ∷ [] }
+        ensures commands { map (λ (s : SeatState). s.commands) result.1 ≡ 0 ∷ 0 ∷ 0 ∷ 0 ∷ [] }
+        ensures transcripts { map (λ (s : SeatState). s.transcript) result.1 ≡ [] ∷ [] ∷ [] ∷ [] ∷ [] }
+    {
+        let (book, mut rest) = blank.open::<L>();
+        let counted = CountedArray {
+            live: LiveArray::start(alloc, array),
+            book,
+        };
+        (counted, seats(alloc, &mut rest))
+    }
+
+    /// Returns the array, for its views. Each unit is what the entries of the history make it: until data loss its
+    /// contents, and for good its presence and length.
+    pub fn array(&self) -> &Array<D>
+        ensures array { result.now ≡ self.now.array }
+        ensures kept { HistoryAgrees self.now.array self.now.history }
+    {
+        self.live.array()
+    }
+
+    /// Returns what was counted since the start.
+    pub fn counts(&self) -> Counts
+        ensures { result ≡ self.now.counts }
+    {
+        self.live.counts()
+    }
+
+    /// Returns the number of events (`LiveArray::events`).
+    pub fn events(&self) -> u64
+        ensures { result ≡ self.now.events }
+    {
+        self.live.events()
+    }
+
+    /// Lends the array memory for the data of a READ (`Array::lend_memory`).
+    pub fn lend_memory(&mut self, memory: Vec<u8>)
+        ensures { self.new ≡ self.old }
+    {
+        self.live.lend_memory(memory);
+    }
+}
+
+impl<D: Disk + Drop, L: Ledger> CountedArray<D, L> {
+    /// Executes a command of the seat's host as `LiveArray::host` does. If it is recorded, the seat's share grows by
+    /// one.
+    pub fn host(&mut self, seat: &mut Seat<L>, lun: u8, cdb: [u8; 16], payload: Bytes) -> Reply
+        ensures { AnswersCommand false self.old seat.old lun cdb payload result self.new seat.new }
+    {
+        let reply = self.live.host(seat.host(), lun, cdb, payload);
+        if self.live.has_recorded(&reply) {
+            seat.count(&mut self.book);
+        }
+        reply
+    }
+
+    /// Executes one operation as `LiveArray::operate` does.
+    pub fn operate(&mut self, operation: Operation<D>) -> Outcome<D>
+        ensures { Operates (event_of operation) self.old result self.new }
+    {
+        self.live.operate(operation)
+    }
+
+    /// Executes one piece of background work as `LiveArray::background` does.
+    pub fn background(&mut self, task: Task) -> Outcome<D>
+        ensures { Maintains task self.old result self.new }
+    {
+        self.live.background(task)
+    }
+
+    /// Destages all cached blocks of a unit as `LiveArray::flush_unit` does.
+    pub fn flush_unit(&mut self, addr: Addr) -> UnitFlush
+        ensures { DestagesUnit self.old addr result self.new }
+    {
+        self.live.flush_unit(addr)
+    }
+}

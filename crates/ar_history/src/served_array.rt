@@ -1,0 +1,243 @@
+// An array with its history, as all that serve it use it: hosts, initiators, operators, the maintenance and the pages.
+// The history is stored, or seen by contracts alone.
+ghost use Rattle.std.specs.Prelude.{◌≡◌, Bool, true, false, if◌then◌else◌, length};
+ghost use Rattle.ar_extents.specs.Set.{CanCount};
+ghost use Rattle.ar_history.specs.Kept.{KeptState, HistoryAgrees};
+ghost use Rattle.ar_history.specs.Served.{AnswersCommand, DestagesUnit, Maintains, Operates};
+
+use crate::{CountedArray, Counts, Kept, OperationOf, Seat, Task};
+use ar_core::{Array, EventOf, NewDisk, Outcome, UnitFlush};
+use ar_disks::{Addr, Disk};
+use ar_scsi::Reply;
+use bytes::Bytes;
+use std::sync::ledger::Ledger;
+
+/// An array that is served, with its history: until data loss each unit is what the history makes it.
+///
+/// Each call says what the array is afterwards. A command, an operation, a piece of maintenance and a flush are one step
+/// of the array each; all other calls leave it as it is. Two arrays are served: `Kept` stores its history and hosts'
+/// transcripts, `CountedArray` stores neither.
+pub trait ServedArray<L: Ledger> {
+    /// The array's disks.
+    type Disk: Disk + Drop;
+
+    /// The array with its history.
+    ghost state: { Self → KeptState };
+
+    /// Whether the history and hosts' transcripts are stored.
+    ghost stores: { Bool };
+
+    /// Returns the array, for its views.
+    fn array(&self) -> &Array<Self::Disk>
+        ensures array { result.now ≡ (state self.now).array }
+        ensures kept { HistoryAgrees (state self.now).array (state self.now).history };
+
+    /// Returns what was counted since the start.
+    fn counts(&self) -> Counts
+        ensures { result ≡ (state self.now).counts };
+
+    /// Returns the number of events, which stays while nothing happens to the array.
+    fn events(&self) -> u64
+        ensures { result ≡ (state self.now).events };
+
+    /// Returns how many entries of the history are stored.
+    fn stored_entries(&self) -> usize
+        ensures { result ≡ (if stores then length (state self.now).history else 0) };
+
+    /// Returns for how many entries there is memory.
+    fn stored_room(&self) -> usize
+        ensures { result ≡ (if stores then (state self.now).room else 0) };
+
+    /// Lends memory for the data of a READ, so that it was allocated before the array was waited for.
+    fn lend_memory(&mut self, memory: Vec<u8>)
+        ensures { state self.new ≡ state self.old };
+
+    /// Executes a command of the seat's host.
+    fn ask(&mut self, seat: &mut Seat<L>, lun: u8, cdb: &[u8; 16], payload: Bytes) -> Reply
+        ensures { AnswersCommand stores (state self.old) seat.old lun cdb.now payload result (state self.new)
+            seat.new };
+
+    /// Creates a unit of a length in sectors. Where a stored history can't grow, this fails with `NoMemory` and changes
+    /// nothing, as the next two do.
+    fn make(&mut self, addr: Addr, sectors: u32) -> Outcome<Self::Disk>
+        ensures { Operates (EventOf.Make addr sectors) (state self.old) result (state self.new) };
+
+    /// Extends a unit to a length in sectors.
+    fn grow(&mut self, addr: Addr, sectors: u32) -> Outcome<Self::Disk>
+        ensures { Operates (EventOf.Grow addr sectors) (state self.old) result (state self.new) };
+
+    /// Deletes a unit.
+    fn remove(&mut self, addr: Addr) -> Outcome<Self::Disk>
+        ensures { Operates (EventOf.Remove addr) (state self.old) result (state self.new) };
+
+    /// Adds a disk, whose fault count must be below its maximum.
+    fn add_disk(&mut self, disk: Self::Disk) -> Outcome<Self::Disk>
+        requires { CanCount (Self.Disk.state disk) }
+        ensures { Operates (EventOf.AddDisk (Self.Disk.state disk)) (state self.old) result (state self.new) };
+
+    /// Takes a disk out, by its number.
+    fn take_out(&mut self, number: u8) -> Outcome<Self::Disk>
+        ensures { Operates (EventOf.DiskOut number) (state self.old) result (state self.new) };
+
+    /// Replaces the failed disk of this number by one whose fault count must be below its maximum.
+    fn replace(&mut self, number: u8, disk: Self::Disk) -> Outcome<Self::Disk>
+        requires { CanCount (Self.Disk.state disk) }
+        ensures { Operates (EventOf.Replace number (Self.Disk.state disk)) (state self.old) result (state self.new) };
+
+    /// Executes one piece of background work.
+    fn background(&mut self, task: Task) -> Outcome<Self::Disk>
+        ensures { Maintains task (state self.old) result (state self.new) };
+
+    /// Destages all cached blocks of a unit.
+    fn flush_unit(&mut self, addr: Addr) -> UnitFlush
+        ensures { DestagesUnit (state self.old) addr result (state self.new) };
+}
+
+impl<D: Disk + Drop, L: Ledger> ServedArray<L> for Kept<D, L> {
+    type Disk = D;
+
+    ghost state = { λ kept. kept };
+
+    ghost stores = { true };
+
+    fn array(&self) -> &Array<D> {
+        Kept::array(self)
+    }
+
+    fn counts(&self) -> Counts {
+        Kept::counts(self)
+    }
+
+    fn events(&self) -> u64 {
+        Kept::events(self)
+    }
+
+    fn stored_entries(&self) -> usize {
+        self.history().len()
+    }
+
+    fn stored_room(&self) -> usize {
+        self.capacity()
+    }
+
+    fn lend_memory(&mut self, memory: Vec<u8>) {
+        Kept::lend_memory(self, memory);
+    }
+
+    fn ask(&mut self, seat: &mut Seat<L>, lun: u8, cdb: &[u8; 16], payload: Bytes) -> Reply {
+        let served = self.host(seat, lun, *cdb, payload);
+        served.reply
+    }
+
+    fn make(&mut self, addr: Addr, sectors: u32) -> Outcome<D> {
+        self.operate(OperationOf::Make(addr, sectors))
+    }
+
+    fn grow(&mut self, addr: Addr, sectors: u32) -> Outcome<D> {
+        self.operate(OperationOf::Grow(addr, sectors))
+    }
+
+    fn remove(&mut self, addr: Addr) -> Outcome<D> {
+        self.operate(OperationOf::Remove(addr))
+    }
+
+    fn add_disk(&mut self, disk: D) -> Outcome<D>
+        requires { CanCount (D.state disk) }
+        ensures { Operates (EventOf.AddDisk (D.state disk)) self.old result self.new }
+    {
+        self.operate(OperationOf::AddDisk(NewDisk::new(disk)))
+    }
+
+    fn take_out(&mut self, number: u8) -> Outcome<D> {
+        self.operate(OperationOf::DiskOut(number))
+    }
+
+    fn replace(&mut self, number: u8, disk: D) -> Outcome<D>
+        requires { CanCount (D.state disk) }
+        ensures { Operates (EventOf.Replace number (D.state disk)) self.old result self.new }
+    {
+        self.operate(OperationOf::Replace(number, NewDisk::new(disk)))
+    }
+
+    fn background(&mut self, task: Task) -> Outcome<D> {
+        Kept::background(self, task)
+    }
+
+    fn flush_unit(&mut self, addr: Addr) -> UnitFlush {
+        Kept::flush_unit(self, addr)
+    }
+}
+
+impl<D: Disk + Drop, L: Ledger> ServedArray<L> for CountedArray<D, L> {
+    type Disk = D;
+
+    ghost state = { λ counted. counted };
+
+    ghost stores = { false };
+
+    fn array(&self) -> &Array<D> {
+        CountedArray::array(self)
+    }
+
+    fn counts(&self) -> Counts {
+        CountedArray::counts(self)
+    }
+
+    fn events(&self) -> u64 {
+        CountedArray::events(self)
+    }
+
+    fn stored_entries(&self) -> usize {
+        0
+    }
+
+    fn stored_room(&self) -> usize {
+        0
+    }
+
+    fn lend_memory(&mut self, memory: Vec<u8>) {
+        CountedArray::lend_memory(self, memory);
+    }
+
+    fn ask(&mut self, seat: &mut Seat<L>, lun: u8, cdb: &[u8; 16], payload: Bytes) -> Reply {
+        self.host(seat, lun, *cdb, payload)
+    }
+
+    fn make(&mut self, addr: Addr, sectors: u32) -> Outcome<D> {
+        self.operate(OperationOf::Make(addr, sectors))
+    }
+
+    fn grow(&mut self, addr: Addr, sectors: u32) -> Outcome<D> {
+        self.operate(OperationOf::Grow(addr, sectors))
+    }
+
+    fn remove(&mut self, addr: Addr) -> Outcome<D> {
+        self.operate(OperationOf::Remove(addr))
+    }
+
+    fn add_disk(&mut self, disk: D) -> Outcome<D>
+        requires { CanCount (D.state disk) }
+        ensures { Operates (EventOf.AddDisk (D.state disk)) self.old result self.new }
+    {
+        self.operate(OperationOf::AddDisk(NewDisk::new(disk)))
+    }
+
+    fn take_out(&mut self, number: u8) -> Outcome<D> {
+        self.operate(OperationOf::DiskOut(number))
+    }
+
+    fn replace(&mut self, number: u8, disk: D) -> Outcome<D>
+        requires { CanCount (D.state disk) }
+        ensures { Operates (EventOf.Replace number (D.state disk)) self.old result self.new }
+    {
+        self.operate(OperationOf::Replace(number, NewDisk::new(disk)))
+    }
+
+    fn background(&mut self, task: Task) -> Outcome<D> {
+        CountedArray::background(self, task)
+    }
+
+    fn flush_unit(&mut self, addr: Addr) -> UnitFlush {
+        CountedArray::flush_unit(self, addr)
+    }
+}
