@@ -146,6 +146,7 @@ outcome_text (outcomes.Make done) notation = done_text done
 outcome_text (outcomes.Grow done) notation = done_text done
 outcome_text (outcomes.Remove done) notation = done_text done
 outcome_text (outcomes.Cmd reply) notation = reply_text reply notation
+outcome_text (outcomes.Unmap reply) notation = reply_text reply notation
 outcome_text (outcomes.Flush flush) notation = flush_text flush
 outcome_text (outcomes.FlushUnit flush) notation = unit_flush_text flush
 outcome_text (outcomes.Demote answer) notation = move_text answer

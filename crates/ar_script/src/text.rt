@@ -37,7 +37,7 @@ pub fn write_outcome<W: Write, N>(
         | OutcomeOf::Grow(done)
         | OutcomeOf::Remove(done)
         | OutcomeOf::DiskOut(done) => write_done(out, *done),
-        OutcomeOf::Cmd(reply) => write_reply(out, reply, notation),
+        OutcomeOf::Cmd(reply) | OutcomeOf::Unmap(reply) => write_reply(out, reply, notation),
         OutcomeOf::Flush(flush) => write_flush(out, *flush),
         OutcomeOf::FlushUnit(flush) => write_unit_flush(out, *flush),
         OutcomeOf::Demote(answer) | OutcomeOf::Clean(answer) => write_move(out, *answer),
