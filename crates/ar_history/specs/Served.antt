@@ -1,5 +1,5 @@
 -- What each call does to a served array: what the array, its history and the caller's seat are afterwards.
-use Rattle.std.specs.Prelude.{◌≡◌, ◌&&◌, ◌+◌, ℕ, Bool, true, false, if◌then◌else◌, List, [], ◌∷◌, ◌++◌, length}
+use Rattle.std.specs.Prelude.{◌≡◌, ◌&&◌, ◌+◌, ℕ, Bool, true, false, not, if◌then◌else◌, List, [], ◌∷◌, ◌++◌, length}
 use Rattle.ar_disks.specs.declared.address.Addr.{Addr}
 use Rattle.ar_scsi.specs.declared.reply.Reply.{Reply}
 use Rattle.ar_volume.specs.declared.flush.UnitFlush.{UnitFlush}
@@ -10,7 +10,7 @@ use Rattle.ar_core.specs.Events.{Event, Outcome}
 use Rattle.ar_core.specs.Step.{Steps}
 use Rattle.ar_core.specs.declared.event.EventOf.TheVariants.{Cmd as CmdEvent, FlushUnit as FlushUnitEvent}
 use Rattle.ar_core.specs.declared.event.OutcomeOf.TheVariants.{Cmd as CmdOutcome, FlushUnit as FlushUnitOutcome}
-use Rattle.ar_history.specs.Counts.{CountsCommand, CountsOperation, CountsTask}
+use Rattle.ar_history.specs.Counts.{CountsCommand, CountsOperation, CountsTask, is_idle}
 use Rattle.ar_history.specs.Kept.{KeptState, StaysKept, exchange_of, history_entry}
 use Rattle.ar_history.specs.Operations.{Does, event_of_task}
 use Rattle.ar_history.specs.Seat.{SeatState}
@@ -62,6 +62,12 @@ pub record Maintains (task : Task) (old : KeptState) (outcome : Outcome) (new : 
   pub images : is_broken new.array ≡ false → (a : Address) → image new.array a ≡ image old.array a
   pub kept : StaysKept old new
   pub counts : CountsTask old task outcome new
+
+-- a task was done with some outcome, and `told` says whether it did anything
+pub record Works (task : Task) (old : KeptState) (told : Bool) (new : KeptState) : Type 0 where
+  pub outcome : Outcome
+  pub worked : told ≡ not (is_idle outcome)
+  pub maintains : Maintains task old outcome new
 
 -- A unit's cached blocks were destaged, as one step of the array: if that is done, there is such a unit, and the disks
 -- have all of its contents. The history stays, each unit is what it makes it, until data loss every unit stays, and an

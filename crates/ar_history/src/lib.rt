@@ -28,4 +28,4 @@ pub use kept::Kept;
 pub use live::LiveArray;
 pub use operation::{Operation, OperationOf, Task};
 pub use seat::Seat;
-pub use served_array::ServedArray;
+pub use served_array::{OperableArray, ServedArray};

@@ -1,11 +1,12 @@
 // An array with its history, as all that serve it use it: hosts, initiators, operators, the maintenance and the pages.
 // The history is stored, or seen by contracts alone.
 ghost use Rattle.std.specs.Prelude.{◌≡◌, Bool, true, false, if◌then◌else◌, length};
+ghost use Rattle.ar_book.specs.Tables.{free_groups};
 ghost use Rattle.ar_extents.specs.Set.{CanCount};
 ghost use Rattle.ar_history.specs.Kept.{KeptState, HistoryAgrees};
-ghost use Rattle.ar_history.specs.Served.{AnswersCommand, DestagesUnit, Maintains, Operates};
+ghost use Rattle.ar_history.specs.Served.{AnswersCommand, DestagesUnit, Maintains, Operates, Works};
 
-use crate::{CountedArray, Counts, Kept, OperationOf, Seat, Task};
+use crate::{CountedArray, Counts, Kept, OperationOf, Seat, Task, is_idle};
 use ar_core::{Array, EventOf, NewDisk, Outcome, UnitFlush};
 use ar_disks::{Addr, Disk};
 use ar_scsi::Reply;
@@ -14,23 +15,15 @@ use std::sync::ledger::Ledger;
 
 /// An array that is served, with its history: until data loss each unit is what the history makes it.
 ///
-/// Each call says what the array is afterwards. A command, an operation, a piece of maintenance and a flush are one step
-/// of the array each; all other calls leave it as it is. Two arrays are served: `Kept` stores its history and hosts'
-/// transcripts, `CountedArray` stores neither.
+/// Each call says what the array is afterwards. A command, a piece of maintenance and a flush are one step of the array
+/// each; all other calls leave it as it is. Two arrays are served: `Kept` stores its history and hosts' transcripts,
+/// `CountedArray` stores neither.
 pub trait ServedArray<L: Ledger> {
-    /// The array's disks.
-    type Disk: Disk + Drop;
-
     /// The array with its history.
     ghost state: { Self → KeptState };
 
     /// Whether the history and hosts' transcripts are stored.
     ghost stores: { Bool };
-
-    /// Returns the array, for its views.
-    fn array(&self) -> &Array<Self::Disk>
-        ensures array { result.now ≡ (state self.now).array }
-        ensures kept { HistoryAgrees (state self.now).array (state self.now).history };
 
     /// Returns what was counted since the start.
     fn counts(&self) -> Counts
@@ -39,6 +32,10 @@ pub trait ServedArray<L: Ledger> {
     /// Returns the number of events, which stays while nothing happens to the array.
     fn events(&self) -> u64
         ensures { result ≡ (state self.now).events };
+
+    /// Returns the number of free groups.
+    fn free_groups(&self) -> u32
+        ensures { result ≡ free_groups (state self.now).array.store.book };
 
     /// Returns how many entries of the history are stored.
     fn stored_entries(&self) -> usize
@@ -57,52 +54,65 @@ pub trait ServedArray<L: Ledger> {
         ensures { AnswersCommand stores (state self.old) seat.old lun cdb.now payload result (state self.new)
             seat.new };
 
-    /// Creates a unit of a length in sectors. Where a stored history can't grow, this fails with `NoMemory` and changes
-    /// nothing, as the next two do.
-    fn make(&mut self, addr: Addr, sectors: u32) -> Outcome<Self::Disk>
-        ensures { Operates (EventOf.Make addr sectors) (state self.old) result (state self.new) };
-
-    /// Extends a unit to a length in sectors.
-    fn grow(&mut self, addr: Addr, sectors: u32) -> Outcome<Self::Disk>
-        ensures { Operates (EventOf.Grow addr sectors) (state self.old) result (state self.new) };
-
-    /// Deletes a unit.
-    fn remove(&mut self, addr: Addr) -> Outcome<Self::Disk>
-        ensures { Operates (EventOf.Remove addr) (state self.old) result (state self.new) };
-
-    /// Adds a disk, whose fault count must be below its maximum.
-    fn add_disk(&mut self, disk: Self::Disk) -> Outcome<Self::Disk>
-        requires { CanCount (Self.Disk.state disk) }
-        ensures { Operates (EventOf.AddDisk (Self.Disk.state disk)) (state self.old) result (state self.new) };
-
-    /// Takes a disk out, by its number.
-    fn take_out(&mut self, number: u8) -> Outcome<Self::Disk>
-        ensures { Operates (EventOf.DiskOut number) (state self.old) result (state self.new) };
-
-    /// Replaces the failed disk of this number by one whose fault count must be below its maximum.
-    fn replace(&mut self, number: u8, disk: Self::Disk) -> Outcome<Self::Disk>
-        requires { CanCount (Self.Disk.state disk) }
-        ensures { Operates (EventOf.Replace number (Self.Disk.state disk)) (state self.old) result (state self.new) };
-
-    /// Executes one piece of background work.
-    fn background(&mut self, task: Task) -> Outcome<Self::Disk>
-        ensures { Maintains task (state self.old) result (state self.new) };
+    /// Executes one piece of background work, and returns whether it did anything.
+    fn work(&mut self, task: Task) -> bool
+        ensures { Works task (state self.old) result (state self.new) };
 
     /// Destages all cached blocks of a unit.
     fn flush_unit(&mut self, addr: Addr) -> UnitFlush
         ensures { DestagesUnit (state self.old) addr result (state self.new) };
 }
 
-impl<D: Disk + Drop, L: Ledger> ServedArray<L> for Kept<D, L> {
-    type Disk = D;
+/// A served array that operators use, with its own type of disk. (What a thread is given may not name the associated
+/// type of a bound, so that this is a trait of its own; sessions and maintenance need only the other.)
+///
+/// An operation is one step of the array, or isn't begun, and returns its outcome. A create, resize or delete that is
+/// done is the history's next entry; no other operation changes the history. Where a stored history can't grow, these
+/// three fail with `NoMemory` and change nothing.
+pub trait OperableArray<L: Ledger>: ServedArray<L> {
+    /// The array's disks.
+    type Disk: Disk + Drop;
 
-    ghost state = { λ kept. kept };
+    /// Returns the array, for its views.
+    fn array(&self) -> &Array<Self::Disk>
+        ensures array { result.now ≡ (Self.state self.now).array }
+        ensures kept { HistoryAgrees (Self.state self.now).array (Self.state self.now).history };
+
+    /// Creates a unit of a length in sectors.
+    fn make(&mut self, addr: Addr, sectors: u32) -> Outcome<Self::Disk>
+        ensures { Operates (EventOf.Make addr sectors) (Self.state self.old) result (Self.state self.new) };
+
+    /// Extends a unit to a length in sectors.
+    fn grow(&mut self, addr: Addr, sectors: u32) -> Outcome<Self::Disk>
+        ensures { Operates (EventOf.Grow addr sectors) (Self.state self.old) result (Self.state self.new) };
+
+    /// Deletes a unit.
+    fn remove(&mut self, addr: Addr) -> Outcome<Self::Disk>
+        ensures { Operates (EventOf.Remove addr) (Self.state self.old) result (Self.state self.new) };
+
+    /// Adds a disk, whose fault count must be below its maximum.
+    fn add_disk(&mut self, disk: Self::Disk) -> Outcome<Self::Disk>
+        requires { CanCount (Self.Disk.state disk) }
+        ensures { Operates (EventOf.AddDisk (Self.Disk.state disk)) (Self.state self.old) result (Self.state self.new) };
+
+    /// Takes a disk out, by its number.
+    fn take_out(&mut self, number: u8) -> Outcome<Self::Disk>
+        ensures { Operates (EventOf.DiskOut number) (Self.state self.old) result (Self.state self.new) };
+
+    /// Replaces the failed disk of this number by one whose fault count must be below its maximum.
+    fn replace(&mut self, number: u8, disk: Self::Disk) -> Outcome<Self::Disk>
+        requires { CanCount (Self.Disk.state disk) }
+        ensures { Operates (EventOf.Replace number (Self.Disk.state disk)) (Self.state self.old) result (Self.state self.new) };
+
+    /// Executes one piece of background work, and returns its outcome.
+    fn background(&mut self, task: Task) -> Outcome<Self::Disk>
+        ensures { Maintains task (Self.state self.old) result (Self.state self.new) };
+}
+
+impl<D: Disk + Drop, L: Ledger> ServedArray<L> for Kept<D, L> {
+    ghost state = { λ served. served };
 
     ghost stores = { true };
-
-    fn array(&self) -> &Array<D> {
-        Kept::array(self)
-    }
 
     fn counts(&self) -> Counts {
         Kept::counts(self)
@@ -110,6 +120,10 @@ impl<D: Disk + Drop, L: Ledger> ServedArray<L> for Kept<D, L> {
 
     fn events(&self) -> u64 {
         Kept::events(self)
+    }
+
+    fn free_groups(&self) -> u32 {
+        Kept::array(self).free_groups()
     }
 
     fn stored_entries(&self) -> usize {
@@ -127,6 +141,23 @@ impl<D: Disk + Drop, L: Ledger> ServedArray<L> for Kept<D, L> {
     fn ask(&mut self, seat: &mut Seat<L>, lun: u8, cdb: &[u8; 16], payload: Bytes) -> Reply {
         let served = self.host(seat, lun, *cdb, payload);
         served.reply
+    }
+
+    fn work(&mut self, task: Task) -> bool {
+        let outcome = Kept::background(self, task);
+        !is_idle(&outcome)
+    }
+
+    fn flush_unit(&mut self, addr: Addr) -> UnitFlush {
+        Kept::flush_unit(self, addr)
+    }
+}
+
+impl<D: Disk + Drop, L: Ledger> OperableArray<L> for Kept<D, L> {
+    type Disk = D;
+
+    fn array(&self) -> &Array<D> {
+        Kept::array(self)
     }
 
     fn make(&mut self, addr: Addr, sectors: u32) -> Outcome<D> {
@@ -162,22 +193,12 @@ impl<D: Disk + Drop, L: Ledger> ServedArray<L> for Kept<D, L> {
     fn background(&mut self, task: Task) -> Outcome<D> {
         Kept::background(self, task)
     }
-
-    fn flush_unit(&mut self, addr: Addr) -> UnitFlush {
-        Kept::flush_unit(self, addr)
-    }
 }
 
 impl<D: Disk + Drop, L: Ledger> ServedArray<L> for CountedArray<D, L> {
-    type Disk = D;
-
-    ghost state = { λ counted. counted };
+    ghost state = { λ served. served };
 
     ghost stores = { false };
-
-    fn array(&self) -> &Array<D> {
-        CountedArray::array(self)
-    }
 
     fn counts(&self) -> Counts {
         CountedArray::counts(self)
@@ -185,6 +206,10 @@ impl<D: Disk + Drop, L: Ledger> ServedArray<L> for CountedArray<D, L> {
 
     fn events(&self) -> u64 {
         CountedArray::events(self)
+    }
+
+    fn free_groups(&self) -> u32 {
+        CountedArray::array(self).free_groups()
     }
 
     fn stored_entries(&self) -> usize {
@@ -201,6 +226,23 @@ impl<D: Disk + Drop, L: Ledger> ServedArray<L> for CountedArray<D, L> {
 
     fn ask(&mut self, seat: &mut Seat<L>, lun: u8, cdb: &[u8; 16], payload: Bytes) -> Reply {
         self.host(seat, lun, *cdb, payload)
+    }
+
+    fn work(&mut self, task: Task) -> bool {
+        let outcome = CountedArray::background(self, task);
+        !is_idle(&outcome)
+    }
+
+    fn flush_unit(&mut self, addr: Addr) -> UnitFlush {
+        CountedArray::flush_unit(self, addr)
+    }
+}
+
+impl<D: Disk + Drop, L: Ledger> OperableArray<L> for CountedArray<D, L> {
+    type Disk = D;
+
+    fn array(&self) -> &Array<D> {
+        CountedArray::array(self)
     }
 
     fn make(&mut self, addr: Addr, sectors: u32) -> Outcome<D> {
@@ -235,9 +277,5 @@ impl<D: Disk + Drop, L: Ledger> ServedArray<L> for CountedArray<D, L> {
 
     fn background(&mut self, task: Task) -> Outcome<D> {
         CountedArray::background(self, task)
-    }
-
-    fn flush_unit(&mut self, addr: Addr) -> UnitFlush {
-        CountedArray::flush_unit(self, addr)
     }
 }

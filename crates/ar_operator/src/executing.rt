@@ -7,10 +7,11 @@ ghost use Rattle.ar_operator.specs.Executing.{Executes, IsArrayOrder, Operated};
 
 use ar_core::{Array, Outcome, OutcomeOf};
 use ar_disks::{Disk, Geometry};
-use ar_history::{RecordedArray, Task};
+use ar_history::{OperableArray, Task};
 use ar_language::{Action, Order};
 use ar_script::{write_answer, write_outcome};
 use std::alloc::{AllocError, Global};
+use std::sync::ledger::Ledger;
 
 // Bytes that the line of an outcome has at most. They are reserved before an action is begun, so that it isn't done
 // without its answer.
@@ -34,7 +35,7 @@ pub trait DiskMaker<D: Disk> {
 
 /// Executes an order on the array and appends its answer to `out`, as a script has it. If it fails, nothing is done,
 /// and the bytes appended are unspecified.
-pub fn execute<D: Disk + Drop, A: RecordedArray<D>, M: DiskMaker<D>>(
+pub fn execute<A: OperableArray<L>, L: Ledger, M: DiskMaker<A::Disk>>(
     alloc: Global,
     array: &mut A,
     disks: &mut M,
@@ -52,7 +53,7 @@ pub fn execute<D: Disk + Drop, A: RecordedArray<D>, M: DiskMaker<D>>(
     }
 }
 
-fn execute_action<D: Disk + Drop, A: RecordedArray<D>, M: DiskMaker<D>>(
+fn execute_action<A: OperableArray<L>, L: Ledger, M: DiskMaker<A::Disk>>(
     alloc: Global,
     array: &mut A,
     disks: &mut M,
@@ -68,12 +69,12 @@ fn execute_action<D: Disk + Drop, A: RecordedArray<D>, M: DiskMaker<D>>(
 }
 
 // Executes an action. If its new disk can't be allocated, it isn't done.
-fn act<D: Disk + Drop, A: RecordedArray<D>, M: DiskMaker<D>>(
+fn act<A: OperableArray<L>, L: Ledger, M: DiskMaker<A::Disk>>(
     alloc: Global,
     array: &mut A,
     disks: &mut M,
     action: Action,
-) -> Result<Outcome<D>, AllocError>
+) -> Result<Outcome<A::Disk>, AllocError>
     requires allowed { IsOperatorAction action }
     ensures done { IfOk result (λ outcome. Operated action outcome (A.state array.old) (A.state array.new)) }
     ensures refused { OnErr result (A.state array.new ≡ A.state array.old) }
@@ -94,11 +95,11 @@ fn act<D: Disk + Drop, A: RecordedArray<D>, M: DiskMaker<D>>(
     }
 }
 
-fn add<D: Disk + Drop, A: RecordedArray<D>, M: DiskMaker<D>>(
+fn add<A: OperableArray<L>, L: Ledger, M: DiskMaker<A::Disk>>(
     alloc: Global,
     array: &mut A,
     disks: &mut M,
-) -> Result<Outcome<D>, AllocError>
+) -> Result<Outcome<A::Disk>, AllocError>
     ensures done { IfOk result (λ outcome. Operated Action.AddDisk outcome (A.state array.old) (A.state array.new)) }
     ensures refused { OnErr result (A.state array.new ≡ A.state array.old) }
 {
@@ -111,12 +112,12 @@ fn add<D: Disk + Drop, A: RecordedArray<D>, M: DiskMaker<D>>(
     Ok(outcome)
 }
 
-fn replace<D: Disk + Drop, A: RecordedArray<D>, M: DiskMaker<D>>(
+fn replace<A: OperableArray<L>, L: Ledger, M: DiskMaker<A::Disk>>(
     alloc: Global,
     array: &mut A,
     disks: &mut M,
     number: u8,
-) -> Result<Outcome<D>, AllocError>
+) -> Result<Outcome<A::Disk>, AllocError>
     ensures done { IfOk result
         (λ outcome. Operated (Action.Replace number) outcome (A.state array.old) (A.state array.new)) }
     ensures refused { OnErr result (A.state array.new ≡ A.state array.old) }

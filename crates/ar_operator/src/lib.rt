@@ -9,7 +9,6 @@ mod executing;
 mod fail;
 mod fused;
 mod input;
-mod operable;
 mod order;
 mod text;
 
@@ -18,6 +17,5 @@ pub use conversation::{MOST_LINES, OperatorEnd, converse};
 pub use executing::{DiskMaker, execute};
 pub use fail::set_fuse;
 pub use fused::{Fuse, FusedDisk, FusedMaker, start_fused};
-pub use operable::OperableArray;
 pub use order::{LineFault, OperatorOrder, operator_order_in};
 pub use text::{write_counts, write_help, write_session};

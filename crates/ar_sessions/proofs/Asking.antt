@@ -1,6 +1,6 @@
--- What a command under the lock leaves of a transcript.
-use Rattle.std.proofs.Common.{◌≡◌, ◌≢◌, ℕ, Bool, true, false, cond, ◌&&◌, List, Option, Some, None, refl, sym, ap, ◌∙◌}
-use Rattle.std.proofs.Common.{inl, inr}
+-- What a command under the lock leaves of a seat.
+use Rattle.std.proofs.Common.{◌≡◌, ◌≢◌, ◌+◌, ◌++◌, ◌∷◌, [], ℕ, Bool, true, false, not, cond, ◌&&◌, List, refl, sym, ap}
+use Rattle.std.proofs.Common.{◌∙◌, inl, inr, arith, append-nil}
 use Rattle.std.proofs.lemmas.Bool.{true≢false}
 use Rattle.ar_scsi.specs.declared.reply.Reply.{Reply}
 use Rattle.ar_scsi.specs.declared.reply.Status.{Status}
@@ -10,11 +10,16 @@ use Rattle.ar_scsi.specs.Reply.{check}
 use Rattle.ar_scsi.specs.Sense.{internal_target_failure}
 use Rattle.ar_unit.specs.Unit.{IsGiven, answer}
 use Rattle.ar_unit.specs.Broken.{needs_blocks, is_good, where_broken}
-use Rattle.ar_volume.specs.Image.{is_broken}
-use Rattle.ar_history.specs.Kept.{KeptState, history_unit}
+use Rattle.ar_disks.specs.declared.address.Host.{Host}
+use Rattle.ar_volume.specs.Image.{ArrayState, is_broken}
+use Rattle.ar_core.specs.Step.{is_busy}
+use Rattle.ar_history.specs.declared.entry.Entry.{Entry}
+use Rattle.ar_history.specs.declared.entry.Exchange.{Exchange}
+use Rattle.ar_history.specs.Kept.{KeptState, exchange_of, replayed_unit}
 use Rattle.ar_history.specs.Seat.{SeatState}
-use Rattle.ar_history.specs.Serving.{ServesHost, IsUnrecorded}
-use Rattle.ar_sessions.specs.Port.{AtOneMoment, RecordsExchange, is_good_access}
+use Rattle.ar_history.specs.Served.{AnswersCommand}
+use Rattle.ar_history.specs.Serving.{ServesCommand, is_recorded}
+use Rattle.ar_sessions.specs.Port.{AsksArray, GrowsSeat, KeepsSeat, RecordsCommand, is_good_access}
 
 -- BUSY is not GOOD
 good_is_not_busy : (status : Status) → is_good status ≡ true → status ≢ Busy
@@ -45,31 +50,81 @@ never_done cdb table reply given done =
     (sym (ap (λ (n : Bool). is_good (cond (is_good table.status && n) (check internal_target_failure) table).status)
     parts.1) ∙ there)
 
--- a command that was not recorded was not done
-unrecorded : (broken : Bool) (old new : KeptState) (before after : SeatState) (lun : ℕ) (cdb payload : List ℕ)
-    (reply : Reply)
-    → is_broken new.array ≡ broken → IsUnrecorded old before lun cdb payload reply new after
-    → is_good_access cdb reply ≡ true → ⊥
-unrecorded true old new before after lun cdb payload reply is none done =
-    never_done cdb (answer (history_unit old (before.host.number, lun)) cdb payload).reply reply (none.broken is) done
-unrecorded false old new before after lun cdb payload reply is none done =
-    let parts = both (is_good reply.status) (needs_blocks (reading cdb)) done in
-    good_is_not_busy reply.status parts.0 (ap (λ (r : Reply). r.status) (none.busy_is is))
+-- so a good access was recorded
+done_recorded : (old new : ArrayState) (host : Host) (lun : ℕ) (cdb payload : List ℕ) (reply : Reply)
+    (was now : List Entry)
+    → ServesCommand old was host lun cdb payload reply new now → is_good_access cdb reply ≡ true
+    → is_recorded new reply ≡ true
+done_recorded old new host lun cdb payload reply was now serves done = by (is_broken new) (is_busy reply.status) refl refl
+  where
+    by : (lost quiet : Bool) → is_broken new ≡ lost → is_busy reply.status ≡ quiet → is_recorded new reply ≡ true
+    by true quiet lost is =
+        absurd (never_done cdb (answer (replayed_unit old was (host.number, lun)) cdb payload).reply reply
+        (serves.broken lost) done)
+    by false true sound is =
+        absurd (good_is_not_busy reply.status (both (is_good reply.status) (needs_blocks (reading cdb)) done).0
+        (ap (λ (r : Reply). r.status) (serves.busy_is sound is)))
+    by false false sound is =
+        ap (λ (b : Bool). not b && not (is_busy reply.status)) sound ∙ ap (λ (b : Bool). not b) is
 
-entered : (position : Option ℕ) (old new : KeptState) (before after : SeatState) (lun : ℕ) (cdb payload : List ℕ)
+and_true : (b : Bool) → b && true ≡ b
+and_true true = refl
+and_true false = refl
+
+and_false : (b : Bool) → b && false ≡ false
+and_false true = refl
+and_false false = refl
+
+-- what a command at a served array leaves of its seat
+records : (stores : Bool) (old new : KeptState) (before after : SeatState) (lun : ℕ) (cdb payload : List ℕ)
     (reply : Reply)
-    → ServesHost old before lun cdb payload reply position new after
-    → RecordsExchange before lun cdb payload reply after
-entered (Some p) old new before after lun cdb payload reply serves =
-    record { one = inl serves.transcript; done = λ _. serves.transcript }
-entered None old new before after lun cdb payload reply serves = record {
-  one = inr serves.transcript;
-  done = λ done. absurd (unrecorded (is_broken new.array) old new before after lun cdb payload reply refl serves done);
+    → AnswersCommand stores old before lun cdb payload reply new after
+    → RecordsCommand stores before lun cdb payload reply after
+records stores old new before after lun cdb payload reply answers = by (is_recorded new.array reply) refl
+  where
+    more : List Exchange
+    more = exchange_of lun cdb payload reply ∷ []
+
+    none : List Exchange
+    none = []
+
+    grows : is_recorded new.array reply ≡ true → GrowsSeat stores before lun cdb payload reply after
+    grows is = record {
+      commands = answers.commands ∙ ap (λ (b : Bool). before.commands + cond b 1 0) is;
+      transcript = answers.transcript
+          ∙ ap (λ (b : Bool). before.transcript ++ cond (stores && b) more none) is
+          ∙ ap (λ (b : Bool). before.transcript ++ cond b more none) (and_true stores);
+    }
+
+    keeps : is_recorded new.array reply ≡ false → KeepsSeat before after
+    keeps is = record {
+      commands = answers.commands
+          ∙ ap (λ (b : Bool). before.commands + cond b 1 0) is
+          ∙ (let same : before.commands + 0 ≡ before.commands = omega arith in same);
+      transcript = answers.transcript
+          ∙ ap (λ (b : Bool). before.transcript ++ cond (stores && b) more none) is
+          ∙ ap (λ (b : Bool). before.transcript ++ cond b more none) (and_false stores)
+          ∙ append-nil before.transcript;
+    }
+
+    by : (recorded : Bool) → is_recorded new.array reply ≡ recorded
+        → RecordsCommand stores before lun cdb payload reply after
+    by true is = record { one = inl (grows is); done = λ _. grows is }
+    by false is = record {
+      one = inr (keeps is);
+      done = λ done.
+          grows (done_recorded old.array new.array before.host lun cdb payload reply old.history new.history
+          answers.serves done);
+    }
+
+-- and so of a command under the lock
+pub asks : (stores : Bool) (old new : KeptState) (before after : SeatState) (lun : ℕ) (cdb payload : List ℕ)
+    (reply : Reply)
+    → AnswersCommand stores old before lun cdb payload reply new after
+    → AsksArray stores before lun cdb payload reply after
+asks stores old new before after lun cdb payload reply answers = record {
+  old = old;
+  new = new;
+  answers = answers;
+  entry = records stores old new before after lun cdb payload reply answers;
 }
-
--- what a command at one moment leaves of the transcript
-pub enters : (before after : SeatState) (lun : ℕ) (cdb payload : List ℕ) (reply : Reply)
-    → AtOneMoment before lun cdb payload reply after
-    → RecordsExchange before lun cdb payload reply after
-enters before after lun cdb payload reply moment =
-    entered moment.position moment.old moment.new before after lun cdb payload reply moment.serves

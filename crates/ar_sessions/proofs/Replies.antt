@@ -33,9 +33,8 @@ use Rattle.ar_core.specs.Step.{is_busy}
 use Rattle.ar_volume.specs.Image.{ArrayState, is_broken}
 use Rattle.ar_history.specs.declared.entry.Entry.{Entry}
 use Rattle.ar_history.specs.History.{replay, entries_at}
-use Rattle.ar_history.specs.Kept.{KeptState, history_unit, replayed_unit, with_attention}
-use Rattle.ar_history.specs.Seat.{SeatState}
-use Rattle.ar_history.specs.Serving.{ServesHost, ServesCommand, IsUnrecorded, is_recorded}
+use Rattle.ar_history.specs.Kept.{replayed_unit, with_attention}
+use Rattle.ar_history.specs.Serving.{ServesCommand, is_recorded}
 use Rattle.ar_frames.specs.Frame.{IsReply}
 use Rattle.ar_sessions.proofs.Asking.{both}
 
@@ -174,35 +173,11 @@ given_reply table reply given is =
       | inr other ↦ subst IsReply (sym (given.answered other)) is
     ]
 
-unrecorded_reply : (broken : Bool) (old new : KeptState) (before after : SeatState) (lun : ℕ) (cdb payload : List ℕ)
-    (reply : Reply) → AreBytes cdb
-    → is_broken new.array ≡ broken → IsUnrecorded old before lun cdb payload reply new after → IsReply reply
-unrecorded_reply true old new before after lun cdb payload reply are is none =
-    let a : Address = (before.host.number, lun) in
-    let whole : IsWhole (history_unit old a) =
-    marked_whole _ (replay old.history a) (run_whole Absent (entries_at a old.history) tt) in
-    given_reply (where_broken cdb (answer (history_unit old a) cdb payload).reply) reply (none.broken is)
-    (lost_reply cdb (answer (history_unit old a) cdb payload).reply
-    (answer_reply (history_unit old a) cdb payload whole are))
-unrecorded_reply false old new before after lun cdb payload reply are is none =
-    subst IsReply (sym (none.busy_is is)) (refl, refl)
-
--- the reply to a host's command
-pub served_reply : (position : Option ℕ) (old new : KeptState) (before after : SeatState) (lun : ℕ)
-    (cdb payload : List ℕ) (reply : Reply)
-    → AreBytes cdb → ServesHost old before lun cdb payload reply position new after → IsReply reply
-served_reply (Some p) old new before after lun cdb payload reply are serves =
-    let a : Address = (before.host.number, lun) in
-    subst IsReply (sym serves.reply_is)
-    (answer_reply (replay old.history a) cdb payload (run_whole Absent (entries_at a old.history) tt) are)
-served_reply None old new before after lun cdb payload reply are serves =
-    unrecorded_reply (is_broken new.array) old new before after lun cdb payload reply are refl serves
-
--- the reply to a command to a live array
-pub live_reply : (old new : ArrayState) (host : Host) (lun : ℕ) (cdb payload : List ℕ) (reply : Reply)
+-- the reply to a command to a served array
+pub served_reply : (old new : ArrayState) (host : Host) (lun : ℕ) (cdb payload : List ℕ) (reply : Reply)
     (was now : List Entry) → AreBytes cdb
     → ServesCommand old was host lun cdb payload reply new now → IsReply reply
-live_reply old new host lun cdb payload reply was now are serves = by (is_broken new) (is_busy reply.status) refl refl
+served_reply old new host lun cdb payload reply was now are serves = by (is_broken new) (is_busy reply.status) refl refl
   where
     a : Address
     a = (host.number, lun)

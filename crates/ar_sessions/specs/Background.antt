@@ -4,13 +4,10 @@ use Rattle.std.specs.Prelude.{Option, Some, None}
 use Rattle.ar_book.specs.Tables.{free_groups}
 use Rattle.ar_volume.specs.Image.{is_broken, image}
 use Rattle.ar_volume.specs.Sectors.{Address}
-use Rattle.ar_core.specs.Events.{Outcome}
-use Rattle.ar_core.specs.Step.{Steps}
 use Rattle.ar_history.specs.declared.operation.Task.{Task}
 use Rattle.ar_history.specs.declared.operation.Task.TheVariants.{Flush, Rebuild, Clean, Balance, Demote}
-use Rattle.ar_history.specs.Counts.{CountsTask, is_idle}
-use Rattle.ar_history.specs.Kept.{KeptState, StaysKept}
-use Rattle.ar_history.specs.Operations.{event_of_task}
+use Rattle.ar_history.specs.Kept.{KeptState}
+use Rattle.ar_history.specs.Served.{Works}
 use Rattle.ar_sessions.specs.declared.background.Rotation.{Rotation}
 
 -- the next task of the rotation
@@ -64,25 +61,10 @@ abbrev pub pause_after : Rotation → Bool → Option ℕ
 pause_after rotation true = if is_long rotation.task then Some 4 else None
 pause_after rotation false = if nat_lt (rotation.turns + 1) 5 then None else Some rotation.pause
 
--- the task's event was one step of the array, counted if it did something, as `told` says; before and after it each
--- unit was what its history makes it
-pub record DoesTask (old : KeptState) (task : Task) (told : Bool) (new : KeptState) : Type 0 where
-  pub outcome : Outcome
-  pub kept : StaysKept old new
-  pub steps : Steps old.array (event_of_task task) outcome new.array
-  pub worked : told ≡ not (is_idle outcome)
-  pub counts : CountsTask old task outcome new
-
--- the history and its capacity stay, and so do the contents of all units, unless the array has failed
-pub record LeavesUnits (old new : KeptState) : Type 0 where
-  pub history : new.history ≡ old.history
-  pub room : new.room ≡ old.room
-  pub images : is_broken new.array ≡ false → (a : Address) → image new.array a ≡ image old.array a
-
 -- A step, and whether it returns that it did something: a task that is due is one step of the array, one that isn't
 -- changes nothing. The history and its capacity stay, and so do the contents of all units, unless the array has failed.
 pub record TakesTurn (old : KeptState) (task : Task) (told : Bool) (new : KeptState) : Type 0 where
-  pub due : is_due task (free_groups old.array.store.book) ≡ true → DoesTask old task told new
+  pub due : is_due task (free_groups old.array.store.book) ≡ true → Works task old told new
   pub idle : is_due task (free_groups old.array.store.book) ≡ false → (told ≡ false) × (new ≡ old)
   pub history : new.history ≡ old.history
   pub room : new.room ≡ old.room

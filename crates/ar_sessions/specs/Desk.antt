@@ -1,7 +1,7 @@
 -- The seats on a desk.
 use Rattle.std.specs.Prelude.{◌≡◌, ℕ, Bool, true, false, ◌+◌, ◌-◌, ◌^◌, min, if◌then◌else◌, List, length, get_or}
 use Rattle.std.specs.Prelude.{Option, Some, None}
-use Rattle.std.specs.Prelude.{option_map}
+use Rattle.std.specs.Prelude.{is_some, option_map, set}
 use Rattle.ar_disks.specs.declared.address.Host.{Host}
 use Rattle.ar_scsi.specs.declared.reply.Reply.{Reply}
 use Rattle.ar_unit.specs.Broken.{is_good}
@@ -44,6 +44,13 @@ pub record FindsNoSeat (finds : ℕ → Option SeatState → Type 0) (host : ℕ
 abbrev pub Lends : (ℕ → Option SeatState → Type 0) → ℕ → Option SeatState → Bool → Option SeatState → Type 0
 Lends finds host old true new = HasSeat finds host new
 Lends finds host old false new = FindsNoSeat finds host old new
+
+-- A host's seat was handed out exactly if it was in its place, which is empty afterwards; no other place has changed.
+pub record HandsOut (host : ℕ) (old : Places) (before : Option SeatState) (lent : Bool) (new : Places)
+    (after : Option SeatState) : Type 0 where
+  pub lent_is : lent ≡ is_some (seat_at old host)
+  pub after_is : after ≡ (if lent then seat_at old host else before)
+  pub left : new ≡ set old host None
 
 -- a receipt: whose seat was returned, and the number of commands in its transcript then
 pub record ReceiptState : Type 0 where

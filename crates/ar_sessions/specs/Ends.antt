@@ -1,10 +1,9 @@
 -- How connections end.
-use Rattle.std.specs.Prelude.{◌≡◌, ◌⊎◌, None, Some, Option}
+use Rattle.std.specs.Prelude.{◌≡◌, ◌⊎◌, Bool, None, Some, Option}
 use Rattle.ar_history.specs.Seat.{SeatState}
 use Rattle.ar_frames.specs.declared.end.SessionEnd.{SessionEnd}
 use Rattle.ar_frames.specs.declared.end.EndReason.TheVariants.{Read}
 use Rattle.ar_frames.specs.Stream.{SourceState, SinkState}
-use Rattle.ar_frames.specs.Conversation.{Commands}
 use Rattle.ar_frames.specs.Session.{Session}
 use Rattle.ar_sessions.specs.declared.sessions.AsServed.{AsServed}
 use Rattle.ar_sessions.specs.declared.sessions.ConnectionEnd.{ConnectionEnd}
@@ -14,40 +13,40 @@ use Rattle.ar_sessions.specs.declared.sessions.Pending.TheVariants as pending
 use Rattle.ar_sessions.specs.declared.pool.Next.{Next}
 use Rattle.ar_sessions.specs.declared.pool.Next.TheVariants as next
 use Rattle.ar_sessions.specs.Desk.{IsFound, ReceiptState, receipt_for}
-use Rattle.ar_sessions.specs.Port.{TakesSeat, AsksSeat}
+use Rattle.ar_sessions.specs.Port.{TakesSeat, AsksArray, AsksSeat}
 
 -- A session over streams in these states ended with `end`. It began at a port without a seat, and its logins and
--- commands were those of a port to the shared array, for whose commands `asks` holds.
-pub record IsSessionEnd (asks : Commands SeatState) (source : SourceState) (sink : SinkState)
+-- commands were those of a port to the shared array, which stores transcripts or doesn't.
+pub record IsSessionEnd (stores : Bool) (source : SourceState) (sink : SinkState)
     (end : SessionEnd) : Type 0 where
   pub source' : SourceState
   pub sink' : SinkState
   pub port : Option SeatState
-  pub session : Session (TakesSeat IsFound) (AsksSeat asks) source source' sink sink' None port end
+  pub session : Session (TakesSeat IsFound) (AsksSeat (AsksArray stores)) source source' sink sink' None port end
 
 -- The same, and this is the receipt for the seat that the port had in the end, or none if it had none.
-pub record GivesBack (asks : Commands SeatState) (source : SourceState) (sink : SinkState) (end : SessionEnd)
+pub record GivesBack (stores : Bool) (source : SourceState) (sink : SinkState) (end : SessionEnd)
     (receipt : Option ReceiptState) : Type 0 where
-  pub served : IsSessionEnd asks source sink end
+  pub served : IsSessionEnd stores source sink end
   pub receipt_is : receipt ≡ receipt_for served.port
 
 -- The same, and these are the states in which the session left the streams: nothing has used them since.
-pub record LeavesOff (asks : Commands SeatState) (source source' : SourceState) (sink sink' : SinkState)
+pub record LeavesOff (stores : Bool) (source source' : SourceState) (sink sink' : SinkState)
     (end : SessionEnd) (receipt : Option ReceiptState) : Type 0 where
   pub port : Option SeatState
-  pub session : Session (TakesSeat IsFound) (AsksSeat asks) source source' sink sink' None port end
+  pub session : Session (TakesSeat IsFound) (AsksSeat (AsksArray stores)) source source' sink sink' None port end
   pub receipt_is : receipt ≡ receipt_for port
 
 -- A session over a connection's two streams, as they were when it was opened, ended with `end`.
-abbrev pub IsServedOver : {S W : Type 0} → Commands SeatState → (S → SourceState) → (W → SinkState) → S × W → SessionEnd
+abbrev pub IsServedOver : {S W : Type 0} → Bool → (S → SourceState) → (W → SinkState) → S × W → SessionEnd
     → Type 0
-IsServedOver asks source sink pair end = IsSessionEnd asks (source pair.0) (sink pair.1) end
+IsServedOver stores source sink pair end = IsSessionEnd stores (source pair.0) (sink pair.1) end
 
 -- a session over the two streams in its thread's promise ended with `end`
-abbrev pub IsPromised : {A L S W : Type 0} → Commands SeatState → (S → SourceState) → (W → SinkState) → AsServed A L S W
+abbrev pub IsPromised : {A L S W : Type 0} → Bool → (S → SourceState) → (W → SinkState) → AsServed A L S W
     → SessionEnd → Type 0
-IsPromised asks source sink promise end =
-    IsSessionEnd asks (source promise.reader.value) (sink promise.writer.value) end
+IsPromised stores source sink promise end =
+    IsSessionEnd stores (source promise.reader.value) (sink promise.writer.value) end
 
 -- the end of a connection that could not be opened
 abbrev pub unopened : SessionEnd
@@ -110,3 +109,10 @@ abbrev pub TakesNext : {D S W : Type 0} → (D → Option (S × W) → D → Typ
 TakesNext opens old (next.Opened number reader writer) new = opens old (Some (reader, writer)) new
 TakesNext opens old next.Unopened new = opens old None new
 TakesNext opens old next.Closed new = new ≡ old
+
+-- what came of waiting at a door was handled: a connection once, to an end that `ends` allows it, and nothing else
+abbrev pub HandlesNext : {S W E : Type 0} → (S → W → E → Type 0) → Next S W → Option E → Type 0
+HandlesNext ends (next.Opened number reader writer) (Some end) = ends reader writer end
+HandlesNext ends (next.Opened number reader writer) None = ⊥
+HandlesNext ends next.Unopened end = end ≡ None
+HandlesNext ends next.Closed end = end ≡ None

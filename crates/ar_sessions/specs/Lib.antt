@@ -7,6 +7,7 @@ pub mod Port
 pub use Rattle.ar_history.specs.Seat
 pub use Rattle.ar_history.specs.Counts
 pub use Rattle.ar_history.specs.Kept
+pub use Rattle.ar_history.specs.Served
 pub use Rattle.ar_history.specs.Serving
 pub use Rattle.ar_history.specs.Operations
 pub use Rattle.ar_core.specs.Step

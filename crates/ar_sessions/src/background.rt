@@ -4,9 +4,9 @@ ghost use Rattle.std.specs.Prelude.{◌≡◌, ◌<◌, nat_lt};
 ghost use Rattle.ar_sessions.specs.Background.{is_due, is_long, is_resting, begun, paused, stepped, pause_after};
 ghost use Rattle.ar_sessions.specs.Background.{task_after, TakesTurn, MakesPass};
 
-use crate::MaintainedArray;
-use ar_history::Task;
+use ar_history::{ServedArray, Task};
 use std::sync::atomic::{AtomicBool, Ordering};
+use std::sync::ledger::Ledger;
 use std::sync::{Mutex, Wait};
 use std::thread;
 use std::time::{Clock, Duration};
@@ -48,7 +48,7 @@ struct Rotation {
 /// round in which there was nothing to do it sleeps for 1 ms, so that it costs the sessions little, and twice as long
 /// after each further one, up to 16 ms; until something happens to the array, such rounds are skipped, for 64 pauses at
 /// most.
-pub fn run_background<R: Wait + Clock, A: MaintainedArray + Drop>(
+pub fn run_background<R: Wait + Clock, A: ServedArray<L> + Drop, L: Ledger>(
     rt: &R,
     array: &Mutex<A>,
     stop: &AtomicBool,
@@ -59,7 +59,7 @@ pub fn run_background<R: Wait + Clock, A: MaintainedArray + Drop>(
             break;
         }
         // A statement of its own, so that the lock is free before the pause.
-        let pause = rotation.advance::<A>(&mut array.lock(rt));
+        let pause = rotation.advance::<A, L>(&mut array.lock(rt));
         match pause {
             Some(pause) => thread::sleep(rt, Duration::from_millis(pause)),
             None => thread::yield_now(),
@@ -78,16 +78,16 @@ impl Rotation {
     }
 
     // Performs the next task, unless the maintenance rests. Returns for how many milliseconds to pause then, if at all.
-    fn advance<A: MaintainedArray>(&mut self, array: &mut A) -> Option<u64>
+    fn advance<A: ServedArray<L>, L: Ledger>(&mut self, array: &mut A) -> Option<u64>
         ensures { MakesPass (A.state array.old) self.old result (A.state array.new) self.new }
     {
-        let events = array.event_count();
+        let events = array.events();
         if self.is_resting(events) {
             return Some(self.rest());
         }
         self.begin(events);
         let has_worked = take_turn(array, self.task);
-        self.after_turn(has_worked, array.event_count())
+        self.after_turn(has_worked, array.events())
     }
 
     // Whether there was nothing to do, and nothing has happened since.
@@ -166,7 +166,7 @@ fn next(task: Task) -> Task
 }
 
 // Performs a task if it is due, and returns whether it did anything.
-fn take_turn<A: MaintainedArray>(array: &mut A, task: Task) -> bool
+fn take_turn<A: ServedArray<L>, L: Ledger>(array: &mut A, task: Task) -> bool
     ensures { TakesTurn (A.state array.old) task result (A.state array.new) }
 {
     is_due(task, array.free_groups()) && array.work(task)

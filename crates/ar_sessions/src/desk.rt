@@ -3,7 +3,7 @@ ghost use Rattle.std.specs.Prelude.{◌≡◌, ◌<◌, ℕ, [], ◌∷◌, map,
 ghost use Rattle.std.specs.Prelude.{IfOk, IfErr, OnErr, IfSome};
 ghost use Rattle.std.specs.List.{list_all};
 ghost use Rattle.ar_history.specs.Seat.{SeatState};
-ghost use Rattle.ar_sessions.specs.Desk.{AreOwn, Lends, seat_at, receipt_of, session_after};
+ghost use Rattle.ar_sessions.specs.Desk.{AreOwn, HandsOut, Lends, Places, seat_at, receipt_of, session_after};
 
 use ar_disks::Host;
 use ar_history::Seat;
@@ -17,12 +17,17 @@ pub trait SeatDesk<L: Ledger> {
     /// so that no other code can report a seat as missing that is in its place.
     ghost finds: { ℕ → Option SeatState → Type 0 };
 
+    /// The places of the four hosts: each has its seat, or none.
+    ghost places: { Self → Places };
+
     /// Moves a host's seat to `slot`. False: it isn't in its place.
     fn lend(&mut self, host: Host, slot: &mut SeatSlot<L>) -> bool
-        ensures { Lends finds host.number slot.old result slot.new };
+        ensures lends { Lends finds host.number slot.old result slot.new }
+        ensures hands { HandsOut host.number (places self.old) slot.old result (places self.new) slot.new };
 
-    /// Counts a command of a host's session, by the number of bytes of its data and its reply.
-    fn count_command(&mut self, host: Host, sent: usize, reply: &Reply);
+    /// Counts a command of a host's session, by the number of bytes of its data and its reply. No seat moves.
+    fn count_command(&mut self, host: Host, sent: usize, reply: &Reply)
+        ensures { places self.new ≡ places self.old };
 }
 
 /// Room for one seat.
@@ -225,6 +230,8 @@ impl<L: Ledger> SeatDesk<L> for Desk<L> {
     ghost use Rattle.ar_sessions.specs.Desk.{IsFound};
 
     ghost finds = { λ number found. IsFound number found };
+
+    ghost places = { λ desk. desk };
 
     fn lend(&mut self, host: Host, slot: &mut SeatSlot<L>) -> bool {
         match self.take(host) {

@@ -1,5 +1,5 @@
 //! Hosts' sessions on one array, each in a thread of its own, with maintenance in the background. The array and its
-//! history (`Kept`) are behind one lock, which each command and each maintenance step holds. A host has one session at
+//! history (`ServedArray`) are behind one lock, which each command and each maintenance step holds. A host has one session at
 //! a time: a login takes the host's right to issue commands (`Seat`) from the pool of those that are free (`Desk`), and
 //! the end of the session puts it back.
 #![tactic(auto)]
@@ -12,17 +12,14 @@ mod notes;
 mod pool;
 mod port;
 mod sessions;
-mod shared;
 mod socket;
 mod tcp;
 
 pub use background::run_background;
 pub use desk::{Desk, Receipt, SeatDesk, SeatSlot, SessionCounts};
 pub use door::{Door, MemDoor};
-pub use flushing::FlushedArray;
 pub use pool::{Handler, MOST_AT_ONCE, SharedDoor, run_pool, start_pool};
 pub use port::LockPort;
 pub use sessions::{ConnectionEnd, NoMemory, run_beside_background, run_sessions};
-pub use shared::{MaintainedArray, ServedArray};
 pub use socket::{SocketReader, SocketWriter};
 pub use tcp::{ANY_NUMBER, ListenFault, TcpDoor, TcpReader, TcpWriter, Timeouts, wake};

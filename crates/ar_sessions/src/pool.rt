@@ -1,11 +1,12 @@
 // Threads that take turns at a door: one waits for the next connection, while the others serve theirs or wait for the
 // door. So at most as many connections as threads are open at once, any number follow one another, and nothing grows.
 ghost use Rattle.std.specs.Prelude.{◌≡◌};
-ghost use Rattle.ar_sessions.specs.Ends.{TakesNext};
+ghost use Rattle.ar_sessions.specs.Ends.{GivesBack, HandlesNext, TakesNext};
 
-use crate::sessions::{Connection, Shared};
-use crate::{Desk, Door, MaintainedArray, NoMemory, ServedArray, run_background};
-use ar_frames::{Gate, Sink, Source};
+use crate::sessions::{Connection, Shared, start_background};
+use crate::{Desk, Door, NoMemory, Receipt};
+use ar_frames::{Gate, SessionEnd, Sink, Source};
+use ar_history::ServedArray;
 use log::Log;
 use std::alloc::Global;
 use std::sync::atomic::{AtomicBool, Ordering};
@@ -42,10 +43,14 @@ enum Next<S, W> {
     Closed,
 }
 
-/// What the threads of a pool do with the connections of a door.
-pub trait Handler<S, W> {
+/// What the threads of a pool do with the connections of a door. `E` is how a connection ended.
+pub trait Handler<S, W, E> {
+    /// How a connection over these streams, as they were when it was opened, may end.
+    ghost ends: { Self → S → W → E → Type 0 };
+
     /// Serves a connection to its end. `number` counts the door's connections, from 1.
-    fn handle(&self, number: u64, reader: S, writer: W);
+    fn handle(&self, number: u64, reader: S, writer: W) -> E
+        ensures { ends self.now reader writer result };
 }
 
 /// Serves the connections that `door` opens, at most 64 at once, beside a thread that runs background maintenance.
@@ -53,7 +58,7 @@ pub trait Handler<S, W> {
 /// thread couldn't be started, no connection was opened.
 pub fn run_pool<
     R: Threads + Wait + Clock + Log + Sync,
-    A: ServedArray<L> + MaintainedArray + Drop + Send,
+    A: ServedArray<L> + Drop + Send,
     L: Ledger + Send + Sync,
     O: Door + Drop + Send,
     G: Gate + Sync,
@@ -72,7 +77,7 @@ pub fn run_pool<
 // The same at a shared door.
 fn serve_door<
     R: Threads + Wait + Clock + Log + Sync,
-    A: ServedArray<L> + MaintainedArray + Drop + Send,
+    A: ServedArray<L> + Drop + Send,
     L: Ledger + Send + Sync,
     O: Door + Drop + Send,
     G: Gate + Sync,
@@ -100,8 +105,8 @@ fn serve_beside<
     's,
     E,
     R: Threads + Wait + Clock + Log + Sync,
-    A: ServedArray<L> + MaintainedArray + Drop + Send,
-    L: Ledger + Send + Sync,
+    A: ServedArray<L> + Drop + Send,
+    L: Ledger + Send + Sync + 's,
     O: Door + Drop + Send,
     G: Gate + Sync,
 >(
@@ -114,9 +119,7 @@ fn serve_beside<
     gate: &G,
     ended: &'s AtomicBool,
 ) -> Result<(), NoMemory> {
-    let Ok(_worker) = scope.spawn(move || run_background(rt, array, ended)) else {
-        return Err(NoMemory);
-    };
+    start_background(scope, rt, array, ended)?;
     let served = serve_in_turn(rt, alloc, door, array, desk, gate);
     ended.store(true, Ordering::SeqCst);
     served
@@ -159,7 +162,8 @@ pub fn start_pool<
     E,
     R: Wait + Sync,
     O: Door + Drop + Send,
-    T: Handler<O::Reader, O::Writer> + Sync,
+    T: Handler<O::Reader, O::Writer, End> + Sync,
+    End: Drop + Send + 's,
 >(
     scope: &'s Scope<'s, E>,
     rt: &'s R,
@@ -178,17 +182,26 @@ pub fn start_pool<
 }
 
 // Handles one connection after another.
-fn handle_each<R: Wait, O: Door + Drop, T: Handler<O::Reader, O::Writer>>(
+fn handle_each<R: Wait, O: Door + Drop, T: Handler<O::Reader, O::Writer, E>, E: Drop>(
     rt: &R,
     door: &SharedDoor<O>,
     handler: &T,
 ) {
     for _ in rt.forever() {
         match door.next(rt) {
-            Next::Opened(number, reader, writer) => handler.handle(number, reader, writer),
-            Next::Unopened => {}
             Next::Closed => break,
+            next => drop(handle_next(handler, next)),
         }
+    }
+}
+
+// Handles a connection, if there is one, once and to its end.
+fn handle_next<S: Drop, W: Drop, T: Handler<S, W, E>, E>(handler: &T, next: Next<S, W>) -> Option<E>
+    ensures { HandlesNext (T.ends handler.now) next result }
+{
+    match next {
+        Next::Opened(number, reader, writer) => Some(handler.handle(number, reader, writer)),
+        Next::Unopened | Next::Closed => None,
     }
 }
 
@@ -200,10 +213,19 @@ impl<
     G: Gate,
     S: Source + Drop,
     W: Sink + Drop,
-> Handler<S, W> for Shared<'a, R, A, L, G> {
+> Handler<S, W, (SessionEnd, Option<Receipt>)> for Shared<'a, R, A, L, G> {
+    ghost ends = { λ _ reader writer ended. GivesBack A.stores (S.state reader) (W.state writer) ended.0 ended.1 };
+
     // Serves a host's session.
-    fn handle(&self, number: u64, reader: S, writer: W) {
-        let _ended = Connection::new(self, number, reader, writer).serve_logged();
+    fn handle(&self, number: u64, reader: S, writer: W) -> (SessionEnd, Option<Receipt>) {
+        let connection = Connection {
+            shared: self,
+            number,
+            reader,
+            writer,
+        };
+        let (end, receipt, _reader, _writer) = connection.serve_logged();
+        (end, receipt)
     }
 }
 

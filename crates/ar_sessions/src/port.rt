@@ -2,12 +2,14 @@
 // and the next.
 ghost use Rattle.std.specs.Prelude.{◌≡◌, None};
 ghost use Rattle.ar_frames.specs.Frame.{IsReply};
+ghost use Rattle.ar_history.specs.Served.{AnswersCommand};
 ghost use Rattle.ar_sessions.specs.Desk.{receipt_for};
+ghost use Rattle.ar_sessions.specs.Port.{AsksArray};
 
-use crate::{Desk, Receipt, SeatDesk, SeatSlot, ServedArray};
+use crate::{Desk, Receipt, SeatDesk, SeatSlot};
 use ar_disks::Host;
 use ar_frames::{Login, Port};
-use ar_history::Seat;
+use ar_history::{Seat, ServedArray};
 use ar_scsi::{Command, Reply, decode};
 use bytes::Bytes;
 use std::alloc::Global;
@@ -81,13 +83,13 @@ impl<'a, R: Wait, A: Drop, L: Ledger> LockPort<'a, R, A, Desk<L>, L> {
 impl<'a, R: Wait, A: ServedArray<L> + Drop, K: SeatDesk<L> + Drop, L: Ledger> Port
     for LockPort<'a, R, A, K, L> {
     ghost use Rattle.std.specs.Prelude.{is_some};
-    ghost use Rattle.ar_sessions.specs.Port.{TakesSeat, AsksSeat};
+    ghost use Rattle.ar_sessions.specs.Port.{TakesSeat, AsksArray, AsksSeat};
 
     ghost has_login = { λ port. is_some port };
 
     ghost logins = { λ old host answer new. TakesSeat K.finds old host answer new };
 
-    ghost commands = { λ old lun cdb payload reply new. AsksSeat A.asks old lun cdb payload reply new };
+    ghost commands = { λ old lun cdb payload reply new. AsksSeat (AsksArray A.stores) old lun cdb payload reply new };
 
     fn login(&mut self, host: u8) -> Login {
         let Some(host) = Host::new(host) else {
@@ -125,7 +127,7 @@ fn ask_counted<R: Wait, A: ServedArray<L> + Drop, K: SeatDesk<L> + Drop, L: Ledg
     cdb: &[u8; 16],
     payload: Bytes,
 ) -> Reply
-    ensures asks { A.asks seat.old lun cdb.now payload result seat.new }
+    ensures asks { AsksArray A.stores seat.old lun cdb.now payload result seat.new }
     ensures reply { IsReply result }
 {
     let host = seat.host();
@@ -145,14 +147,36 @@ fn ask_locked<R: Wait, A: ServedArray<L> + Drop, L: Ledger>(
     cdb: &[u8; 16],
     payload: Bytes,
 ) -> Reply
-    ensures asks { A.asks seat.old lun cdb.now payload result seat.new }
+    ensures asks { AsksArray A.stores seat.old lun cdb.now payload result seat.new }
     ensures reply { IsReply result }
 {
-    let mut array = lock_soon(rt, array);
+    ask_with::<A, L>(&mut lock_soon(rt, array), memory, seat, lun, cdb, payload)
+}
+
+// Executes a command on the array, for which memory may be lent.
+fn ask_with<A: ServedArray<L>, L: Ledger>(
+    array: &mut A,
+    memory: Option<Vec<u8>>,
+    seat: &mut Seat<L>,
+    lun: u8,
+    cdb: &[u8; 16],
+    payload: Bytes,
+) -> Reply
+    ensures answers { AnswersCommand A.stores (A.state array.old) seat.old lun cdb.now payload result
+        (A.state array.new) seat.new }
+    ensures reply { IsReply result }
+{
+    lend(array, memory);
+    array.ask(seat, lun, cdb, payload)
+}
+
+// Lends memory to the array, if there is any.
+fn lend<A: ServedArray<L>, L: Ledger>(array: &mut A, memory: Option<Vec<u8>>)
+    ensures { A.state array.new ≡ A.state array.old }
+{
     if let Some(memory) = memory {
         array.lend_memory(memory);
     }
-    array.ask(seat, lun, cdb, payload)
 }
 
 // Memory for the data of a long READ, allocated and touched before the array is locked. None for other commands, and if

@@ -8,8 +8,9 @@ ghost use Rattle.ar_sessions.specs.Ends.{IsServedOver, IsPromised, GivesBack, Le
 ghost use Rattle.ar_sessions.specs.Ends.{ConnectionEnds, EndOf};
 
 use crate::notes::{note_end, note_start};
-use crate::{Desk, Door, LockPort, MaintainedArray, Receipt, ServedArray, run_background};
+use crate::{Desk, Door, LockPort, Receipt, run_background};
 use ar_frames::{EndReason, Gate, SessionEnd, Sink, Source, serve_gated};
+use ar_history::ServedArray;
 use log::Log;
 use std::alloc::Global;
 use std::collections::VecDeque;
@@ -48,11 +49,11 @@ pub struct Shared<'a, R: Wait, A: Drop, L: Ledger, G: Gate> {
 /// A connection, with the state that its session shares with the others.
 #[derive(Drop)]
 pub struct Connection<'a, R: Wait, A: Drop, L: Ledger, G: Gate, S: Source + Drop, W: Sink + Drop> {
-    shared: &'a Shared<'a, R, A, L, G>,
+    pub(crate) shared: &'a Shared<'a, R, A, L, G>,
     // Its number among all connections, from 1.
-    number: u64,
-    reader: S,
-    writer: W,
+    pub(crate) number: u64,
+    pub(crate) reader: S,
+    pub(crate) writer: W,
 }
 
 // The promise of a session's thread: it returns the end of a session at an array `A` over these streams, in the states
@@ -68,7 +69,7 @@ impl<A: ServedArray<L>, L: Ledger, S: Source, W: Sink> Promise<(SessionEnd, Opti
     for AsServed<A, L, S, W> {
     ghost use Rattle.ar_sessions.specs.Ends.{GivesBack};
 
-    ghost kept_by = { λ promise ended. GivesBack A.asks (S.state promise.reader.value) (W.state promise.writer.value)
+    ghost kept_by = { λ promise ended. GivesBack A.stores (S.state promise.reader.value) (W.state promise.writer.value)
         ended.0 ended.1 };
 }
 
@@ -115,7 +116,7 @@ pub fn run_sessions<
     ensures count { IfOk result.1 (λ ends. vec_len ends ≡ O.to_come door) }
     // One end for each connection, in the order in which the door opened them, or couldn't.
     ensures ends { IfOk result.1 (λ ends.
-        InTurn (ConnectionEnds O.opens (IsServedOver A.asks O.Reader.state O.Writer.state)) ends.items door result.0) }
+        InTurn (ConnectionEnds O.opens (IsServedOver A.stores O.Reader.state O.Writer.state)) ends.items door result.0) }
     ensures opened { OnOk result.1 (O.to_come result.0 ≡ 0) }
     ensures refused { OnErr result.1 (result.0 ≡ door) }
 {
@@ -137,7 +138,7 @@ pub fn run_sessions<
             requires { O.to_come door ≡ join_list.left }
             ensures { (O.to_come result.0 ≡ 0)
                 × (vec_len result.1 ≡ join_list.left)
-                × InTurn (ConnectionEnds O.opens (IsServedOver A.asks O.Reader.state O.Writer.state)) result.1.items
+                × InTurn (ConnectionEnds O.opens (IsServedOver A.stores O.Reader.state O.Writer.state)) result.1.items
                 door result.0 }
         {
             let mut door = door;
@@ -152,7 +153,7 @@ pub fn run_sessions<
 /// `NoMemory`, which also means that this thread couldn't be started, no connection was opened.
 pub fn run_beside_background<
     R: Threads + Wait + Clock + Log + Sync,
-    A: ServedArray<L> + MaintainedArray + Drop + Send,
+    A: ServedArray<L> + Drop + Send,
     L: Ledger + Send + Sync,
     O: Door + Drop,
     G: Gate + Sync,
@@ -167,7 +168,7 @@ pub fn run_beside_background<
     ensures count { IfOk result.1 (λ ends. vec_len ends ≡ O.to_come door) }
     // One end for each connection, in the order in which the door opened them, or couldn't.
     ensures ends { IfOk result.1 (λ ends.
-        InTurn (ConnectionEnds O.opens (IsServedOver A.asks O.Reader.state O.Writer.state)) ends.items door result.0) }
+        InTurn (ConnectionEnds O.opens (IsServedOver A.stores O.Reader.state O.Writer.state)) ends.items door result.0) }
     ensures opened { OnOk result.1 (O.to_come result.0 ≡ 0) }
     ensures refused { OnErr result.1 (result.0 ≡ door) }
 {
@@ -178,19 +179,38 @@ pub fn run_beside_background<
         rt,
         move |scope| -> (O, Result<Vec<ConnectionEnd>, NoMemory>)
             ensures { IfOk result.1 (λ ends. (vec_len ends ≡ O.to_come door)
-                × InTurn (ConnectionEnds O.opens (IsServedOver A.asks O.Reader.state O.Writer.state)) ends.items door
+                × InTurn (ConnectionEnds O.opens (IsServedOver A.stores O.Reader.state O.Writer.state)) ends.items door
                 result.0)
                 × OnOk result.1 (O.to_come result.0 ≡ 0)
                 × OnErr result.1 (result.0 ≡ door) }
         {
-            let Ok(_worker) = scope.spawn(move || run_background(rt, array, flag)) else {
+            if start_background(scope, rt, array, flag).is_err() {
                 return (door, Err(NoMemory));
-            };
+            }
             let served = run_sessions(rt, alloc, door, array, desk, gate);
             flag.store(true, Ordering::SeqCst);
             served
         },
     )
+}
+
+// Starts the thread of the background maintenance.
+pub(crate) fn start_background<
+    's,
+    E,
+    R: Wait + Clock + Sync,
+    A: ServedArray<L> + Drop + Send,
+    L: Ledger + Send + Sync + 's,
+>(
+    scope: &'s Scope<'s, E>,
+    rt: &'s R,
+    array: &'s Mutex<A>,
+    stop: &'s AtomicBool,
+) -> Result<(), NoMemory> {
+    match scope.spawn(move || run_background(rt, array, stop)) {
+        Ok(_worker) => Ok(()),
+        Err(_) => Err(NoMemory),
+    }
 }
 
 // Starts a thread for each connection, and joins all of them.
@@ -213,7 +233,7 @@ where
     O::Writer: 's,
     requires { O.to_come door.old ≡ join_list.left }
     ensures count { vec_len result ≡ join_list.left }
-    ensures ends { InTurn (ConnectionEnds O.opens (IsServedOver A.asks O.Reader.state O.Writer.state)) result.items
+    ensures ends { InTurn (ConnectionEnds O.opens (IsServedOver A.stores O.Reader.state O.Writer.state)) result.items
         door.old door.new }
     ensures opened { O.to_come door.new ≡ 0 }
 {
@@ -249,8 +269,8 @@ where
     O::Writer: 's,
     requires { 0 < O.to_come door.old }
     ensures count { O.to_come door.new + 1 ≡ O.to_come door.old }
-    ensures becomes { Becomes O.opens (λ handle. IsPromised A.asks O.Reader.state O.Writer.state handle.promise)
-        (IsServedOver A.asks O.Reader.state O.Writer.state) door.old result door.new }
+    ensures becomes { Becomes O.opens (λ handle. IsPromised A.stores O.Reader.state O.Writer.state handle.promise)
+        (IsServedOver A.stores O.Reader.state O.Writer.state) door.old result door.new }
 {
     let Some((reader, writer)) = door.accept() else {
         return Pending::Unopened;
@@ -289,7 +309,7 @@ fn begin<
         writer: Snapshot::of(&connection.writer),
     };
     let session = move || -> (SessionEnd, Option<Receipt>)
-        ensures { GivesBack A.asks (S.state connection.entry.reader) (W.state connection.entry.writer)
+        ensures { GivesBack A.stores (S.state connection.entry.reader) (W.state connection.entry.writer)
             result.0 result.1 }
     {
         let (end, receipt, _reader, _writer) = connection.serve_logged();
@@ -310,7 +330,7 @@ fn join_all<R: Threads, A: ServedArray<L>, L: Ledger, S: Source, W: Sink>(
     requires none { vec_len ends ≡ 0 }
     requires room { deque_len pending ≤ vec_capacity ends }
     ensures count { vec_len result ≡ deque_len pending }
-    ensures order { AllZip (EndOf (λ handle. IsPromised A.asks S.state W.state handle.promise))
+    ensures order { AllZip (EndOf (λ handle. IsPromised A.stores S.state W.state handle.promise))
         pending.items result.items }
 {
     while let Some(next) = pending.pop_front() {
@@ -324,7 +344,7 @@ fn end_of<R: Threads, A: ServedArray<L>, L: Ledger, S: Source, W: Sink>(
     rt: &R,
     pending: Pending<Handle<A, L, S, W>>,
 ) -> ConnectionEnd
-    ensures { EndOf (λ handle. IsPromised A.asks S.state W.state handle.promise) pending result }
+    ensures { EndOf (λ handle. IsPromised A.stores S.state W.state handle.promise) pending result }
 {
     match pending {
         Pending::Served(handle) => {
@@ -367,26 +387,9 @@ impl<
     S: Source + Drop,
     W: Sink + Drop,
 > Connection<'a, R, A, L, G, S, W> {
-    /// A connection of a number, from 1.
-    pub fn new(
-        shared: &'a Shared<'a, R, A, L, G>,
-        number: u64,
-        reader: S,
-        writer: W,
-    ) -> Connection<'a, R, A, L, G, S, W>
-        ensures { (result.reader ≡ reader) × (result.writer ≡ writer) }
-    {
-        Connection {
-            shared,
-            number,
-            reader,
-            writer,
-        }
-    }
-
     /// Serves the connection's session as `serve` does, and logs its start and its end.
     pub fn serve_logged(self) -> (SessionEnd, Option<Receipt>, S, W)
-        ensures { LeavesOff A.asks (S.state self.entry.reader) (S.state result.2) (W.state self.entry.writer)
+        ensures { LeavesOff A.stores (S.state self.entry.reader) (S.state result.2) (W.state self.entry.writer)
             (W.state result.3) result.0 result.1 }
     {
         let (rt, number) = (self.shared.rt, self.number);
@@ -399,7 +402,7 @@ impl<
     // Serves the connection's session, and returns its seat to the desk for a receipt. The streams are returned as the
     // session left them, so that they are dropped, and so closed, only once the seat is back.
     fn run_session(self) -> (SessionEnd, Option<Receipt>, S, W)
-        ensures { LeavesOff A.asks (S.state self.entry.reader) (S.state result.2) (W.state self.entry.writer)
+        ensures { LeavesOff A.stores (S.state self.entry.reader) (S.state result.2) (W.state self.entry.writer)
             (W.state result.3) result.0 result.1 }
     {
         let Connection {

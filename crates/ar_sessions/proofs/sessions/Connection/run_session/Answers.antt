@@ -2,7 +2,7 @@ use Rattle.std.proofs.Common.{rules, Option, subst}
 use Rattle.ar_history.specs.Seat.{SeatState}
 use Rattle.ar_frames.specs.Session.{Session}
 use Rattle.ar_sessions.specs.Desk.{IsFound}
-use Rattle.ar_sessions.specs.Port.{TakesSeat, AsksSeat}
+use Rattle.ar_sessions.specs.Port.{TakesSeat, AsksArray, AsksSeat}
 use Rattle.ar_sessions.proofs.sessions.Connection.run_session.Goals as goal
 
 pub returns : goal.returns
@@ -11,7 +11,7 @@ returns g c = record {
   session =
       subst
       (λ (port : Option SeatState).
-      Session (TakesSeat IsFound) (AsksSeat g.A.ServedArray.asks) (g.S.Source.state c.args.self.reader)
+      Session (TakesSeat IsFound) (AsksSeat (AsksArray g.A.ServedArray.stores)) (g.S.Source.state c.args.self.reader)
       (g.S.Source.state c.serve_gated-end.new.reader)
       (g.W.Sink.state c.args.self.writer) (g.W.Sink.state c.serve_gated-end.new.writer) port c.serve_gated-end.new.port
       c.serve_gated-end.result)
