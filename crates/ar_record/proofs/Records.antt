@@ -3,15 +3,15 @@ use Rattle.std.proofs.Common.{◌≡◌, ℕ, zero, suc, ◌+◌, ◌^◌, ◌<�
 use Rattle.std.specs.Prelude.{IfOk, All}
 use Rattle.std.specs.List.{AllByRecursion}
 use Rattle.std.proofs.lemmas.List.Elements.{All-from_recursion}
-use Rattle.std.specs.Int.{w32, to_be_bytes}
+use Rattle.std.specs.Int.{w32, w64, to_be_bytes}
 use Rattle.std.proofs.lemmas.Bool.{eqb-true, ne_eqb}
 use Rattle.std.proofs.lemmas.List.{append-nil, nil_from_length}
 use Rattle.ar_record.specs.declared.record.Record.{Record as Stored}
 use Rattle.ar_record.specs.declared.decoding.DecodeError.{DecodeError}
-use Rattle.ar_record.specs.Record.{RecordData, Make, Grow, Remove, Command, AddDisk, data_of, all_data, IsEncodable, AreEncodable, HasUnitNumbers}
+use Rattle.ar_record.specs.Record.{RecordData, Make, Grow, Remove, Command, Unmap, AddDisk, data_of, all_data, IsEncodable, AreEncodable, HasUnitNumbers}
 use Rattle.ar_record.specs.Encoding.{encoding_of, encodings_of}
-use Rattle.ar_record.specs.Reading.{◌>>=◌, ReadsAs, bytes_at, number_at, named_unit_at, sized_at, command_at, record_at, decoded, with_record, all_decoded}
-use Rattle.ar_record.proofs.Fields.{IsBytes, IsBytes-rest, bind_some, test_some, some_is, Takes, Takes-then, Takes-byte, number_takes, number_again, bytes_take, bytes_again, unit_takes, unit_again, sized_takes, sized_again}
+use Rattle.ar_record.specs.Reading.{◌>>=◌, ReadsAs, bytes_at, number_at, named_unit_at, sized_at, command_at, discard_at, record_at, decoded, with_record, all_decoded}
+use Rattle.ar_record.proofs.Fields.{IsBytes, IsBytes-rest, bind_some, test_some, some_is, Takes, Takes-then, Takes-byte, number_takes, number_again, wide_number_takes, wide_number_again, bytes_take, bytes_again, unit_takes, unit_again, sized_takes, sized_again}
 
 abbrev no_record : Option (RecordData × List ℕ)
 no_record = None
@@ -48,7 +48,33 @@ command_again host lun cdb payload rest fits =
       bytes_again (length payload) payload rest refl,
     ) refl
 
-unknown : (kind : ℕ) (bytes : List ℕ) → 5 ≤ kind → record_at (kind ∷ bytes) ≡ None
+discard_takes : (bytes : List ℕ) (x : RecordData × List ℕ) → IsBytes bytes → discard_at bytes ≡ Some x
+    → Takes (5 ∷ bytes) (encoding_of x.0) x.1 × IsEncodable x.0
+unfolding discard_at
+discard_takes bytes x fits e =
+    let a = bind_some (named_unit_at bytes) (λ unit. number_at w64 unit.1 >>= λ lba. number_at w32 lba.1 >>= λ count. Some (Unmap unit.0.0 unit.0.1 lba.0 count.0, count.1)) x e in
+    let b = bind_some (number_at w64 a.0.1) (λ lba. number_at w32 lba.1 >>= λ count. Some (Unmap a.0.0.0 a.0.0.1 lba.0 count.0, count.1)) x a.2 in
+    let c = bind_some (number_at w32 b.0.1) (λ count. Some (Unmap a.0.0.0 a.0.0.1 b.0.0 count.0, count.1)) x b.2 in
+    let t0 = unit_takes bytes a.0 fits a.1 in
+    let t1 = wide_number_takes a.0.1 b.0 t0.0.rest_fits b.1 in
+    let t2 = number_takes b.0.1 c.0 t1.0.rest_fits c.1 in
+    let e12 = Takes-then a.0.1 (to_be_bytes w64 b.0.0) b.0.1 (to_be_bytes w32 c.0.0) c.0.1 t1.0 t2.0 in
+    let e02 = Takes-then bytes (a.0.0.0 ∷ a.0.0.1 ∷ []) a.0.1 (to_be_bytes w64 b.0.0 ++ to_be_bytes w32 c.0.0) c.0.1 t0.0 e12 in
+    subst (λ (y : RecordData × List ℕ). Takes (5 ∷ bytes) (encoding_of y.0) y.1 × IsEncodable y.0)
+    (some_is (Unmap a.0.0.0 a.0.0.1 b.0.0 c.0.0, c.0.1) x c.2)
+    (Takes-byte 5 bytes _ c.0.1 e02, (t0.1, record { lba_fits = t1.1; count_fits = t2.1 }))
+
+discard_again : (host lun lba count : ℕ) (rest : List ℕ) → IsEncodable (Unmap host lun lba count)
+    → discard_at (host ∷ lun ∷ (to_be_bytes w64 lba ++ (to_be_bytes w32 count ++ rest))) ≡ Some (Unmap host lun lba count, rest)
+unfolding discard_at
+discard_again host lun lba count rest fits =
+    rw (
+      unit_again host lun (to_be_bytes w64 lba ++ (to_be_bytes w32 count ++ rest)) fits.0,
+      wide_number_again lba (to_be_bytes w32 count ++ rest) fits.1.lba_fits,
+      number_again count rest fits.1.count_fits,
+    ) refl
+
+unknown : (kind : ℕ) (bytes : List ℕ) → 6 ≤ kind → record_at (kind ∷ bytes) ≡ None
 unfolding record_at
 unknown kind bytes le =
     rw (
@@ -57,6 +83,7 @@ unknown kind bytes le =
       ne_eqb kind 2 (λ e. omega (arith, e, le)),
       ne_eqb kind 3 (λ e. omega (arith, e, le)),
       ne_eqb kind 4 (λ e. omega (arith, e, le)),
+      ne_eqb kind 5 (λ e. omega (arith, e, le)),
     ) refl
 
 none_is_none : (x : RecordData × List ℕ) → no_record ≡ Some x → ⊥
@@ -86,7 +113,8 @@ record_takes (suc (suc (suc (suc zero))) ∷ bytes) x fits e =
     let t = number_takes bytes b.0 (IsBytes-rest 4 bytes fits) b.1 in
     subst (λ (y : RecordData × List ℕ). Takes (4 ∷ bytes) (encoding_of y.0) y.1 × IsEncodable y.0)
     (some_is (AddDisk b.0.0, b.0.1) x b.2) (Takes-byte 4 bytes _ b.0.1 t.0, t.1)
-record_takes (suc (suc (suc (suc (suc k)))) ∷ bytes) x fits e = absurd (none_is_none x (sym (unknown (suc (suc (suc (suc (suc k))))) bytes (omega arith)) ∙ e))
+record_takes (suc (suc (suc (suc (suc zero)))) ∷ bytes) x fits e = discard_takes bytes x (IsBytes-rest 5 bytes fits) e
+record_takes (suc (suc (suc (suc (suc (suc k))))) ∷ bytes) x fits e = absurd (none_is_none x (sym (unknown (suc (suc (suc (suc (suc (suc k)))))) bytes (omega arith)) ∙ e))
 
 record_again : (r : RecordData) (rest : List ℕ) → IsEncodable r → record_at (encoding_of r ++ rest) ≡ Some (r, rest)
 unfolding record_at
@@ -96,6 +124,9 @@ record_again (Remove host lun) rest fits = rw (unit_again host lun rest fits) re
 record_again (Command host lun cdb payload) rest fits =
     let regrouped : (cdb ++ (to_be_bytes w32 (length payload) ++ payload)) ++ rest ≡ cdb ++ (to_be_bytes w32 (length payload) ++ (payload ++ rest)) = append_assoc cdb (to_be_bytes w32 (length payload) ++ payload) rest ∙ ap (λ (w : List ℕ). cdb ++ w) (append_assoc (to_be_bytes w32 (length payload)) payload rest) in
     ap (λ (w : List ℕ). command_at (host ∷ lun ∷ w)) regrouped ∙ command_again host lun cdb payload rest fits
+record_again (Unmap host lun lba count) rest fits =
+    let regrouped : (to_be_bytes w64 lba ++ to_be_bytes w32 count) ++ rest ≡ to_be_bytes w64 lba ++ (to_be_bytes w32 count ++ rest) = append_assoc (to_be_bytes w64 lba) (to_be_bytes w32 count) rest in
+    ap (λ (w : List ℕ). discard_at (host ∷ lun ∷ w)) regrouped ∙ discard_again host lun lba count rest fits
 record_again (AddDisk extents) rest fits = rw (number_again extents rest fits) refl
 
 pub decoded_takes : (bytes : List ℕ) (r : RecordData) → IsBytes bytes → decoded bytes ≡ Some r → IsEncodable r × (bytes ≡ encoding_of r)

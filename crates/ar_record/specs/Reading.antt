@@ -1,10 +1,10 @@
 -- The record at the front of bytes, and the bytes behind it. There is none where a field is cut short or unknown.
 use Rattle.std.specs.Prelude.{◌≡◌, ℕ, List, [], ◌∷◌, length, take, drop, Option, Some, None, nat_lt, ◌==◌}
 use Rattle.std.specs.Prelude.{if◌then◌else◌, Result, Ok, Err}
-use Rattle.std.specs.Int.{Width, w32, byte_len, from_be_bytes}
+use Rattle.std.specs.Int.{Width, w32, w64, byte_len, from_be_bytes}
 use Rattle.ar_record.specs.declared.decoding.DecodeError.{DecodeError}
 use Rattle.ar_record.specs.declared.decoding.DecodeError.TheVariants.{NoMemory, Invalid}
-use Rattle.ar_record.specs.Record.{RecordData, Make, Grow, Remove, Command, AddDisk}
+use Rattle.ar_record.specs.Record.{RecordData, Make, Grow, Remove, Command, Unmap, AddDisk}
 
 infixl 10 ◌>>=◌
 abbrev pub ◌>>=◌ : {A B : Type 0} → Option A → (A → Option B) → Option B
@@ -42,6 +42,14 @@ command_at bytes = do
   payload ← bytes_at count.0 count.1
   Some (Command unit.0.0 unit.0.1 cdb.0 payload.0, payload.1)
 
+-- a discard
+unfoldable pub discard_at : List ℕ → Option (RecordData × List ℕ)
+discard_at bytes = do
+  unit ← named_unit_at bytes
+  lba ← number_at w64 unit.1
+  count ← number_at w32 lba.1
+  Some (Unmap unit.0.0 unit.0.1 lba.0 count.0, count.1)
+
 -- a record
 unfoldable pub record_at : List ℕ → Option (RecordData × List ℕ)
 record_at [] = None
@@ -59,7 +67,8 @@ record_at (kind ∷ bytes) =
     else (if kind == 4 then (do
       extents ← number_at w32 bytes
       Some (AddDisk extents.0, extents.1))
-    else None))))
+    else (if kind == 5 then discard_at bytes
+    else None)))))
 
 -- one record and nothing behind it
 unfoldable pub decoded : List ℕ → Option RecordData

@@ -11,6 +11,7 @@ pub data RecordData : Type 0 where
   Grow : (host lun sectors : ℕ) → RecordData
   Remove : (host lun : ℕ) → RecordData
   Command : (host lun : ℕ) (cdb payload : List ℕ) → RecordData
+  Unmap : (host lun lba count : ℕ) → RecordData
   AddDisk : (extents : ℕ) → RecordData
 
 -- a record without the evidence that its host is one of the four
@@ -19,6 +20,7 @@ data_of (records.Make addr sectors) = Make addr.host.number addr.lun sectors
 data_of (records.Grow addr sectors) = Grow addr.host.number addr.lun sectors
 data_of (records.Remove addr) = Remove addr.host.number addr.lun
 data_of (records.Command addr cdb payload) = Command addr.host.number addr.lun cdb payload
+data_of (records.Unmap addr lba count) = Unmap addr.host.number addr.lun lba count
 data_of (records.AddDisk extents) = AddDisk extents
 
 -- the same of each of them
@@ -35,12 +37,18 @@ pub record IsCommand (cdb payload : List ℕ) : Type 0 where
   pub cdb_len : length cdb ≡ 16
   pub payload_fits : length payload < 2 ^ 32
 
+-- sectors of a discard: an LBA of eight bytes, and fewer than 2^32 sectors
+pub record IsDiscard (lba count : ℕ) : Type 0 where
+  pub lba_fits : lba < 2 ^ 64
+  pub count_fits : count < 2 ^ 32
+
 -- what has an encoding: each field fits its bytes
 abbrev pub IsEncodable : RecordData → Type 0
 IsEncodable (Make host lun sectors) = HasUnitNumbers host lun × (sectors < 2 ^ 32)
 IsEncodable (Grow host lun sectors) = HasUnitNumbers host lun × (sectors < 2 ^ 32)
 IsEncodable (Remove host lun) = HasUnitNumbers host lun
 IsEncodable (Command host lun cdb payload) = HasUnitNumbers host lun × IsCommand cdb payload
+IsEncodable (Unmap host lun lba count) = HasUnitNumbers host lun × IsDiscard lba count
 IsEncodable (AddDisk extents) = extents < 2 ^ 32
 
 -- each of the records has an encoding

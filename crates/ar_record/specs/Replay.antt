@@ -8,8 +8,8 @@ use Rattle.ar_scsi.specs.declared.sense.Sense.{Sense}
 use Rattle.ar_scsi.specs.Reading.{reading}
 use Rattle.ar_unit.specs.Broken.{is_good}
 use Rattle.ar_unit.specs.Unit.{UnitState, Absent, UnitEntry, Make as UnitMake, Grow as UnitGrow, Remove as UnitRemove}
-use Rattle.ar_unit.specs.Unit.{Cmd as UnitCmd, answer, unit_run}
-use Rattle.ar_record.specs.Record.{RecordData, Make, Grow, Remove, Command, AddDisk}
+use Rattle.ar_unit.specs.Unit.{Cmd as UnitCmd, Unmap as UnitUnmap, answer, unit_run}
+use Rattle.ar_record.specs.Record.{RecordData, Make, Grow, Remove, Command, Unmap, AddDisk}
 
 -- the unit of a host's number and a LUN is the one at an address
 abbrev pub is_unit_at : ℕ × ℕ → ℕ → ℕ → Bool
@@ -25,6 +25,7 @@ own_in a (Make host lun sectors) = entry_for a host lun (UnitMake sectors)
 own_in a (Grow host lun sectors) = entry_for a host lun (UnitGrow sectors)
 own_in a (Remove host lun) = entry_for a host lun UnitRemove
 own_in a (Command host lun cdb payload) = entry_for a host lun (UnitCmd cdb payload)
+own_in a (Unmap host lun lba count) = entry_for a host lun (UnitUnmap lba count)
 own_in a (AddDisk extents) = []
 
 -- the unit's own entries among records

@@ -1,14 +1,14 @@
 // Decodes records. What is decoded has exactly these bytes as its encoding; all other bytes are refused.
 ghost use Rattle.std.specs.Prelude.{◌≡◌, Some, List, length, IfOk};
-ghost use Rattle.std.specs.Int.{w32};
+ghost use Rattle.std.specs.Int.{w32, w64};
 ghost use Rattle.ar_record.specs.declared.decoding.DecodeError.TheVariants.{NoMemory};
 ghost use Rattle.ar_record.specs.Record.{RecordData, data_of, IsEncodable};
 ghost use Rattle.ar_record.specs.Encoding.{encoding_of};
 ghost use Rattle.ar_record.specs.Reading.{ReadsAs, bytes_at, number_at, named_unit_at, sized_at, command_at};
-ghost use Rattle.ar_record.specs.Reading.{record_at, decoded};
+ghost use Rattle.ar_record.specs.Reading.{discard_at, record_at, decoded};
 
 use crate::Record;
-use crate::encoding::{ADD_DISK, COMMAND, GROW, MAKE, REMOVE};
+use crate::encoding::{ADD_DISK, COMMAND, GROW, MAKE, REMOVE, UNMAP};
 use ar_disks::{Addr, Host};
 use bytes::Bytes;
 use std::alloc::{AllocError, Global};
@@ -81,6 +81,7 @@ fn record_of(alloc: Global, bytes: &[u8]) -> Result<(Record, &[u8]), DecodeError
             let (extents, rest) = number_of(rest)?;
             Ok((Record::AddDisk(extents), rest))
         }
+        UNMAP => discard_of(rest),
         _ => Err(DecodeError::Invalid),
     }
 }
@@ -98,6 +99,17 @@ fn command_of(alloc: Global, bytes: &[u8]) -> Result<(Record, &[u8]), DecodeErro
     let (data, rest) = bytes_of(rest, count as usize)?;
     let payload = Bytes::copy_from_slice(alloc, data)?;
     Ok((Record::Command(addr, cdb, payload), rest))
+}
+
+// A discard.
+#[tactic(auto, unfolding(crate::specs::Reading::discard_at))]
+fn discard_of(bytes: &[u8]) -> Result<(Record, &[u8]), DecodeError>
+    ensures { ReadsAs (λ x. (data_of x.0, x.1.now)) result (discard_at bytes.now) }
+{
+    let (addr, rest) = unit_of(bytes)?;
+    let (lba, rest) = wide_number_of(rest)?;
+    let (count, rest) = number_of(rest)?;
+    Ok((Record::Unmap(addr, lba, count), rest))
 }
 
 // A unit and a number of sectors.
@@ -132,6 +144,20 @@ fn number_of(bytes: &[u8]) -> Result<(u32, &[u8]), DecodeError>
     }
     let (front, rest) = bytes.split_at(4);
     let number = u32::from_be_bytes([front[0], front[1], front[2], front[3]]);
+    Ok((number, rest))
+}
+
+// A number of eight bytes.
+fn wide_number_of(bytes: &[u8]) -> Result<(u64, &[u8]), DecodeError>
+    ensures { ReadsAs (λ x. (x.0, x.1.now)) result (number_at w64 bytes.now) }
+{
+    if bytes.len() < 8 {
+        return Err(DecodeError::Invalid);
+    }
+    let (front, rest) = bytes.split_at(8);
+    let number = u64::from_be_bytes([
+        front[0], front[1], front[2], front[3], front[4], front[5], front[6], front[7],
+    ]);
     Ok((number, rest))
 }
 

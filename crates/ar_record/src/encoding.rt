@@ -5,7 +5,9 @@
 //     Remove    2 | host | LUN
 //     Command   3 | host | LUN | command block, 16 bytes | length of the data, 4 bytes | data
 //     AddDisk   4 | extents, 4 bytes
+//     Unmap     5 | host | LUN | LBA, 8 bytes | sectors, 4 bytes
 ghost use Rattle.std.specs.Prelude.{◌≡◌, ◌++◌, ◌∷◌, [], OnOk, IfOk, length, map};
+ghost use Rattle.std.specs.Int.{w32, w64, to_be_bytes};
 ghost use Rattle.ar_record.specs.Encoding.{encoding_of, encodings_of};
 ghost use Rattle.ar_record.specs.Record.{IsEncodable, AreEncodable, data_of, all_data};
 
@@ -22,6 +24,8 @@ pub(crate) const REMOVE: u8 = 2;
 pub(crate) const COMMAND: u8 = 3;
 
 pub(crate) const ADD_DISK: u8 = 4;
+
+pub(crate) const UNMAP: u8 = 5;
 
 /// Appends the encoding of `entry` to `out`. `Err` is out of memory; `out` then ends in a part of the encoding.
 pub fn encode(entry: &Record, out: &mut Vec<u8>) -> Result<(), AllocError>
@@ -43,6 +47,10 @@ pub fn encode(entry: &Record, out: &mut Vec<u8>) -> Result<(), AllocError>
             out.extend_from_slice(cdb)?;
             out.extend_from_slice(&(payload.len() as u32).to_be_bytes())?;
             out.extend_from_slice(payload.as_slice())
+        }
+        Record::Unmap(addr, lba, count) => {
+            push_unit(out, UNMAP, *addr)?;
+            push_sectors(out, *lba, *count)
         }
         Record::AddDisk(extents) => {
             out.extend_from_slice(&[ADD_DISK])?;
@@ -79,4 +87,12 @@ fn push_unit(out: &mut Vec<u8>, kind: u8, addr: Addr) -> Result<(), AllocError>
     ensures { OnOk result (out.new.items ≡ out.old.items ++ kind ∷ addr.host.number ∷ addr.lun ∷ []) }
 {
     out.extend_from_slice(&[kind, addr.host.number(), addr.lun])
+}
+
+// Appends an LBA and a number of sectors.
+fn push_sectors(out: &mut Vec<u8>, lba: u64, count: u32) -> Result<(), AllocError>
+    ensures { OnOk result (out.new.items ≡ out.old.items ++ (to_be_bytes w64 lba ++ to_be_bytes w32 count)) }
+{
+    out.extend_from_slice(&lba.to_be_bytes())?;
+    out.extend_from_slice(&count.to_be_bytes())
 }

@@ -68,6 +68,8 @@ record_own a history (entries.Cmd host exchange) fits =
     command_own (changes_unit exchange.cdb exchange.reply) a (replay history a) host exchange refl
     (λ here. subst (λ (x : Address). exchange.reply ≡ (answer (replay history x) exchange.cdb exchange.payload).reply)
     (same_is (host.number, exchange.lun) a here) fits)
+record_own a history (entries.Unmap addr lba count) fits =
+    ap (λ (l : List UnitEntry). unit_run (replay history a) l) (append-nil (one_at a (entries.Unmap addr lba count)))
 
 -- the entry behind those of a history
 entry_at : (before : List Entry) (entry : Entry) (after : List Entry)

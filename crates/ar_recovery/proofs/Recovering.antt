@@ -8,7 +8,7 @@ use Rattle.ar_history.specs.declared.entry.Entry.{Entry}
 use Rattle.ar_history.specs.declared.entry.Entry.TheVariants as entries
 use Rattle.ar_history.specs.Kept.{KeptState, SameLength, HistoryAgrees, exchange_of}
 use Rattle.ar_record.specs.declared.record.Record.{Record as Stored}
-use Rattle.ar_record.specs.Record.{RecordData, Make, Grow, Remove, Command, AddDisk, data_of}
+use Rattle.ar_record.specs.Record.{RecordData, Make, Grow, Remove, Command, Unmap, AddDisk, data_of}
 use Rattle.ar_record.specs.Replay.{changes_unit, own_in, own_of, unit_of}
 use Rattle.ar_record.proofs.Replaying.{own_of-append}
 use Rattle.ar_recovery.specs.Logging.{record_of, records_of, IsLogOf}
@@ -50,6 +50,10 @@ pub redoes_command : (old new : List Entry) (addr : Addr) (cdb payload : List �
 redoes_command old new addr cdb payload redone =
     redoes_entry old new (entries.Cmd addr.host (exchange_of addr.lun cdb payload redone.reply)) _ redone.history
     (ap (λ b. cond b (Command addr.host.number addr.lun cdb payload ∷ []) []) redone.changes)
+
+pub redoes_unmap : (old new : List Entry) (addr : Addr) (lba count : ℕ) → new ≡ old ++ entries.Unmap addr lba count ∷ []
+    → Redoes old (Unmap addr.host.number addr.lun lba count) new
+redoes_unmap old new addr lba count grown = redoes_entry old new (entries.Unmap addr lba count) _ grown refl
 
 -- the same record, as it was passed in
 pub redoes_same : (old new : List Entry) (one other : Stored) → one ≡ other → Redoes old (data_of other) new

@@ -5,7 +5,7 @@ use Rattle.ar_volume.specs.Sectors.{Address}
 use Rattle.ar_history.specs.declared.entry.Entry.{Entry}
 use Rattle.ar_history.specs.declared.entry.Entry.TheVariants as entries
 use Rattle.ar_history.specs.History.{IsLegal, replay}
-use Rattle.ar_record.specs.Record.{RecordData, Make, Grow, Remove, Command}
+use Rattle.ar_record.specs.Record.{RecordData, Make, Grow, Remove, Command, Unmap}
 use Rattle.ar_record.specs.Replay.{changes_unit, own_of, unit_of}
 
 -- the record of an entry; none of a command that left its unit unchanged
@@ -17,6 +17,7 @@ record_of (entries.Cmd host exchange) =
     if changes_unit exchange.cdb exchange.reply
     then Command host.number exchange.lun exchange.cdb exchange.payload ∷ []
     else []
+record_of (entries.Unmap addr lba count) = Unmap addr.host.number addr.lun lba count ∷ []
 
 -- the records of a history
 abbrev pub records_of : List Entry → List RecordData

@@ -67,6 +67,7 @@ impl<D: Disk + Drop> Recovery<D> {
             Record::Grow(addr, sectors) => self.grow(addr, sectors),
             Record::Remove(addr) => self.remove(addr),
             Record::Command(addr, cdb, payload) => self.command(addr, cdb, payload),
+            Record::Unmap(addr, lba, count) => self.unmap(addr, lba, count),
             Record::AddDisk(extents) => self.add_disk(extents),
         }
     }
@@ -107,6 +108,14 @@ impl<D: Disk + Drop> Recovery<D> {
     {
         let reply = self.live.host(addr.host, addr.lun, cdb, payload);
         is_recorded(self.live.array(), &reply) && changes_unit(&cdb, &reply)
+    }
+
+    // Discards sectors. It is done unless the array has failed, since the history then doesn't grow.
+    fn unmap(&mut self, addr: Addr, lba: u64, count: u32) -> bool
+        ensures { result ≡ true → self.new.history ≡ self.old.history ++ entries.Unmap addr lba count ∷ [] }
+    {
+        let _ = self.live.discard(addr.host, addr.lun, lba, count);
+        !matches!(self.live.array().health(), Health::Broken)
     }
 
     // Adds the next of the disks. It has to have as many extents as the record says, and as the array's disks.

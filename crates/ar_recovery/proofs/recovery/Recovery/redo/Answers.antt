@@ -1,4 +1,4 @@
-use Rattle.ar_recovery.proofs.Recovering.{redoes_same, redoes_make, redoes_grow, redoes_remove, redoes_command}
+use Rattle.ar_recovery.proofs.Recovering.{redoes_same, redoes_make, redoes_grow, redoes_remove, redoes_command, redoes_unmap}
 use Rattle.ar_recovery.proofs.recovery.Recovery.redo.Goals as goal
 
 pub returns-in-Make : goal.returns-in-Make
@@ -12,3 +12,6 @@ returns-in-Remove g c = record { done = λ done. redoes_same _ _ _ _ c.in-Remove
 
 pub returns-in-Command : goal.returns-in-Command
 returns-in-Command g c = record { done = λ done. redoes_same _ _ _ _ c.in-Command.is (redoes_command _ _ _ _ _ (c.command.ensures done)) }
+
+pub returns-in-Unmap : goal.returns-in-Unmap
+returns-in-Unmap g c = record { done = λ done. redoes_same _ _ _ _ c.in-Unmap.is (redoes_unmap _ _ _ _ _ (c.unmap.ensures done)) }
