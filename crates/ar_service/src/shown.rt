@@ -1,7 +1,6 @@
 // What the pages show of an array with its history: numbers, and its picture.
-ghost use Rattle.std.specs.Prelude.{◌≡◌, ℕ, ◌-◌, ◌++◌, IfOk, length, map};
+ghost use Rattle.std.specs.Prelude.{◌≡◌, ◌-◌, ◌++◌, IfOk, if◌then◌else◌, length, map};
 ghost use Rattle.std.specs.List.{range_with_len};
-ghost use Rattle.ar_history.specs.Kept.{KeptState};
 ghost use Rattle.ar_history.specs.declared.counts.HostCounts.{HostCounts};
 ghost use Rattle.ar_script.specs.Pictures.{IsPicture};
 ghost use Rattle.ar_service.specs.Watching.{IsStatusOf, SeesArray, counters_watched, health_watched, host_watched};
@@ -9,7 +8,7 @@ ghost use Rattle.ar_service.specs.Watching.{operations_watched, replies_watched,
 
 use ar_core::{Array, Counters, Health};
 use ar_disks::Disk;
-use ar_history::{Counts, HostCounts, Kept, LiveArray, OperationCounts, ReplyCounts, TaskCounts};
+use ar_history::{Counts, HostCounts, OperableArray, OperationCounts, ReplyCounts, TaskCounts};
 use ar_picture::Picture;
 use ar_script::picture_of;
 use ar_status::{
@@ -22,68 +21,39 @@ use std::sync::ledger::Ledger;
 /// Bytes that an entry takes in the list of the history.
 const ENTRY_LEN: u64 = 136;
 
-/// An array with its history, as the pages show it.
-pub trait ShownArray {
-    /// The array with its history.
-    ghost state: { Self → KeptState };
-
-    /// The number of entries of the history that are stored.
-    ghost stored: { Self → ℕ };
-
-    /// Compares the array with how it was seen last, and lists what has happened.
-    fn see(&self, seconds: u64, log: &mut EventLog)
-        ensures { SeesArray seconds (state self.now).array log.old log.new };
-
-    /// Returns its status, `seconds` after the start, with these events.
-    fn status(&self, seconds: u64, events: RecentEvents) -> ArrayStatus
-        ensures { IsStatusOf (state self.now).array (state self.now).counts (stored self.now) seconds events result };
-
-    /// Returns the data of its picture. It fails only when out of memory.
-    fn picture(&self, alloc: Global) -> Result<Picture, AllocError>
-        ensures { IfOk result (IsPicture (state self.now).array) };
+/// Compares the array with how it was seen last, and lists what has happened.
+pub fn see<A: OperableArray<L>, L: Ledger>(array: &A, seconds: u64, log: &mut EventLog)
+    ensures { SeesArray seconds (A.state array.now).array log.old log.new }
+{
+    see_array(array.array(), seconds, log);
 }
 
-impl<D: Disk + Drop, L: Ledger> ShownArray for Kept<D, L> {
-    ghost state = { λ kept. kept };
-
-    ghost stored = { λ kept. length kept.history };
-
-    fn see(&self, seconds: u64, log: &mut EventLog) {
-        see_array(self.array(), seconds, log);
-    }
-
-    fn status(&self, seconds: u64, events: RecentEvents) -> ArrayStatus {
-        let counts = self.counts();
-        let status = status_of(self.array(), &counts, seconds, events);
-        let list = (self.capacity() as u64).saturating_mul(ENTRY_LEN);
-        ArrayStatus {
-            history_entries: self.history().len() as u64,
-            history_bytes: list.saturating_add(stored_data(status.health, &counts)),
-            ..status
-        }
-    }
-
-    fn picture(&self, alloc: Global) -> Result<Picture, AllocError> {
-        picture_of(alloc, self.array())
+/// Returns the status of the array, `seconds` after the start, with these events.
+pub fn status<A: OperableArray<L>, L: Ledger>(
+    array: &A,
+    seconds: u64,
+    events: RecentEvents,
+) -> ArrayStatus
+    ensures { IsStatusOf (A.state array.now).array (A.state array.now).counts
+        (if A.stores then length (A.state array.now).history else 0) seconds events result }
+{
+    let counts = array.counts();
+    let status = status_of(array.array(), &counts, seconds, events);
+    ArrayStatus {
+        history_entries: array.stored_entries() as u64,
+        history_bytes: stored_bytes(array.stored_room() as u64, status.health, &counts),
+        ..status
     }
 }
 
-impl<D: Disk + Drop> ShownArray for LiveArray<D> {
-    ghost state = { λ live. live };
-
-    ghost stored = { λ _. 0 };
-
-    fn see(&self, seconds: u64, log: &mut EventLog) {
-        see_array(self.array(), seconds, log);
-    }
-
-    fn status(&self, seconds: u64, events: RecentEvents) -> ArrayStatus {
-        status_of(self.array(), &self.counts(), seconds, events)
-    }
-
-    fn picture(&self, alloc: Global) -> Result<Picture, AllocError> {
-        picture_of(alloc, self.array())
-    }
+/// Returns the data of the array's picture. It fails only when out of memory.
+pub fn picture<A: OperableArray<L>, L: Ledger>(
+    alloc: Global,
+    array: &A,
+) -> Result<Picture, AllocError>
+    ensures { IfOk result (IsPicture (A.state array.now).array) }
+{
+    picture_of(alloc, array.array())
 }
 
 // Compares an array with how it was seen last.
@@ -120,10 +90,11 @@ fn status_of<D: Disk>(
     }
 }
 
-// Bytes of data that a stored history keeps, at least. A failed array counts commands that it doesn't record.
-fn stored_data(health: ArrayHealth, counts: &Counts) -> u64 {
-    let mut bytes: u64 = 0;
-    if health != ArrayHealth::Broken {
+// Bytes of memory that a stored history takes, at least: none, if nothing is stored. A failed array counts commands that
+// it doesn't record.
+fn stored_bytes(room: u64, health: ArrayHealth, counts: &Counts) -> u64 {
+    let mut bytes = room.saturating_mul(ENTRY_LEN);
+    if room > 0 && health != ArrayHealth::Broken {
         for host in counts.hosts {
             bytes = bytes.saturating_add(host.read).saturating_add(host.written);
         }
