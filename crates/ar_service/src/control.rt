@@ -6,14 +6,10 @@ ghost use Rattle.ar_service.specs.Control.{DoneAtOneMoment};
 ghost use Rattle.ar_service.specs.Watching.{health_watched};
 
 use crate::doors::OperatedArray;
-use crate::shown::see;
+use crate::shown::ControlledArray;
 use ar_disks::Host;
-use ar_history::OperableArray;
 use ar_language::{Action, Order};
-use ar_operator::{
-    Controller, DiskMaker, OperatorOrder, execute, set_fuse, write_counts, write_help,
-    write_session,
-};
+use ar_operator::{Controller, OperatorOrder, write_counts, write_help, write_session};
 use ar_sessions::Desk;
 use ar_status::{EventKind, EventLog};
 use std::alloc::{AllocError, Global};
@@ -26,11 +22,11 @@ const DONE: &[u8] = b"ok\n";
 
 /// A controller of an array behind a lock, whose hosts' seats are on a desk with a lock of its own.
 #[derive(Drop)]
-pub struct LockController<'a, R: Wait, A: OperableArray<L> + Drop, L: Ledger, M> {
+pub struct LockController<'a, R: Wait, A: ControlledArray<L, M> + Drop, L: Ledger, M> {
     array: &'a OperatedArray<'a, R, A, L, M>,
 }
 
-impl<'a, R: Wait, A: OperableArray<L> + Drop, L: Ledger, M> LockController<'a, R, A, L, M> {
+impl<'a, R: Wait, A: ControlledArray<L, M> + Drop, L: Ledger, M> LockController<'a, R, A, L, M> {
     /// A controller of an operated array.
     pub fn new(array: &'a OperatedArray<'a, R, A, L, M>) -> LockController<'a, R, A, L, M> {
         LockController { array }
@@ -38,7 +34,7 @@ impl<'a, R: Wait, A: OperableArray<L> + Drop, L: Ledger, M> LockController<'a, R
 
     fn fail(&self, disk: u8, accesses: Option<u64>, out: &mut Vec<u8>) -> Result<(), AllocError> {
         let array = self.array.array.lock(self.array.rt);
-        set_fuse(array.array(), self.array.fuses, disk, accesses, out)
+        array.set_fuse(self.array.fuses, disk, accesses, out)
     }
 
     fn show_sessions(&self, out: &mut Vec<u8>) -> Result<(), AllocError> {
@@ -52,13 +48,13 @@ impl<'a, R: Wait, A: OperableArray<L> + Drop, L: Ledger, M> LockController<'a, R
     }
 }
 
-impl<
+impl<'a, R: Wait + Clock, A: ControlledArray<L, M> + Drop, L: Ledger, M: Copy> LockController<
     'a,
-    R: Wait + Clock,
-    A: OperableArray<L> + Drop,
-    L: Ledger,
-    M: DiskMaker<A::Disk> + Copy,
-> LockController<'a, R, A, L, M> {
+    R,
+    A,
+    L,
+    M,
+> {
     // Executes an order on the array, under its lock, and lists what has happened. The list's lock is taken first.
     fn execute(&mut self, order: Order, out: &mut Vec<u8>) -> Result<(), AllocError>
         requires allowed { IsArrayOrder order }
@@ -82,7 +78,7 @@ impl<
 }
 
 // Executes an order on the array, and lists what has happened.
-fn execute_listed<A: OperableArray<L>, L: Ledger, M: DiskMaker<A::Disk>>(
+fn execute_listed<A: ControlledArray<L, M>, L: Ledger, M>(
     alloc: Global,
     array: &mut A,
     disks: &mut M,
@@ -97,9 +93,9 @@ fn execute_listed<A: OperableArray<L>, L: Ledger, M: DiskMaker<A::Disk>>(
     ensures health { log.new.health ≡ health_watched (A.state array.new).array.store.disks.health }
     ensures disks { log.new.disks ≡ length (A.state array.new).array.store.disks.disks }
 {
-    let done = execute(alloc, array, disks, order, out);
+    let done = array.execute(alloc, disks, order, out);
     list_done(log, seconds, order, out);
-    see(array, seconds, log);
+    array.see(seconds, log);
     done
 }
 
@@ -136,13 +132,8 @@ fn event_of(action: Action) -> Option<EventKind> {
     }
 }
 
-impl<
-    'a,
-    R: Wait + Clock,
-    A: OperableArray<L> + Drop,
-    L: Ledger,
-    M: DiskMaker<A::Disk> + Copy,
-> Controller for LockController<'a, R, A, L, M> {
+impl<'a, R: Wait + Clock, A: ControlledArray<L, M> + Drop, L: Ledger, M: Copy> Controller
+    for LockController<'a, R, A, L, M> {
     ghost use Rattle.ar_service.specs.Control.{LockAnswers};
 
     ghost answers = { λ _ order result answer _. LockAnswers order result answer };

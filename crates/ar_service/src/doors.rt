@@ -2,12 +2,11 @@
 use crate::initiators::{IscsiPort, Targets};
 use crate::monitoring::Monitor;
 use crate::operators::{OperatorHandler, PendingStops};
-use crate::shown::{see, status};
+use crate::shown::ControlledArray;
 use crate::watching::Watch;
 use ar_frames::{Gate, Linked, PairWrite, Sink, Source};
-use ar_history::OperableArray;
 use ar_iscsi::IscsiEnd;
-use ar_operator::{DiskMaker, Fuse, OperatorEnd};
+use ar_operator::{Fuse, OperatorEnd};
 use ar_sessions::{
     ANY_NUMBER, Desk, Door, Handler, NoMemory, SharedDoor, run_beside_background, run_pool,
     start_pool, wake,
@@ -86,7 +85,13 @@ type Sides<'s, O, T, W, I> = (
     &'s Option<SideDoor<O, I>>,
 );
 
-impl<'a, R: Wait + Clock, A: OperableArray<L> + Drop, L: Ledger, M> OperatedArray<'a, R, A, L, M> {
+impl<'a, R: Wait + Clock, A: ControlledArray<L, M> + Drop, L: Ledger, M> OperatedArray<
+    'a,
+    R,
+    A,
+    L,
+    M,
+> {
     /// Seconds since the service began; 0 where the clock can't be read.
     pub fn seconds(&self) -> u64 {
         match self.began {
@@ -101,18 +106,18 @@ impl<'a, R: Wait + Clock, A: OperableArray<L> + Drop, L: Ledger, M> OperatedArra
         // (read behind the lock, so that events are listed in the order of their times)
         let seconds = self.seconds();
         let array = self.array.lock(self.rt);
-        see_and_tell::<A, L>(&array, seconds, &mut log)
+        see_and_tell::<A, L, M>(&array, seconds, &mut log)
     }
 }
 
 // Looks at an array, and returns its status.
-fn see_and_tell<A: OperableArray<L>, L: Ledger>(
+fn see_and_tell<A: ControlledArray<L, M>, L: Ledger, M>(
     array: &A,
     seconds: u64,
     log: &mut EventLog,
 ) -> ArrayStatus {
-    see(array, seconds, log);
-    status(array, seconds, log.events())
+    array.see(seconds, log);
+    array.status(seconds, log.events())
 }
 
 // Whole seconds since, or 0 where the clock can't be read.
@@ -129,9 +134,9 @@ fn seconds_since<R: Clock>(rt: &R, since: Instant) -> u64 {
 /// connection was opened.
 pub fn run_operated<
     R: Threads + Wait + Clock + Log + Net<Listener = TcpListener, Stream = TcpStream> + Sync,
-    A: OperableArray<L> + Drop + Send,
+    A: ControlledArray<L, M> + Drop + Send,
     L: Ledger + Send + Sync,
-    M: DiskMaker<A::Disk> + Copy + Send + Sync,
+    M: Copy + Send + Sync,
     H: Door + Drop + Send,
     O: Door<Reader = Linked<S>, Writer = Linked<W>> + Drop + Send,
     S: Read + Send + Drop,
@@ -168,7 +173,7 @@ pub fn run_operated<
 fn operators_side<
     'a,
     R: Wait,
-    A: OperableArray<L> + Drop,
+    A: ControlledArray<L, M> + Drop,
     L: Ledger,
     M,
     O: Door<Reader = S, Writer = W> + Drop,
@@ -185,7 +190,14 @@ fn operators_side<
 }
 
 // The door of HTTP clients, if there is one.
-fn watchers_side<'a, R: Wait + Clock, A: OperableArray<L> + Drop, L: Ledger, M, O: Door + Drop>(
+fn watchers_side<
+    'a,
+    R: Wait + Clock,
+    A: ControlledArray<L, M> + Drop,
+    L: Ledger,
+    M,
+    O: Door + Drop,
+>(
     array: &'a OperatedArray<'a, R, A, L, M>,
     door: Option<(O, RandomState)>,
 ) -> Option<SideDoor<O, Watch<'a, R, A, L, M>>> {
@@ -208,7 +220,7 @@ fn initiators_side<'a, R: Wait, A: Drop, L: Ledger, M, O: Door + Drop>(
 fn pending_in<
     'a,
     R: Wait,
-    A: OperableArray<L> + Drop,
+    A: ControlledArray<L, M> + Drop,
     L: Ledger,
     M,
     O: Door<Reader = S, Writer = W> + Drop,
@@ -332,7 +344,7 @@ fn start_threads<
 // Serves hosts: any number of connections in turn, or those that the door counts.
 fn serve_hosts<
     R: Threads + Wait + Clock + Log + Sync,
-    A: OperableArray<L> + Drop + Send,
+    A: ControlledArray<L, M> + Drop + Send,
     L: Ledger + Send + Sync,
     M,
     H: Door + Drop + Send,

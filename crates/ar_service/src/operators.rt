@@ -2,9 +2,9 @@
 // to refuse one operator more.
 use crate::control::LockController;
 use crate::doors::OperatedArray;
+use crate::shown::ControlledArray;
 use ar_frames::{Sink, Source, send};
-use ar_history::OperableArray;
-use ar_operator::{DiskMaker, OperatorEnd, converse};
+use ar_operator::{OperatorEnd, converse};
 use ar_sessions::{Handler, wake};
 use std::alloc::{AllocError, Global};
 use std::net::{Net, TcpListener, TcpStream};
@@ -30,7 +30,7 @@ pub struct PendingStops<S: Drop, W: Drop> {
 pub struct OperatorHandler<
     'a,
     R: Wait,
-    A: OperableArray<L> + Drop,
+    A: ControlledArray<L, M> + Drop,
     L: Ledger,
     M,
     S: Drop,
@@ -43,7 +43,7 @@ pub struct OperatorHandler<
     pending: Mutex<PendingStops<S, W>>,
 }
 
-impl<'a, R: Wait, A: OperableArray<L> + Drop, L: Ledger, M, S: Drop, W: Drop> OperatorHandler<
+impl<'a, R: Wait, A: ControlledArray<L, M> + Drop, L: Ledger, M, S: Drop, W: Drop> OperatorHandler<
     'a,
     R,
     A,
@@ -77,9 +77,9 @@ impl<'a, R: Wait, A: OperableArray<L> + Drop, L: Ledger, M, S: Drop, W: Drop> Op
 impl<
     'a,
     R: Wait + Clock + Net<Listener = TcpListener, Stream = TcpStream>,
-    A: OperableArray<L> + Drop,
+    A: ControlledArray<L, M> + Drop,
     L: Ledger,
-    M: DiskMaker<A::Disk> + Copy,
+    M: Copy,
     S: Source + Drop,
     W: Sink + Drop,
 > Handler<S, W, OperatorEnd> for OperatorHandler<'a, R, A, L, M, S, W> {
@@ -123,9 +123,9 @@ fn refuse<W: Sink>(writer: &mut W) -> OperatorEnd {
 // Answers an operator's lines.
 fn converse_with<
     R: Wait + Clock,
-    A: OperableArray<L> + Drop,
+    A: ControlledArray<L, M> + Drop,
     L: Ledger,
-    M: DiskMaker<A::Disk> + Copy,
+    M: Copy,
     S: Source,
     W: Sink,
 >(array: &OperatedArray<'_, R, A, L, M>, reader: &mut S, writer: &mut W) -> OperatorEnd {

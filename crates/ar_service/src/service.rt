@@ -8,7 +8,7 @@ use crate::ServiceRuntime;
 use crate::doors::{OperatedArray, Ports, SideDoors, run_operated};
 use crate::initiators::IscsiPort;
 use crate::operators::PendingStops;
-use crate::shown::health_of;
+use crate::shown::{ControlledArray, health_of};
 use ar_core::{Array, OutcomeOf, Refusal};
 use ar_disks::{Addr, Disk};
 use ar_frames::NoGate;
@@ -89,6 +89,15 @@ pub enum ServiceFault {
     Mismatch(Mismatch),
 }
 
+// What a service begins with beside its array.
+#[derive(Drop)]
+struct Begun<L: Ledger> {
+    // Whether its units were created: otherwise the number of the one that was refused, and why.
+    made: Result<(), (usize, Refusal)>,
+    seats: [Seat<L>; 4],
+    log: EventLog,
+}
+
 impl From<ListenFault> for ServiceFault {
     fn from(_fault: ListenFault) -> ServiceFault {
         ServiceFault::Listen
@@ -127,16 +136,21 @@ pub fn serve<
     requires four { blank.parts ≡ 4 }
     requires no_unit { array.store.book.units ≡ [] }
 {
+    let log = EventLog::new(health_of(array.health()), array.disks());
     if audits {
-        let (kept, seats) = Kept::<D, L>::start(alloc, blank, array);
-        let (stops, served, kept, desk) = serve_array(rt, alloc, kept, seats, disks, stop, plan);
+        let (mut kept, seats) = Kept::<D, L>::start(alloc, blank, array);
+        let made = create_units(&mut kept, plan.units);
+        let begun = Begun { made, seats, log };
+        let (stops, served, kept, desk) = serve_array(rt, alloc, kept, begun, disks, stop, plan);
         let report = audit(served, &kept, desk);
         drop(kept);
         (stops, report.map(|report| report.commands))
     } else {
-        let (counted, seats) = CountedArray::<D, L>::start(alloc, blank, array);
+        let (mut counted, seats) = CountedArray::<D, L>::start(alloc, blank, array);
+        let made = create_units(&mut counted, plan.units);
+        let begun = Begun { made, seats, log };
         let (stops, served, counted, desk) = serve_array(
-            rt, alloc, counted, seats, disks, stop, plan,
+            rt, alloc, counted, begun, disks, stop, plan,
         );
         drop(desk);
         let commands = commands_of(&counted.counts());
@@ -149,25 +163,23 @@ pub fn serve<
 // came of the service, the array, and the desk with the hosts' seats.
 fn serve_array<
     's,
-    A: OperableArray<L> + Drop + Send,
+    A: ControlledArray<L, M> + Drop + Send,
     L: Ledger + Send + Sync,
-    M: DiskMaker<A::Disk> + Copy + Send + Sync,
+    M: Copy + Send + Sync,
     R: ServiceRuntime + Sync,
 >(
     rt: &'s R,
     alloc: Global,
     array: A,
-    seats: [Seat<L>; 4],
+    begun: Begun<L>,
     disks: (&[Fuse; 12], M),
     stop: &'s AtomicBool,
     plan: Plan<'_>,
 ) -> (TcpStops<'s, R>, Result<(), ServiceFault>, A, Desk<L>)
-    requires hosts { map (λ (s : SeatState). s.host.number) seats ≡ 0 ∷ 1 ∷ 2 ∷ 3 ∷ [] }
+    requires hosts { map (λ (s : SeatState). s.host.number) begun.seats ≡ 0 ∷ 1 ∷ 2 ∷ 3 ∷ [] }
 {
     let (fuses, disks) = disks;
-    let mut array = array;
-    let log = new_log(&array);
-    let made = create_units(&mut array, plan.units);
+    let Begun { made, seats, log } = begun;
     let (array, desk) = (Mutex::new(array), Mutex::new(Desk::new(seats)));
     let log = Mutex::new(log);
     let operated = OperatedArray {
@@ -191,18 +203,12 @@ fn serve_array<
     (stops, served, array.into_inner(), desk.into_inner())
 }
 
-// What has happened to an array that is to be served: nothing yet.
-fn new_log<A: OperableArray<L>, L: Ledger>(array: &A) -> EventLog {
-    let array = array.array();
-    EventLog::new(health_of(array.health()), array.disks())
-}
-
 // Listens, and serves hosts, operators, initiators and HTTP clients.
 fn serve_plan<
     's,
-    A: OperableArray<L> + Drop + Send,
+    A: ControlledArray<L, M> + Drop + Send,
     L: Ledger + Send + Sync,
-    M: DiskMaker<A::Disk> + Copy + Send + Sync,
+    M: Copy + Send + Sync,
     R: ServiceRuntime + Sync,
 >(
     rt: &'s R,

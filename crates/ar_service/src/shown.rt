@@ -1,14 +1,20 @@
 // What the pages show of an array with its history: numbers, and its picture.
-ghost use Rattle.std.specs.Prelude.{◌≡◌, ◌-◌, ◌++◌, IfOk, if◌then◌else◌, length, map};
+ghost use Rattle.std.specs.Prelude.{◌≡◌, ◌-◌, ◌++◌, IfOk, OnOk, Some, true, false, if◌then◌else◌, length, map};
 ghost use Rattle.std.specs.List.{range_with_len};
 ghost use Rattle.ar_history.specs.declared.counts.HostCounts.{HostCounts};
+ghost use Rattle.ar_operator.specs.Executing.{Executes, IsArrayOrder};
+ghost use Rattle.ar_picture.specs.Writing.{AddsSome};
 ghost use Rattle.ar_script.specs.Pictures.{IsPicture};
 ghost use Rattle.ar_service.specs.Watching.{IsStatusOf, SeesArray, counters_watched, health_watched, host_watched};
 ghost use Rattle.ar_service.specs.Watching.{operations_watched, replies_watched, steps_watched};
 
 use ar_core::{Array, Counters, Health};
 use ar_disks::Disk;
-use ar_history::{Counts, HostCounts, OperableArray, OperationCounts, ReplyCounts, TaskCounts};
+use ar_history::{
+    CountedArray, Counts, HostCounts, Kept, OperationCounts, ReplyCounts, ServedArray, TaskCounts,
+};
+use ar_language::Order;
+use ar_operator::{DiskMaker, Fuse, execute, set_fuse};
 use ar_picture::Picture;
 use ar_script::picture_of;
 use ar_status::{
@@ -21,39 +27,139 @@ use std::sync::ledger::Ledger;
 /// Bytes that an entry takes in the list of the history.
 const ENTRY_LEN: u64 = 136;
 
-/// Compares the array with how it was seen last, and lists what has happened.
-pub fn see<A: OperableArray<L>, L: Ledger>(array: &A, seconds: u64, log: &mut EventLog)
-    ensures { SeesArray seconds (A.state array.now).array log.old log.new }
-{
-    see_array(array.array(), seconds, log);
+/// A served array, as operators use it and the pages show it, whatever its disks are. `M` makes its new disks.
+pub trait ControlledArray<L: Ledger, M>: ServedArray<L> {
+    /// Executes an order and appends its answer to `out`, as a script has it (`ar_operator::execute`).
+    fn execute(
+        &mut self,
+        alloc: Global,
+        disks: &mut M,
+        order: Order,
+        out: &mut Vec<u8>,
+    ) -> Result<(), AllocError>
+        requires { IsArrayOrder order }
+        ensures { Executes order (Self.state self.old) out.old.items result out.new.items (Self.state self.new) };
+
+    /// Sets the fuse of a disk, and appends the answer (`ar_operator::set_fuse`).
+    fn set_fuse(
+        &self,
+        fuses: &[Fuse; 12],
+        disk: u8,
+        accesses: Option<u64>,
+        out: &mut Vec<u8>,
+    ) -> Result<(), AllocError>
+        ensures { OnOk result (AddsSome (Some out.old.items) (Some out.new.items)) };
+
+    /// Compares the array with how it was seen last, and lists what has happened.
+    fn see(&self, seconds: u64, log: &mut EventLog)
+        ensures { SeesArray seconds (Self.state self.now).array log.old log.new };
+
+    /// Returns the status of the array, `seconds` after the start, with these events.
+    fn status(&self, seconds: u64, events: RecentEvents) -> ArrayStatus
+        ensures { IsStatusOf (Self.state self.now).array (Self.state self.now).counts
+            (if Self.stores then length (Self.state self.now).history else 0) seconds events result };
+
+    /// Returns the data of the array's picture. It fails only when out of memory.
+    fn picture(&self, alloc: Global) -> Result<Picture, AllocError>
+        ensures { IfOk result (IsPicture (Self.state self.now).array) };
 }
 
-/// Returns the status of the array, `seconds` after the start, with these events.
-pub fn status<A: OperableArray<L>, L: Ledger>(
-    array: &A,
-    seconds: u64,
-    events: RecentEvents,
-) -> ArrayStatus
-    ensures { IsStatusOf (A.state array.now).array (A.state array.now).counts
-        (if A.stores then length (A.state array.now).history else 0) seconds events result }
-{
-    let counts = array.counts();
-    let status = status_of(array.array(), &counts, seconds, events);
-    ArrayStatus {
-        history_entries: array.stored_entries() as u64,
-        history_bytes: stored_bytes(array.stored_room() as u64, status.health, &counts),
-        ..status
+impl<D: Disk + Drop, L: Ledger, M: DiskMaker<D>> ControlledArray<L, M> for Kept<D, L> {
+    fn execute(
+        &mut self,
+        alloc: Global,
+        disks: &mut M,
+        order: Order,
+        out: &mut Vec<u8>,
+    ) -> Result<(), AllocError> {
+        execute(alloc, self, disks, order, out)
+    }
+
+    fn set_fuse(
+        &self,
+        fuses: &[Fuse; 12],
+        disk: u8,
+        accesses: Option<u64>,
+        out: &mut Vec<u8>,
+    ) -> Result<(), AllocError> {
+        set_fuse(Kept::array(self), fuses, disk, accesses, out)
+    }
+
+    fn see(&self, seconds: u64, log: &mut EventLog) {
+        see_array(Kept::array(self), seconds, log);
+    }
+
+    fn status(&self, seconds: u64, events: RecentEvents) -> ArrayStatus {
+        status_with(
+            Kept::array(self),
+            &Kept::counts(self),
+            (self.history().len(), self.capacity()),
+            seconds,
+            events,
+        )
+    }
+
+    fn picture(&self, alloc: Global) -> Result<Picture, AllocError> {
+        picture_of(alloc, Kept::array(self))
     }
 }
 
-/// Returns the data of the array's picture. It fails only when out of memory.
-pub fn picture<A: OperableArray<L>, L: Ledger>(
-    alloc: Global,
-    array: &A,
-) -> Result<Picture, AllocError>
-    ensures { IfOk result (IsPicture (A.state array.now).array) }
+impl<D: Disk + Drop, L: Ledger, M: DiskMaker<D>> ControlledArray<L, M> for CountedArray<D, L> {
+    fn execute(
+        &mut self,
+        alloc: Global,
+        disks: &mut M,
+        order: Order,
+        out: &mut Vec<u8>,
+    ) -> Result<(), AllocError> {
+        execute(alloc, self, disks, order, out)
+    }
+
+    fn set_fuse(
+        &self,
+        fuses: &[Fuse; 12],
+        disk: u8,
+        accesses: Option<u64>,
+        out: &mut Vec<u8>,
+    ) -> Result<(), AllocError> {
+        set_fuse(CountedArray::array(self), fuses, disk, accesses, out)
+    }
+
+    fn see(&self, seconds: u64, log: &mut EventLog) {
+        see_array(CountedArray::array(self), seconds, log);
+    }
+
+    fn status(&self, seconds: u64, events: RecentEvents) -> ArrayStatus {
+        status_with(
+            CountedArray::array(self),
+            &CountedArray::counts(self),
+            (0, 0),
+            seconds,
+            events,
+        )
+    }
+
+    fn picture(&self, alloc: Global) -> Result<Picture, AllocError> {
+        picture_of(alloc, CountedArray::array(self))
+    }
+}
+
+// The status of an array with so many entries of its history stored, and memory for so many.
+fn status_with<D: Disk>(
+    array: &Array<D>,
+    counts: &Counts,
+    stored: (usize, usize),
+    seconds: u64,
+    events: RecentEvents,
+) -> ArrayStatus
+    ensures { IsStatusOf array.now counts.now stored.0 seconds events result }
 {
-    picture_of(alloc, array.array())
+    let status = status_of(array, counts, seconds, events);
+    ArrayStatus {
+        history_entries: stored.0 as u64,
+        history_bytes: stored_bytes(stored.1 as u64, status.health, counts),
+        ..status
+    }
 }
 
 // Compares an array with how it was seen last.

@@ -4,9 +4,8 @@ ghost use Rattle.std.specs.Prelude.{◌≡◌, IfOk};
 ghost use Rattle.ar_service.specs.Watching.{CopiesMoment, MayDraw, text_drawn};
 
 use crate::doors::OperatedArray;
-use crate::shown::{picture, see, status};
+use crate::shown::ControlledArray;
 use ar_frames::Linked;
-use ar_history::OperableArray;
 use ar_picture::{Picture, write_svg};
 use ar_sessions::Handler;
 use ar_status::{ArrayStatus, EventLog, Look, Watched, serve_connection};
@@ -19,13 +18,13 @@ use std::time::Clock;
 
 /// A served array, as HTTP clients watch it.
 #[derive(Drop)]
-pub struct Watch<'a, R: Wait + Clock, A: OperableArray<L> + Drop, L: Ledger, M> {
+pub struct Watch<'a, R: Wait + Clock, A: ControlledArray<L, M> + Drop, L: Ledger, M> {
     array: &'a OperatedArray<'a, R, A, L, M>,
     // Of the maps of header fields, whose names clients choose.
     keys: RandomState,
 }
 
-impl<'a, R: Wait + Clock, A: OperableArray<L> + Drop, L: Ledger, M> Watch<'a, R, A, L, M> {
+impl<'a, R: Wait + Clock, A: ControlledArray<L, M> + Drop, L: Ledger, M> Watch<'a, R, A, L, M> {
     /// A watch over an array, with the keys of the maps of header fields.
     pub fn new(
         array: &'a OperatedArray<'a, R, A, L, M>,
@@ -46,12 +45,12 @@ impl<'a, R: Wait + Clock, A: OperableArray<L> + Drop, L: Ledger, M> Watch<'a, R,
         let mut log = self.array.log.lock(self.array.rt);
         let seconds = self.array.seconds();
         let array = self.array.array.lock(self.array.rt);
-        copy_moment::<A, L>(alloc, &array, &mut log, seconds, draws)
+        copy_moment::<A, L, M>(alloc, &array, &mut log, seconds, draws)
     }
 }
 
 // Looks at an array, and copies what is shown of it.
-fn copy_moment<A: OperableArray<L>, L: Ledger>(
+fn copy_moment<A: ControlledArray<L, M>, L: Ledger, M>(
     alloc: Global,
     array: &A,
     log: &mut EventLog,
@@ -60,14 +59,14 @@ fn copy_moment<A: OperableArray<L>, L: Ledger>(
 ) -> Result<(ArrayStatus, Option<Picture>), AllocError>
     ensures { IfOk result (λ copied. CopiesMoment draws copied.0 copied.1) }
 {
-    see(array, seconds, log);
-    let status = status(array, seconds, log.events());
-    let picture = picture_if(alloc, array, draws)?;
+    array.see(seconds, log);
+    let status = array.status(seconds, log.events());
+    let picture = picture_if::<A, L, M>(alloc, array, draws)?;
     Ok((status, picture))
 }
 
 // The data of the picture, if it is to be drawn.
-fn picture_if<A: OperableArray<L>, L: Ledger>(
+fn picture_if<A: ControlledArray<L, M>, L: Ledger, M>(
     alloc: Global,
     array: &A,
     draws: bool,
@@ -75,7 +74,7 @@ fn picture_if<A: OperableArray<L>, L: Ledger>(
     ensures { IfOk result (MayDraw draws (A.state array.now).array) }
 {
     if draws {
-        Ok(Some(picture(alloc, array)?))
+        Ok(Some(array.picture(alloc)?))
     } else {
         Ok(None)
     }
@@ -92,7 +91,7 @@ fn draw(alloc: Global, picture: &Option<Picture>) -> Result<Vec<u8>, AllocError>
     Ok(text)
 }
 
-impl<'a, R: Wait + Clock, A: OperableArray<L> + Drop, L: Ledger, M> Watched
+impl<'a, R: Wait + Clock, A: ControlledArray<L, M> + Drop, L: Ledger, M> Watched
     for Watch<'a, R, A, L, M> {
     ghost use Rattle.ar_service.specs.Watching.{ShowsMoment};
 
@@ -108,7 +107,7 @@ impl<'a, R: Wait + Clock, A: OperableArray<L> + Drop, L: Ledger, M> Watched
 impl<
     'a,
     R: Wait + Clock,
-    A: OperableArray<L> + Drop,
+    A: ControlledArray<L, M> + Drop,
     L: Ledger,
     M,
     S: Read + Drop,
