@@ -71,7 +71,7 @@ pub trait ServedArray<L: Ledger> {
 /// three fail with `NoMemory` and change nothing.
 pub trait OperableArray<L: Ledger>: ServedArray<L> {
     /// The array's disks.
-    type Disk: Disk + Drop + Send;
+    type Disk: Disk + Drop;
 
     /// Returns the array, for its views.
     fn array(&self) -> &Array<Self::Disk>
@@ -153,7 +153,7 @@ impl<D: Disk + Drop, L: Ledger> ServedArray<L> for Kept<D, L> {
     }
 }
 
-impl<D: Disk + Drop + Send, L: Ledger> OperableArray<L> for Kept<D, L> {
+impl<D: Disk + Drop, L: Ledger> OperableArray<L> for Kept<D, L> {
     type Disk = D;
 
     fn array(&self) -> &Array<D> {
@@ -238,7 +238,7 @@ impl<D: Disk + Drop, L: Ledger> ServedArray<L> for CountedArray<D, L> {
     }
 }
 
-impl<D: Disk + Drop + Send, L: Ledger> OperableArray<L> for CountedArray<D, L> {
+impl<D: Disk + Drop, L: Ledger> OperableArray<L> for CountedArray<D, L> {
     type Disk = D;
 
     fn array(&self) -> &Array<D> {

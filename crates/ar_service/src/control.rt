@@ -1,19 +1,18 @@
 // An operator's orders on the shared array. Each is executed under the array's lock, between one state of the array and
 // the next.
-ghost use Rattle.std.specs.Prelude.{◌≡◌, []};
-ghost use Rattle.ar_operator.specs.Executing.{IsArrayOrder};
+ghost use Rattle.std.specs.Prelude.{◌≡◌, [], length};
+ghost use Rattle.ar_operator.specs.Executing.{Executes, IsArrayOrder};
 ghost use Rattle.ar_service.specs.Control.{DoneAtOneMoment};
+ghost use Rattle.ar_service.specs.Watching.{health_watched};
 
 use crate::doors::OperatedArray;
-use crate::shown::ShownArray;
+use crate::shown::ControlledArray;
 use ar_disks::Host;
 use ar_language::{Action, Order};
-use ar_operator::{
-    Controller, OperableArray, OperatorOrder, write_counts, write_help, write_session,
-};
+use ar_operator::{Controller, OperatorOrder, write_counts, write_help, write_session};
 use ar_sessions::Desk;
 use ar_status::{EventKind, EventLog};
-use std::alloc::AllocError;
+use std::alloc::{AllocError, Global};
 use std::sync::Wait;
 use std::sync::ledger::Ledger;
 use std::time::Clock;
@@ -23,11 +22,11 @@ const DONE: &[u8] = b"ok\n";
 
 /// A controller of an array behind a lock, whose hosts' seats are on a desk with a lock of its own.
 #[derive(Drop)]
-pub struct LockController<'a, R: Wait, A: OperableArray<M> + Drop, L: Ledger, M> {
+pub struct LockController<'a, R: Wait, A: ControlledArray<L, M> + Drop, L: Ledger, M> {
     array: &'a OperatedArray<'a, R, A, L, M>,
 }
 
-impl<'a, R: Wait, A: OperableArray<M> + Drop, L: Ledger, M> LockController<'a, R, A, L, M> {
+impl<'a, R: Wait, A: ControlledArray<L, M> + Drop, L: Ledger, M> LockController<'a, R, A, L, M> {
     /// A controller of an operated array.
     pub fn new(array: &'a OperatedArray<'a, R, A, L, M>) -> LockController<'a, R, A, L, M> {
         LockController { array }
@@ -49,13 +48,13 @@ impl<'a, R: Wait, A: OperableArray<M> + Drop, L: Ledger, M> LockController<'a, R
     }
 }
 
-impl<
+impl<'a, R: Wait + Clock, A: ControlledArray<L, M> + Drop, L: Ledger, M: Copy> LockController<
     'a,
-    R: Wait + Clock,
-    A: OperableArray<M> + ShownArray + Drop,
-    L: Ledger,
-    M: Copy,
-> LockController<'a, R, A, L, M> {
+    R,
+    A,
+    L,
+    M,
+> {
     // Executes an order on the array, under its lock, and lists what has happened. The list's lock is taken first.
     fn execute(&mut self, order: Order, out: &mut Vec<u8>) -> Result<(), AllocError>
         requires allowed { IsArrayOrder order }
@@ -66,15 +65,45 @@ impl<
         let mut log = self.array.log.lock(self.array.rt);
         let seconds = self.array.seconds();
         let mut array = self.array.array.lock(self.array.rt);
-        let done = array.execute(self.array.alloc, &mut disks, order, out);
-        list_done(&mut log, seconds, order, out);
-        array.see(seconds, &mut log);
-        done
+        execute_listed::<A, L, M>(
+            self.array.alloc,
+            &mut array,
+            &mut disks,
+            &mut log,
+            seconds,
+            order,
+            out,
+        )
     }
 }
 
+// Executes an order on the array, and lists what has happened.
+fn execute_listed<A: ControlledArray<L, M>, L: Ledger, M>(
+    alloc: Global,
+    array: &mut A,
+    disks: &mut M,
+    log: &mut EventLog,
+    seconds: u64,
+    order: Order,
+    out: &mut Vec<u8>,
+) -> Result<(), AllocError>
+    requires allowed { IsArrayOrder order }
+    requires empty { out.old.items ≡ [] }
+    ensures executes { Executes order (A.state array.old) [] result out.new.items (A.state array.new) }
+    ensures health { log.new.health ≡ health_watched (A.state array.new).array.store.disks.health }
+    ensures disks { log.new.disks ≡ length (A.state array.new).array.store.disks.disks }
+{
+    let done = array.execute(alloc, disks, order, out);
+    list_done(log, seconds, order, out);
+    array.see(seconds, log);
+    done
+}
+
 // Lists what an order has done to a unit, by its answer.
-fn list_done(log: &mut EventLog, seconds: u64, order: Order, answer: &[u8]) {
+fn list_done(log: &mut EventLog, seconds: u64, order: Order, answer: &[u8])
+    ensures health { log.new.health ≡ log.old.health }
+    ensures disks { log.new.disks ≡ log.old.disks }
+{
     if let Order::Act(action) = order {
         if let Some(kind) = event_of(action) {
             if answer == DONE {
@@ -103,7 +132,7 @@ fn event_of(action: Action) -> Option<EventKind> {
     }
 }
 
-impl<'a, R: Wait + Clock, A: OperableArray<M> + ShownArray + Drop, L: Ledger, M: Copy> Controller
+impl<'a, R: Wait + Clock, A: ControlledArray<L, M> + Drop, L: Ledger, M: Copy> Controller
     for LockController<'a, R, A, L, M> {
     ghost use Rattle.ar_service.specs.Control.{LockAnswers};
 

@@ -2,13 +2,14 @@
 use crate::initiators::{IscsiPort, Targets};
 use crate::monitoring::Monitor;
 use crate::operators::{OperatorHandler, PendingStops};
-use crate::shown::ShownArray;
+use crate::shown::ControlledArray;
 use crate::watching::Watch;
 use ar_frames::{Gate, Linked, PairWrite, Sink, Source};
-use ar_operator::{Fuse, OperableArray};
+use ar_iscsi::IscsiEnd;
+use ar_operator::{Fuse, OperatorEnd};
 use ar_sessions::{
-    ANY_NUMBER, Desk, Door, FlushedArray, Handler, MaintainedArray, NoMemory, ServedArray,
-    SharedDoor, run_beside_background, run_pool, start_pool, wake,
+    ANY_NUMBER, Desk, Door, Handler, NoMemory, SharedDoor, run_beside_background, run_pool,
+    start_pool, wake,
 };
 use ar_status::{ArrayStatus, EventLog};
 use log::Log;
@@ -84,7 +85,13 @@ type Sides<'s, O, T, W, I> = (
     &'s Option<SideDoor<O, I>>,
 );
 
-impl<'a, R: Wait + Clock, A: ShownArray + Drop, L: Ledger, M> OperatedArray<'a, R, A, L, M> {
+impl<'a, R: Wait + Clock, A: ControlledArray<L, M> + Drop, L: Ledger, M> OperatedArray<
+    'a,
+    R,
+    A,
+    L,
+    M,
+> {
     /// Seconds since the service began; 0 where the clock can't be read.
     pub fn seconds(&self) -> u64 {
         match self.began {
@@ -99,9 +106,18 @@ impl<'a, R: Wait + Clock, A: ShownArray + Drop, L: Ledger, M> OperatedArray<'a, 
         // (read behind the lock, so that events are listed in the order of their times)
         let seconds = self.seconds();
         let array = self.array.lock(self.rt);
-        array.see(seconds, &mut log);
-        array.status(seconds, log.events())
+        see_and_tell::<A, L, M>(&array, seconds, &mut log)
     }
+}
+
+// Looks at an array, and returns its status.
+fn see_and_tell<A: ControlledArray<L, M>, L: Ledger, M>(
+    array: &A,
+    seconds: u64,
+    log: &mut EventLog,
+) -> ArrayStatus {
+    array.see(seconds, log);
+    array.status(seconds, log.events())
 }
 
 // Whole seconds since, or 0 where the clock can't be read.
@@ -118,13 +134,7 @@ fn seconds_since<R: Clock>(rt: &R, since: Instant) -> u64 {
 /// connection was opened.
 pub fn run_operated<
     R: Threads + Wait + Clock + Log + Net<Listener = TcpListener, Stream = TcpStream> + Sync,
-    A: OperableArray<M>
-        + MaintainedArray
-        + ServedArray<L>
-        + FlushedArray
-        + ShownArray
-        + Drop
-        + Send,
+    A: ControlledArray<L, M> + Drop + Send,
     L: Ledger + Send + Sync,
     M: Copy + Send + Sync,
     H: Door + Drop + Send,
@@ -163,7 +173,7 @@ pub fn run_operated<
 fn operators_side<
     'a,
     R: Wait,
-    A: OperableArray<M> + Drop,
+    A: ControlledArray<L, M> + Drop,
     L: Ledger,
     M,
     O: Door<Reader = S, Writer = W> + Drop,
@@ -180,7 +190,14 @@ fn operators_side<
 }
 
 // The door of HTTP clients, if there is one.
-fn watchers_side<'a, R: Wait + Clock, A: ShownArray + Drop, L: Ledger, M, O: Door + Drop>(
+fn watchers_side<
+    'a,
+    R: Wait + Clock,
+    A: ControlledArray<L, M> + Drop,
+    L: Ledger,
+    M,
+    O: Door + Drop,
+>(
     array: &'a OperatedArray<'a, R, A, L, M>,
     door: Option<(O, RandomState)>,
 ) -> Option<SideDoor<O, Watch<'a, R, A, L, M>>> {
@@ -203,7 +220,7 @@ fn initiators_side<'a, R: Wait, A: Drop, L: Ledger, M, O: Door + Drop>(
 fn pending_in<
     'a,
     R: Wait,
-    A: OperableArray<M> + Drop,
+    A: ControlledArray<L, M> + Drop,
     L: Ledger,
     M,
     O: Door<Reader = S, Writer = W> + Drop,
@@ -239,9 +256,9 @@ impl<O: Door + Drop, T> SideDoor<O, T> {
 fn serve_beside<
     R: Threads + Wait + Clock + Net<Listener = TcpListener, Stream = TcpStream> + Sync,
     O: Door + Drop + Send,
-    T: Handler<O::Reader, O::Writer> + Sync,
-    W: Handler<O::Reader, O::Writer> + Sync,
-    I: Handler<O::Reader, O::Writer> + Sync,
+    T: Handler<O::Reader, O::Writer, OperatorEnd> + Sync,
+    W: Handler<O::Reader, O::Writer, bool> + Sync,
+    I: Handler<O::Reader, O::Writer, IscsiEnd> + Sync,
     V: Monitor + Sync,
     F: FnOnce() -> Result<(), NoMemory> + Drop,
 >(
@@ -268,9 +285,9 @@ fn serve_in_scope<
     E,
     R: Wait + Clock + Net<Listener = TcpListener, Stream = TcpStream> + Sync,
     O: Door + Drop + Send,
-    T: Handler<O::Reader, O::Writer> + Sync,
-    W: Handler<O::Reader, O::Writer> + Sync,
-    I: Handler<O::Reader, O::Writer> + Sync,
+    T: Handler<O::Reader, O::Writer, OperatorEnd> + Sync,
+    W: Handler<O::Reader, O::Writer, bool> + Sync,
+    I: Handler<O::Reader, O::Writer, IscsiEnd> + Sync,
     V: Monitor + Sync,
     F: FnOnce() -> Result<(), NoMemory> + Drop,
 >(
@@ -298,9 +315,9 @@ fn start_threads<
     E,
     R: Wait + Sync,
     O: Door + Drop + Send,
-    T: Handler<O::Reader, O::Writer> + Sync,
-    W: Handler<O::Reader, O::Writer> + Sync,
-    I: Handler<O::Reader, O::Writer> + Sync,
+    T: Handler<O::Reader, O::Writer, OperatorEnd> + Sync,
+    W: Handler<O::Reader, O::Writer, bool> + Sync,
+    I: Handler<O::Reader, O::Writer, IscsiEnd> + Sync,
     V: Monitor + Sync,
 >(
     scope: &'s Scope<'s, E>,
@@ -327,7 +344,7 @@ fn start_threads<
 // Serves hosts: any number of connections in turn, or those that the door counts.
 fn serve_hosts<
     R: Threads + Wait + Clock + Log + Sync,
-    A: OperableArray<M> + MaintainedArray + ServedArray<L> + ShownArray + Drop + Send,
+    A: ControlledArray<L, M> + Drop + Send,
     L: Ledger + Send + Sync,
     M,
     H: Door + Drop + Send,

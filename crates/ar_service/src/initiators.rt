@@ -5,9 +5,10 @@ ghost use Rattle.std.specs.Prelude.{◌≡◌};
 use crate::doors::OperatedArray;
 use ar_disks::Host;
 use ar_frames::{Login, Port, Sink, Source};
-use ar_iscsi::serve_target;
+use ar_history::ServedArray;
+use ar_iscsi::{IscsiEnd, serve_target};
 use ar_scsi::Reply;
-use ar_sessions::{Desk, FlushedArray, Handler, LockPort, ServedArray};
+use ar_sessions::{Desk, Handler, LockPort};
 use ar_target::{Attributes, DeviceServer, FlushOutcome, FlushPort};
 use bytes::Bytes;
 use log::{Log, info};
@@ -123,14 +124,16 @@ fn wait_for_seat<R: Wait + Clock, L: Ledger>(rt: &R, desk: &Mutex<Desk<L>>, numb
 impl<
     'a,
     R: Wait + Clock + Log,
-    A: ServedArray<L> + FlushedArray + Drop,
+    A: ServedArray<L> + Drop,
     L: Ledger,
     M,
     S: Source + Drop,
     W: Sink + Drop,
-> Handler<S, W> for Targets<'a, R, A, L, M> {
+> Handler<S, W, IscsiEnd> for Targets<'a, R, A, L, M> {
+    ghost ends = { λ _ _ _ _. Unit {0} };
+
     // Serves a session.
-    fn handle(&self, number: u64, mut reader: S, mut writer: W) {
+    fn handle(&self, number: u64, mut reader: S, mut writer: W) -> IscsiEnd {
         let (rt, alloc) = (self.array.rt, self.array.alloc);
         let (array, desk) = (self.array.array, self.array.desk);
         let port = PatientPort {
@@ -143,5 +146,6 @@ impl<
         let PatientPort { port, .. } = server.into_port();
         let _receipt = port.finish();
         info!(rt; "iSCSI session {number} ended: {end:?}");
+        end
     }
 }

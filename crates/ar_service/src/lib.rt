@@ -8,6 +8,7 @@ mod doors;
 mod initiators;
 mod monitoring;
 mod operators;
+mod runtime;
 mod service;
 mod shown;
 mod watching;
@@ -17,8 +18,6 @@ pub use doors::{OperatedArray, Ports, SideDoors, run_operated};
 pub use initiators::{IscsiPort, Targets};
 pub use monitoring::Monitor;
 pub use operators::{MOST_OPERATORS, PendingStops};
-pub use service::{
-    HttpPort, NewUnit, Plan, ServiceFault, TcpStops, serve_audited, serve_unaudited,
-};
-pub use shown::ShownArray;
+pub use runtime::ServiceRuntime;
+pub use service::{HttpPort, NewUnit, Plan, ServiceFault, TcpStops, serve};
 pub use watching::Watch;

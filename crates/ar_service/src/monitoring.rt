@@ -3,7 +3,7 @@
 ghost use Rattle.std.specs.Prelude.{◌≤◌, length};
 
 use crate::doors::OperatedArray;
-use crate::shown::ShownArray;
+use crate::shown::ControlledArray;
 use ar_status::{EventKind, RecentEvent, RecentEvents};
 use log::{Log, info};
 use std::sync::Wait;
@@ -27,7 +27,7 @@ pub trait Monitor {
     fn end(&self);
 }
 
-impl<'a, R: Wait + Clock + Log, A: ShownArray + Drop, L: Ledger, M> Monitor
+impl<'a, R: Wait + Clock + Log, A: ControlledArray<L, M> + Drop, L: Ledger, M> Monitor
     for OperatedArray<'a, R, A, L, M> {
     fn monitor(&self) {
         let mut logged = RecentEvents::new();

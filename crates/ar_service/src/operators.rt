@@ -2,9 +2,9 @@
 // to refuse one operator more.
 use crate::control::LockController;
 use crate::doors::OperatedArray;
-use crate::shown::ShownArray;
+use crate::shown::ControlledArray;
 use ar_frames::{Sink, Source, send};
-use ar_operator::{OperableArray, OperatorEnd, converse};
+use ar_operator::{OperatorEnd, converse};
 use ar_sessions::{Handler, wake};
 use std::alloc::{AllocError, Global};
 use std::net::{Net, TcpListener, TcpStream};
@@ -30,7 +30,7 @@ pub struct PendingStops<S: Drop, W: Drop> {
 pub struct OperatorHandler<
     'a,
     R: Wait,
-    A: OperableArray<M> + Drop,
+    A: ControlledArray<L, M> + Drop,
     L: Ledger,
     M,
     S: Drop,
@@ -43,7 +43,7 @@ pub struct OperatorHandler<
     pending: Mutex<PendingStops<S, W>>,
 }
 
-impl<'a, R: Wait, A: OperableArray<M> + Drop, L: Ledger, M, S: Drop, W: Drop> OperatorHandler<
+impl<'a, R: Wait, A: ControlledArray<L, M> + Drop, L: Ledger, M, S: Drop, W: Drop> OperatorHandler<
     'a,
     R,
     A,
@@ -77,15 +77,17 @@ impl<'a, R: Wait, A: OperableArray<M> + Drop, L: Ledger, M, S: Drop, W: Drop> Op
 impl<
     'a,
     R: Wait + Clock + Net<Listener = TcpListener, Stream = TcpStream>,
-    A: OperableArray<M> + ShownArray + Drop,
+    A: ControlledArray<L, M> + Drop,
     L: Ledger,
     M: Copy,
     S: Source + Drop,
     W: Sink + Drop,
-> Handler<S, W> for OperatorHandler<'a, R, A, L, M, S, W> {
+> Handler<S, W, OperatorEnd> for OperatorHandler<'a, R, A, L, M, S, W> {
+    ghost ends = { λ _ _ _ _. Unit {0} };
+
     // Converses with an operator, unless four do already. One whose `stop` is accepted is kept until it can be
     // answered.
-    fn handle(&self, _number: u64, mut reader: S, mut writer: W) {
+    fn handle(&self, _number: u64, mut reader: S, mut writer: W) -> OperatorEnd {
         let others = self.open.fetch_add(1, Ordering::SeqCst);
         let end = if others < MOST_OPERATORS {
             converse_with(self.array, &mut reader, &mut writer)
@@ -98,6 +100,7 @@ impl<
             self.array.stop.store(true, Ordering::SeqCst);
             wake(self.array.rt, self.hosts_port);
         }
+        end
     }
 }
 
@@ -120,7 +123,7 @@ fn refuse<W: Sink>(writer: &mut W) -> OperatorEnd {
 // Answers an operator's lines.
 fn converse_with<
     R: Wait + Clock,
-    A: OperableArray<M> + ShownArray + Drop,
+    A: ControlledArray<L, M> + Drop,
     L: Ledger,
     M: Copy,
     S: Source,

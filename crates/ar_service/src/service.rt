@@ -4,29 +4,26 @@ ghost use Rattle.ar_history.specs.Seat.{SeatState};
 ghost use Rattle.ar_history.specs.declared.counts.HostCounts.{HostCounts};
 ghost use Rattle.ar_service.specs.Service.{CreatesUnits, FailsAudit, IsAudited, refusal_in};
 
+use crate::ServiceRuntime;
 use crate::doors::{OperatedArray, Ports, SideDoors, run_operated};
 use crate::initiators::IscsiPort;
 use crate::operators::PendingStops;
-use crate::shown::{ShownArray, health_of};
+use crate::shown::{ControlledArray, health_of};
 use ar_core::{Array, OutcomeOf, Refusal};
 use ar_disks::{Addr, Disk};
 use ar_frames::NoGate;
-use ar_history::{Counts, Kept, LiveArray, Mismatch, RecordedArray, Report, Seat};
-use ar_operator::{DiskMaker, Fuse, OperableArray};
+use ar_history::{CountedArray, Counts, Kept, Mismatch, OperableArray, Report, Seat};
+use ar_operator::{DiskMaker, Fuse};
 use ar_sessions::{
-    ANY_NUMBER, Desk, FlushedArray, ListenFault, MaintainedArray, NoMemory, ServedArray, TcpDoor,
-    TcpReader, TcpWriter, Timeouts,
+    ANY_NUMBER, Desk, ListenFault, NoMemory, TcpDoor, TcpReader, TcpWriter, Timeouts,
 };
 use ar_status::EventLog;
-use log::Log;
 use std::alloc::Global;
 use std::hash::RandomState;
-use std::net::{Net, TcpListener, TcpStream};
+use std::sync::Mutex;
 use std::sync::atomic::AtomicBool;
 use std::sync::ledger::{Blank, Ledger};
-use std::sync::{Mutex, Wait};
-use std::thread::Threads;
-use std::time::{Clock, Instant};
+use std::time::Instant;
 
 /// Operators over TCP whose `stop` was accepted.
 pub type TcpStops<'a, R> = PendingStops<TcpReader<'a, R>, TcpWriter<'a, R>>;
@@ -113,21 +110,17 @@ impl From<NoMemory> for ServiceFault {
     }
 }
 
-/// Serves a new array by a plan, and stores its history: creates its units, listens, prints `listening PORT`, serves
-/// hosts and operators, and compares the hosts' transcripts with the history. `disks` are the fuses of its disks, by
-/// number, and what makes new ones; `stop` isn't set yet. Returns what came of it, with the operators that wait for it.
-pub fn serve_audited<
+/// Serves a new array by a plan: creates its units, listens, prints `listening PORT`, and serves hosts, operators,
+/// initiators and HTTP clients. If it `audits`, the history and the hosts' transcripts are stored, and compared at the end.
+/// Else contracts alone see the history, so that the array may be served for ever. `disks` are the fuses of its
+/// disks, by number, and what makes new ones; `stop` isn't set yet. Returns the operators that wait for the end, and the
+/// number of commands of each host, or what failed.
+pub fn serve<
     's,
     D: Disk + Drop + Send,
     L: Ledger + Send + Sync,
     M: DiskMaker<D> + Copy + Send + Sync,
-    R: Threads
-        + Wait
-        + Clock
-        + Net<Listener = TcpListener, Stream = TcpStream>
-        + Print
-        + Log
-        + Sync,
+    R: ServiceRuntime + Sync,
 >(
     rt: &'s R,
     alloc: Global,
@@ -136,47 +129,7 @@ pub fn serve_audited<
     disks: (&[Fuse; 12], M),
     stop: &'s AtomicBool,
     plan: Plan<'_>,
-) -> (TcpStops<'s, R>, Result<Report, ServiceFault>)
-    requires name { blank.name ≡ L.name }
-    requires parts { blank.parts ≡ L.parts }
-    requires four { blank.parts ≡ 4 }
-    requires no_unit { array.store.book.units ≡ [] }
-{
-    let log = EventLog::new(health_of(array.health()), array.disks());
-    let (mut kept, seats) = Kept::<D, L>::start(alloc, blank, array);
-    let made = create_units::<D, Kept<D, L>>(&mut kept, plan.units);
-    let begun = Begun { made, seats, log };
-    let shared = Mutex::new(kept);
-    let (stops, served, desk) = serve_made(rt, alloc, &shared, begun, disks, stop, plan);
-    let kept = shared.into_inner();
-    let report = audit(served, &kept, desk);
-    drop(kept);
-    (stops, report)
-}
-
-/// Serves a new array as `serve_audited` does, but stores no history, so that it may be served for ever. Each reply is
-/// still the one that the unit's own entries give, in a history that contracts alone see; what is given up is the
-/// comparison at the end. Returns the number of commands of hosts 0 to 3 with a reply other than BUSY.
-pub fn serve_unaudited<
-    's,
-    D: Disk + Drop + Send,
-    L: Ledger + Send + Sync,
-    M: DiskMaker<D> + Copy + Send + Sync,
-    R: Threads
-        + Wait
-        + Clock
-        + Net<Listener = TcpListener, Stream = TcpStream>
-        + Print
-        + Log
-        + Sync,
->(
-    rt: &'s R,
-    alloc: Global,
-    blank: Blank,
-    array: Array<D>,
-    disks: (&[Fuse; 12], M),
-    stop: &'s AtomicBool,
-    plan: Plan<'_>,
+    audits: bool,
 ) -> (TcpStops<'s, R>, Result<[u64; 4], ServiceFault>)
     requires name { blank.name ≡ L.name }
     requires parts { blank.parts ≡ L.parts }
@@ -184,69 +137,55 @@ pub fn serve_unaudited<
     requires no_unit { array.store.book.units ≡ [] }
 {
     let log = EventLog::new(health_of(array.health()), array.disks());
-    let seats = Seat::<L>::unrecorded(alloc, blank);
-    let mut live = LiveArray::start(alloc, array);
-    let made = create_units::<D, LiveArray<D>>(&mut live, plan.units);
-    let begun = Begun { made, seats, log };
-    let shared = Mutex::new(live);
-    let (stops, served, desk) = serve_made(rt, alloc, &shared, begun, disks, stop, plan);
-    drop(desk);
-    let live = shared.into_inner();
-    let commands = commands_of(&live.counts());
-    drop(live);
-    match served {
-        Ok(()) => (stops, Ok(commands)),
-        Err(fault) => (stops, Err(fault)),
+    if audits {
+        let (mut kept, seats) = Kept::<D, L>::start(alloc, blank, array);
+        let made = create_units(&mut kept, plan.units);
+        let begun = Begun { made, seats, log };
+        let (stops, served, kept, desk) = serve_array(rt, alloc, kept, begun, disks, stop, plan);
+        let report = audit(served, &kept, desk);
+        drop(kept);
+        (stops, report.map(|report| report.commands))
+    } else {
+        let (mut counted, seats) = CountedArray::<D, L>::start(alloc, blank, array);
+        let made = create_units(&mut counted, plan.units);
+        let begun = Begun { made, seats, log };
+        let (stops, served, counted, desk) = serve_array(
+            rt, alloc, counted, begun, disks, stop, plan,
+        );
+        drop(desk);
+        let commands = commands_of(&counted.counts());
+        drop(counted);
+        (stops, served.map(|()| commands))
     }
 }
 
-// Serves an array behind a lock by a plan, if its units were created. Returns the operators that wait for the end, what
-// came of the service, and the hosts' seats.
-fn serve_made<
+// Serves an array by a plan behind a lock, once its units are created. Returns the operators that wait for the end, what
+// came of the service, the array, and the desk with the hosts' seats.
+fn serve_array<
     's,
-    A: OperableArray<M>
-        + MaintainedArray
-        + ServedArray<L>
-        + FlushedArray
-        + ShownArray
-        + Drop
-        + Send,
+    A: ControlledArray<L, M> + Drop + Send,
     L: Ledger + Send + Sync,
     M: Copy + Send + Sync,
-    R: Threads
-        + Wait
-        + Clock
-        + Net<Listener = TcpListener, Stream = TcpStream>
-        + Print
-        + Log
-        + Sync,
+    R: ServiceRuntime + Sync,
 >(
     rt: &'s R,
     alloc: Global,
-    array: &Mutex<A>,
+    array: A,
     begun: Begun<L>,
     disks: (&[Fuse; 12], M),
     stop: &'s AtomicBool,
     plan: Plan<'_>,
-) -> (TcpStops<'s, R>, Result<(), ServiceFault>, Desk<L>)
+) -> (TcpStops<'s, R>, Result<(), ServiceFault>, A, Desk<L>)
     requires hosts { map (λ (s : SeatState). s.host.number) begun.seats ≡ 0 ∷ 1 ∷ 2 ∷ 3 ∷ [] }
 {
     let (fuses, disks) = disks;
     let Begun { made, seats, log } = begun;
-    if let Err((number, refusal)) = made {
-        let none = PendingStops::none(alloc);
-        return (
-            none,
-            Err(ServiceFault::Unit(number, refusal)),
-            Desk::new(seats),
-        );
-    }
-    let desk = Mutex::new(Desk::new(seats));
+    let (array, desk) = (Mutex::new(array), Mutex::new(Desk::new(seats)));
     let log = Mutex::new(log);
     let operated = OperatedArray {
         rt,
         alloc,
-        array,
+        array: &array,
         desk: &desk,
         fuses,
         disks,
@@ -254,29 +193,23 @@ fn serve_made<
         began: Instant::now(rt).ok(),
         stop,
     };
-    let (stops, served) = serve_plan(rt, &operated, stop, plan);
-    (stops, served, desk.into_inner())
+    let (stops, served) = match made {
+        Ok(()) => serve_plan(rt, &operated, stop, plan),
+        Err((number, refusal)) => (
+            PendingStops::none(alloc),
+            Err(ServiceFault::Unit(number, refusal)),
+        ),
+    };
+    (stops, served, array.into_inner(), desk.into_inner())
 }
 
-// Listens, and serves hosts, operators and HTTP clients.
+// Listens, and serves hosts, operators, initiators and HTTP clients.
 fn serve_plan<
     's,
-    A: OperableArray<M>
-        + MaintainedArray
-        + ServedArray<L>
-        + FlushedArray
-        + ShownArray
-        + Drop
-        + Send,
+    A: ControlledArray<L, M> + Drop + Send,
     L: Ledger + Send + Sync,
     M: Copy + Send + Sync,
-    R: Threads
-        + Wait
-        + Clock
-        + Net<Listener = TcpListener, Stream = TcpStream>
-        + Print
-        + Log
-        + Sync,
+    R: ServiceRuntime + Sync,
 >(
     rt: &'s R,
     operated: &OperatedArray<'_, R, A, L, M>,
@@ -293,7 +226,7 @@ fn serve_plan<
 }
 
 // Opens the doors of a plan, and says so.
-fn open_doors<'s, R: Clock + Net<Listener = TcpListener, Stream = TcpStream> + Print + Log + Sync>(
+fn open_doors<'s, R: ServiceRuntime + Sync>(
     rt: &'s R,
     alloc: Global,
     stop: &'s AtomicBool,
@@ -334,7 +267,7 @@ fn ports_of(plan: Plan<'_>) -> Ports {
 }
 
 // Opens the hosts' door. Only an operator's `stop` closes it before its last connection.
-fn open_hosts<'s, R: Clock + Net<Listener = TcpListener, Stream = TcpStream> + Log>(
+fn open_hosts<'s, R: ServiceRuntime>(
     rt: &'s R,
     alloc: Global,
     stop: &'s AtomicBool,
@@ -350,7 +283,7 @@ fn open_hosts<'s, R: Clock + Net<Listener = TcpListener, Stream = TcpStream> + L
 }
 
 // Opens the operators' door.
-fn open_operators<'s, R: Clock + Net<Listener = TcpListener, Stream = TcpStream> + Log>(
+fn open_operators<'s, R: ServiceRuntime>(
     rt: &'s R,
     alloc: Global,
     port: u16,
@@ -365,7 +298,7 @@ fn open_operators<'s, R: Clock + Net<Listener = TcpListener, Stream = TcpStream>
 }
 
 // Opens the door of HTTP clients.
-fn open_watchers<'s, R: Clock + Net<Listener = TcpListener, Stream = TcpStream> + Log>(
+fn open_watchers<'s, R: ServiceRuntime>(
     rt: &'s R,
     alloc: Global,
     port: u16,
@@ -380,7 +313,7 @@ fn open_watchers<'s, R: Clock + Net<Listener = TcpListener, Stream = TcpStream> 
 }
 
 // Opens the door of initiators. One that is silent is ended, since it keeps its host's seat.
-fn open_initiators<'s, R: Clock + Net<Listener = TcpListener, Stream = TcpStream> + Log>(
+fn open_initiators<'s, R: ServiceRuntime>(
     rt: &'s R,
     alloc: Global,
     stop: &'s AtomicBool,
@@ -401,7 +334,7 @@ fn say_listening(rt: &impl Print, port: u16) -> Result<(), ServiceFault> {
 }
 
 // Creates the units in their order, up to one that is refused: its number, and why.
-fn create_units<D: Disk + Drop, A: RecordedArray<D>>(
+fn create_units<A: OperableArray<L>, L: Ledger>(
     array: &mut A,
     units: &[NewUnit],
 ) -> Result<(), (usize, Refusal)>

@@ -1,15 +1,20 @@
 // What the pages show of an array with its history: numbers, and its picture.
-ghost use Rattle.std.specs.Prelude.{◌≡◌, ℕ, ◌-◌, ◌++◌, IfOk, length, map};
+ghost use Rattle.std.specs.Prelude.{◌≡◌, ◌-◌, ◌++◌, IfOk, OnOk, Some, true, false, if◌then◌else◌, length, map};
 ghost use Rattle.std.specs.List.{range_with_len};
-ghost use Rattle.ar_history.specs.Kept.{KeptState};
 ghost use Rattle.ar_history.specs.declared.counts.HostCounts.{HostCounts};
+ghost use Rattle.ar_operator.specs.Executing.{Executes, IsArrayOrder};
+ghost use Rattle.ar_picture.specs.Writing.{AddsSome};
 ghost use Rattle.ar_script.specs.Pictures.{IsPicture};
 ghost use Rattle.ar_service.specs.Watching.{IsStatusOf, SeesArray, counters_watched, health_watched, host_watched};
 ghost use Rattle.ar_service.specs.Watching.{operations_watched, replies_watched, steps_watched};
 
 use ar_core::{Array, Counters, Health};
 use ar_disks::Disk;
-use ar_history::{Counts, HostCounts, Kept, LiveArray, OperationCounts, ReplyCounts, TaskCounts};
+use ar_history::{
+    CountedArray, Counts, HostCounts, Kept, OperationCounts, ReplyCounts, ServedArray, TaskCounts,
+};
+use ar_language::Order;
+use ar_operator::{DiskMaker, Fuse, execute, set_fuse};
 use ar_picture::Picture;
 use ar_script::picture_of;
 use ar_status::{
@@ -22,67 +27,138 @@ use std::sync::ledger::Ledger;
 /// Bytes that an entry takes in the list of the history.
 const ENTRY_LEN: u64 = 136;
 
-/// An array with its history, as the pages show it.
-pub trait ShownArray {
-    /// The array with its history.
-    ghost state: { Self → KeptState };
+/// A served array, as operators use it and the pages show it, whatever its disks are. `M` makes its new disks.
+pub trait ControlledArray<L: Ledger, M>: ServedArray<L> {
+    /// Executes an order and appends its answer to `out`, as a script has it (`ar_operator::execute`).
+    fn execute(
+        &mut self,
+        alloc: Global,
+        disks: &mut M,
+        order: Order,
+        out: &mut Vec<u8>,
+    ) -> Result<(), AllocError>
+        requires { IsArrayOrder order }
+        ensures { Executes order (Self.state self.old) out.old.items result out.new.items (Self.state self.new) };
 
-    /// The number of entries of the history that are stored.
-    ghost stored: { Self → ℕ };
+    /// Sets the fuse of a disk, and appends the answer (`ar_operator::set_fuse`).
+    fn set_fuse(
+        &self,
+        fuses: &[Fuse; 12],
+        disk: u8,
+        accesses: Option<u64>,
+        out: &mut Vec<u8>,
+    ) -> Result<(), AllocError>
+        ensures { OnOk result (AddsSome (Some out.old.items) (Some out.new.items)) };
 
     /// Compares the array with how it was seen last, and lists what has happened.
     fn see(&self, seconds: u64, log: &mut EventLog)
-        ensures { SeesArray seconds (state self.now).array log.old log.new };
+        ensures { SeesArray seconds (Self.state self.now).array log.old log.new };
 
-    /// Returns its status, `seconds` after the start, with these events.
+    /// Returns the status of the array, `seconds` after the start, with these events.
     fn status(&self, seconds: u64, events: RecentEvents) -> ArrayStatus
-        ensures { IsStatusOf (state self.now).array (state self.now).counts (stored self.now) seconds events result };
+        ensures { IsStatusOf (Self.state self.now).array (Self.state self.now).counts
+            (if Self.stores then length (Self.state self.now).history else 0) seconds events result };
 
-    /// Returns the data of its picture. It fails only when out of memory.
+    /// Returns the data of the array's picture. It fails only when out of memory.
     fn picture(&self, alloc: Global) -> Result<Picture, AllocError>
-        ensures { IfOk result (IsPicture (state self.now).array) };
+        ensures { IfOk result (IsPicture (Self.state self.now).array) };
 }
 
-impl<D: Disk + Drop, L: Ledger> ShownArray for Kept<D, L> {
-    ghost state = { λ kept. kept };
+impl<D: Disk + Drop, L: Ledger, M: DiskMaker<D>> ControlledArray<L, M> for Kept<D, L> {
+    fn execute(
+        &mut self,
+        alloc: Global,
+        disks: &mut M,
+        order: Order,
+        out: &mut Vec<u8>,
+    ) -> Result<(), AllocError> {
+        execute(alloc, self, disks, order, out)
+    }
 
-    ghost stored = { λ kept. length kept.history };
+    fn set_fuse(
+        &self,
+        fuses: &[Fuse; 12],
+        disk: u8,
+        accesses: Option<u64>,
+        out: &mut Vec<u8>,
+    ) -> Result<(), AllocError> {
+        set_fuse(Kept::array(self), fuses, disk, accesses, out)
+    }
 
     fn see(&self, seconds: u64, log: &mut EventLog) {
-        see_array(self.array(), seconds, log);
+        see_array(Kept::array(self), seconds, log);
     }
 
     fn status(&self, seconds: u64, events: RecentEvents) -> ArrayStatus {
-        let counts = self.counts();
-        let status = status_of(self.array(), &counts, seconds, events);
-        let list = (self.capacity() as u64).saturating_mul(ENTRY_LEN);
-        ArrayStatus {
-            history_entries: self.history().len() as u64,
-            history_bytes: list.saturating_add(stored_data(status.health, &counts)),
-            ..status
-        }
+        status_with(
+            Kept::array(self),
+            &Kept::counts(self),
+            (self.history().len(), self.capacity()),
+            seconds,
+            events,
+        )
     }
 
     fn picture(&self, alloc: Global) -> Result<Picture, AllocError> {
-        picture_of(alloc, self.array())
+        picture_of(alloc, Kept::array(self))
     }
 }
 
-impl<D: Disk + Drop> ShownArray for LiveArray<D> {
-    ghost state = { λ live. live };
+impl<D: Disk + Drop, L: Ledger, M: DiskMaker<D>> ControlledArray<L, M> for CountedArray<D, L> {
+    fn execute(
+        &mut self,
+        alloc: Global,
+        disks: &mut M,
+        order: Order,
+        out: &mut Vec<u8>,
+    ) -> Result<(), AllocError> {
+        execute(alloc, self, disks, order, out)
+    }
 
-    ghost stored = { λ _. 0 };
+    fn set_fuse(
+        &self,
+        fuses: &[Fuse; 12],
+        disk: u8,
+        accesses: Option<u64>,
+        out: &mut Vec<u8>,
+    ) -> Result<(), AllocError> {
+        set_fuse(CountedArray::array(self), fuses, disk, accesses, out)
+    }
 
     fn see(&self, seconds: u64, log: &mut EventLog) {
-        see_array(self.array(), seconds, log);
+        see_array(CountedArray::array(self), seconds, log);
     }
 
     fn status(&self, seconds: u64, events: RecentEvents) -> ArrayStatus {
-        status_of(self.array(), &self.counts(), seconds, events)
+        status_with(
+            CountedArray::array(self),
+            &CountedArray::counts(self),
+            (0, 0),
+            seconds,
+            events,
+        )
     }
 
     fn picture(&self, alloc: Global) -> Result<Picture, AllocError> {
-        picture_of(alloc, self.array())
+        picture_of(alloc, CountedArray::array(self))
+    }
+}
+
+// The status of an array with so many entries of its history stored, and memory for so many.
+fn status_with<D: Disk>(
+    array: &Array<D>,
+    counts: &Counts,
+    stored: (usize, usize),
+    seconds: u64,
+    events: RecentEvents,
+) -> ArrayStatus
+    ensures { IsStatusOf array.now counts.now stored.0 seconds events result }
+{
+    let status = status_of(array, counts, seconds, events);
+    ArrayStatus {
+        history_entries: stored.0 as u64,
+        history_bytes: stored_bytes(stored.1 as u64, status.health, counts),
+        ..status
     }
 }
 
@@ -120,10 +196,11 @@ fn status_of<D: Disk>(
     }
 }
 
-// Bytes of data that a stored history keeps, at least. A failed array counts commands that it doesn't record.
-fn stored_data(health: ArrayHealth, counts: &Counts) -> u64 {
-    let mut bytes: u64 = 0;
-    if health != ArrayHealth::Broken {
+// Bytes of memory that a stored history takes, at least: none, if nothing is stored. A failed array counts commands that
+// it doesn't record.
+fn stored_bytes(room: u64, health: ArrayHealth, counts: &Counts) -> u64 {
+    let mut bytes = room.saturating_mul(ENTRY_LEN);
+    if room > 0 && health != ArrayHealth::Broken {
         for host in counts.hosts {
             bytes = bytes.saturating_add(host.read).saturating_add(host.written);
         }

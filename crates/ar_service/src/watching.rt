@@ -4,7 +4,7 @@ ghost use Rattle.std.specs.Prelude.{◌≡◌, IfOk};
 ghost use Rattle.ar_service.specs.Watching.{CopiesMoment, MayDraw, text_drawn};
 
 use crate::doors::OperatedArray;
-use crate::shown::ShownArray;
+use crate::shown::ControlledArray;
 use ar_frames::Linked;
 use ar_picture::{Picture, write_svg};
 use ar_sessions::Handler;
@@ -18,13 +18,13 @@ use std::time::Clock;
 
 /// A served array, as HTTP clients watch it.
 #[derive(Drop)]
-pub struct Watch<'a, R: Wait + Clock, A: ShownArray + Drop, L: Ledger, M> {
+pub struct Watch<'a, R: Wait + Clock, A: ControlledArray<L, M> + Drop, L: Ledger, M> {
     array: &'a OperatedArray<'a, R, A, L, M>,
     // Of the maps of header fields, whose names clients choose.
     keys: RandomState,
 }
 
-impl<'a, R: Wait + Clock, A: ShownArray + Drop, L: Ledger, M> Watch<'a, R, A, L, M> {
+impl<'a, R: Wait + Clock, A: ControlledArray<L, M> + Drop, L: Ledger, M> Watch<'a, R, A, L, M> {
     /// A watch over an array, with the keys of the maps of header fields.
     pub fn new(
         array: &'a OperatedArray<'a, R, A, L, M>,
@@ -45,12 +45,12 @@ impl<'a, R: Wait + Clock, A: ShownArray + Drop, L: Ledger, M> Watch<'a, R, A, L,
         let mut log = self.array.log.lock(self.array.rt);
         let seconds = self.array.seconds();
         let array = self.array.array.lock(self.array.rt);
-        copy_moment::<A>(alloc, &array, &mut log, seconds, draws)
+        copy_moment::<A, L, M>(alloc, &array, &mut log, seconds, draws)
     }
 }
 
 // Looks at an array, and copies what is shown of it.
-fn copy_moment<A: ShownArray>(
+fn copy_moment<A: ControlledArray<L, M>, L: Ledger, M>(
     alloc: Global,
     array: &A,
     log: &mut EventLog,
@@ -61,12 +61,12 @@ fn copy_moment<A: ShownArray>(
 {
     array.see(seconds, log);
     let status = array.status(seconds, log.events());
-    let picture = picture_if(alloc, array, draws)?;
+    let picture = picture_if::<A, L, M>(alloc, array, draws)?;
     Ok((status, picture))
 }
 
 // The data of the picture, if it is to be drawn.
-fn picture_if<A: ShownArray>(
+fn picture_if<A: ControlledArray<L, M>, L: Ledger, M>(
     alloc: Global,
     array: &A,
     draws: bool,
@@ -91,7 +91,8 @@ fn draw(alloc: Global, picture: &Option<Picture>) -> Result<Vec<u8>, AllocError>
     Ok(text)
 }
 
-impl<'a, R: Wait + Clock, A: ShownArray + Drop, L: Ledger, M> Watched for Watch<'a, R, A, L, M> {
+impl<'a, R: Wait + Clock, A: ControlledArray<L, M> + Drop, L: Ledger, M> Watched
+    for Watch<'a, R, A, L, M> {
     ghost use Rattle.ar_service.specs.Watching.{ShowsMoment};
 
     ghost shows = { λ _ draws status picture. ShowsMoment draws status picture };
@@ -106,16 +107,18 @@ impl<'a, R: Wait + Clock, A: ShownArray + Drop, L: Ledger, M> Watched for Watch<
 impl<
     'a,
     R: Wait + Clock,
-    A: ShownArray + Drop,
+    A: ControlledArray<L, M> + Drop,
     L: Ledger,
     M,
     S: Read + Drop,
     W: Write + Drop,
-> Handler<Linked<S>, Linked<W>> for Watch<'a, R, A, L, M> {
-    // Answers one request. One that isn't answered has a client that is gone, or memory was short.
-    fn handle(&self, _number: u64, reader: Linked<S>, writer: Linked<W>) {
+> Handler<Linked<S>, Linked<W>, bool> for Watch<'a, R, A, L, M> {
+    ghost ends = { λ _ _ _ _. Unit {0} };
+
+    // Answers one request, and returns whether it was answered: else the client is gone, or memory was short.
+    fn handle(&self, _number: u64, reader: Linked<S>, writer: Linked<W>) -> bool {
         let (mut reader, mut writer) = (reader.into_inner(), writer.into_inner());
         let alloc = self.array.alloc;
-        let _answered = serve_connection(alloc, self.keys, self, &mut reader, &mut writer);
+        serve_connection(alloc, self.keys, self, &mut reader, &mut writer).is_ok()
     }
 }

@@ -3,17 +3,12 @@ use crate::command_line::{Audit, RandomNumbers, Service};
 use ar_core::Refusal;
 use ar_history::Mismatch;
 use ar_operator::{Fuse, FusedDisk, FusedMaker, start_fused};
-use ar_service::{ServiceFault, TcpStops, serve_audited, serve_unaudited};
-use log::Log;
+use ar_service::{ServiceFault, ServiceRuntime, TcpStops, serve};
 use std::alloc::Global;
 use std::io;
 use std::marker::Brand;
-use std::net::{Net, TcpListener, TcpStream};
-use std::sync::Wait;
 use std::sync::atomic::AtomicBool;
 use std::sync::ledger::Blank;
-use std::thread::Threads;
-use std::time::Clock;
 use thiserror::Error;
 
 /// Why the server failed.
@@ -45,72 +40,32 @@ pub enum ServeFault {
 /// Creates the array and its units, listens, and serves hosts, operators, initiators and HTTP clients. Then it compares
 /// the hosts' transcripts with the history, unless none is stored. Operators that have asked for the end are answered
 /// last.
-pub fn run_server<
-    R: Threads
-        + Wait
-        + Clock
-        + Net<Listener = TcpListener, Stream = TcpStream>
-        + Print
-        + Log
-        + Sync,
->(rt: &R, alloc: Global, service: &Service, random: RandomNumbers) -> Result<(), ServeFault> {
-    let fuses = Fuse::twelve();
-    let stop = AtomicBool::new(false);
-    let (stops, served) = serve(rt, alloc, service, random, &fuses, &stop)?;
-    conclude(rt, alloc, service, stops, served)
-}
-
-// Serves a new array on disks with these fuses. Returns the operators that wait for the end, and the number of commands
-// of each host.
-fn serve<
-    's,
-    R: Threads
-        + Wait
-        + Clock
-        + Net<Listener = TcpListener, Stream = TcpStream>
-        + Print
-        + Log
-        + Sync,
->(
-    rt: &'s R,
+pub fn run_server<R: ServiceRuntime + Sync>(
+    rt: &R,
     alloc: Global,
     service: &Service,
     random: RandomNumbers,
-    fuses: &[Fuse; 12],
-    stop: &'s AtomicBool,
-) -> Result<(TcpStops<'s, R>, Result<[u64; 4], ServiceFault>), ServeFault> {
-    let Ok(array) = start_fused(alloc, service.setup, fuses) else {
+) -> Result<(), ServeFault> {
+    let fuses = Fuse::twelve();
+    let stop = AtomicBool::new(false);
+    let Ok(array) = start_fused(alloc, service.setup, &fuses) else {
         return Err(ServeFault::Start);
     };
-    let disks = (fuses, FusedMaker::new(fuses));
-    let plan = service.plan(random);
-    match service.audit {
-        Audit::Full => {
-            let (stops, served) = serve_audited::<FusedDisk<'_>, Brand, FusedMaker<'_>, R>(
-                rt,
-                alloc,
-                Blank::new(4),
-                array,
-                disks,
-                stop,
-                plan,
-            );
-            Ok((stops, served.map(|report| report.commands)))
-        }
-        Audit::Off => Ok(serve_unaudited::<FusedDisk<'_>, Brand, FusedMaker<'_>, R>(
-            rt,
-            alloc,
-            Blank::new(4),
-            array,
-            disks,
-            stop,
-            plan,
-        )),
-    }
+    let (stops, served) = serve::<FusedDisk<'_>, Brand, FusedMaker<'_>, R>(
+        rt,
+        alloc,
+        Blank::new(4),
+        array,
+        (&fuses, FusedMaker::new(&fuses)),
+        &stop,
+        service.plan(random),
+        service.audit == Audit::Full,
+    );
+    conclude(rt, alloc, service, stops, served)
 }
 
 // Prints what came of the service, and answers the operators that wait for it.
-fn conclude<R: Clock + Print>(
+fn conclude<R: ServiceRuntime>(
     rt: &R,
     alloc: Global,
     service: &Service,

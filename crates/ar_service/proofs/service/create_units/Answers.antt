@@ -8,7 +8,7 @@ returns-in-Some g c = record {
   unit = c.index-units-number.result;
   there = slice_get_read c.args.units.now _ c.loop-number.number c.index-units-number.result refl
       c.loop-number-test.true c.index-units-number.is;
-  middle = g.A.RecordedArray.state c.loop-number.array;
+  middle = g.A.ServedArray.state c.loop-number.array;
   before = c.loop-number.invariant;
   outcome = c.make-outcome.result;
   refused = sym c.refusal_in.ensures ∙ c.in-Some.is;
@@ -22,8 +22,8 @@ returns-in-Some g c = record {
 pub loop-number-preserved : goal.loop-number-preserved
 loop-number-preserved g c =
     created_more c.args.units.now c.loop-number.number c.index-units-number.result
-    (g.A.RecordedArray.state c.args.array.now) (g.A.RecordedArray.state c.loop-number.array)
-    (g.A.RecordedArray.state c.make-outcome.new.self)
+    (g.A.ServedArray.state c.args.array.now) (g.A.ServedArray.state c.loop-number.array)
+    (g.A.ServedArray.state c.make-outcome.new.self)
     c.index-units-number.is c.loop-number-test.true c.loop-number.invariant
     (record {
       outcome = c.make-outcome.result;

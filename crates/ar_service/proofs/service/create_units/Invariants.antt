@@ -5,4 +5,4 @@ use Rattle.ar_service.proofs.service.create_units.Given as goal
 
 abbrev pub invariant-loop-number : goal.invariant-loop-number
 invariant-loop-number g l =
-    AreCreated (take l.number l.units) (g.A.RecordedArray.state l.initial.array) (g.A.RecordedArray.state l.array)
+    AreCreated (take l.number l.units) (g.A.ServedArray.state l.initial.array) (g.A.ServedArray.state l.array)

@@ -1,0 +1,39 @@
+use denote.Exit.{yes}
+use denote.Param.Send.{param_send, arg_send, given_send}
+use Rattle.ar_history.proofs.counted.CountedArray.TheSendSync as counted
+use Rattle.ar_history.proofs.kept.Kept.TheSendSync as kept
+use Rattle.ar_service.proofs.service.serve.Goals as goal
+
+pub serve_array-stops-requires-send-A : goal.serve_array-stops-requires-send-A
+serve_array-stops-requires-send-A g c κs within =
+    param_send 0 _
+    (arg_send _ yes _ (kept.the_send _ g.row.L g.D.Disk g.L.Ledger (given_send 0 _ g.row.D c.type_bounds.send-D)))
+
+pub serve_array-stops-requires-send-L : goal.serve_array-stops-requires-send-L
+serve_array-stops-requires-send-L g c κs within = c.type_bounds.send-L
+
+pub serve_array-stops-requires-send-M : goal.serve_array-stops-requires-send-M
+serve_array-stops-requires-send-M g c κs within = c.type_bounds.send-M
+
+pub serve_array-stops-requires-sync-L : goal.serve_array-stops-requires-sync-L
+serve_array-stops-requires-sync-L g c κs within = c.type_bounds.sync-L
+
+pub serve_array-stops-requires-sync-M : goal.serve_array-stops-requires-sync-M
+serve_array-stops-requires-sync-M g c κs within = c.type_bounds.sync-M
+
+pub serve_array-stops-2-requires-send-A : goal.serve_array-stops-2-requires-send-A
+serve_array-stops-2-requires-send-A g c κs within =
+    param_send 0 _
+    (arg_send _ yes _ (counted.the_send _ g.row.L g.D.Disk g.L.Ledger (given_send 0 _ g.row.D c.type_bounds.send-D)))
+
+pub serve_array-stops-2-requires-send-L : goal.serve_array-stops-2-requires-send-L
+serve_array-stops-2-requires-send-L g c κs within = c.type_bounds.send-L
+
+pub serve_array-stops-2-requires-send-M : goal.serve_array-stops-2-requires-send-M
+serve_array-stops-2-requires-send-M g c κs within = c.type_bounds.send-M
+
+pub serve_array-stops-2-requires-sync-L : goal.serve_array-stops-2-requires-sync-L
+serve_array-stops-2-requires-sync-L g c κs within = c.type_bounds.sync-L
+
+pub serve_array-stops-2-requires-sync-M : goal.serve_array-stops-2-requires-sync-M
+serve_array-stops-2-requires-sync-M g c κs within = c.type_bounds.sync-M
