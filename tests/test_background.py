@@ -22,7 +22,7 @@ class Background(Case):
         self.wants(host.writes(0, b"r" * 512 * 200).status, GOOD, "a WRITE")
         self.wants(server.told("out 2\nreplace 2\n"), "ok\nok\n", "a disk that is taken out and replaced")
         seen, wrong, begun = set(), 0, time.monotonic()
-        while (health := server.get("/healthz")[2]) != "whole\n":
+        while (health := server.get("/healthz/whole")[2]) != "whole\n":
             seen.add(health[:12])
             wrong += host.reads(0, 200).data != b"r" * 512 * 200
         self.holds(seen <= {"out 2\n", "rebuilding 2"}, "the disk is out or rebuilt", seen)

@@ -6,14 +6,16 @@ from tests.harness import Case, answered, connected, rest_of
 
 # Seconds after which a silent connection is closed, and what may come on top.
 LONGEST, SLACK = 10, 3
-HEALTH = b"GET /healthz HTTP/1.1\r\nHost: a\r\n\r\n"
+HEALTH = b"GET /healthz/whole HTTP/1.1\r\nHost: localhost\r\n\r\n"
 # What is sent, and the status that answers it.
 BAD = {
     "no request": (b"garbage\r\n\r\n", b"400"),
     "no host": (b"GET / HTTP/1.1\r\n\r\n", b"400"),
-    "a long path": (b"GET /" + b"x" * 1_000_000 + b" HTTP/1.1\r\nHost: a\r\n\r\n", b"414"),
-    "a long field": (b"GET / HTTP/1.1\r\nHost: a\r\nX: " + b"x" * 1_000_000 + b"\r\n\r\n", b"431"),
-    "content": (b"GET / HTTP/1.1\r\nHost: a\r\nContent-Length: 5\r\n\r\nhello", b"413"),
+    "another host": (b"GET / HTTP/1.1\r\nHost: example.org\r\n\r\n", b"421"),
+    "another host's port": (b"GET / HTTP/1.1\r\nHost: example.org:80\r\n\r\n", b"421"),
+    "a long path": (b"GET /" + b"x" * 1_000_000 + b" HTTP/1.1\r\nHost: localhost\r\n\r\n", b"414"),
+    "a long field": (b"GET / HTTP/1.1\r\nHost: localhost\r\nX: " + b"x" * 1_000_000 + b"\r\n\r\n", b"431"),
+    "content": (b"GET / HTTP/1.1\r\nHost: localhost\r\nContent-Length: 5\r\n\r\nhello", b"413"),
     "all bytes": (bytes(range(256)) * 100, b"400"),
 }
 

@@ -4,7 +4,7 @@ import subprocess
 import tempfile
 import time
 
-from tests.harness import Case, connected, program, ran, waited
+from tests.harness import Case, answered, connected, program, ran, waited
 
 # What stands at each path.
 TYPES = {
@@ -13,6 +13,7 @@ TYPES = {
     "/metrics": "text/plain; version=0.0.4; charset=utf-8",
     "/status.json": "application/json",
     "/healthz": "text/plain; charset=utf-8",
+    "/healthz/whole": "text/plain; charset=utf-8",
 }
 DOORS = ("operator", "http")
 
@@ -40,7 +41,7 @@ class Pages(Case):
         return [(event["kind"], *(event[key] for key in ("disk", "host", "lun") if key in event)) for event in found]
 
     def health(self):
-        code, _, body = self.server.get("/healthz")
+        code, _, body = self.server.get("/healthz/whole")
         return code, body
 
     def path(self, path):
@@ -68,6 +69,25 @@ class Pages(Case):
 
     def test_healthz(self):
         self.path("/healthz")
+
+    def test_healthz_whole(self):
+        self.path("/healthz/whole")
+
+    def test_guards(self):
+        """What tells browsers to give a response to no page of another site."""
+        fields = self.server.get("/")[1]
+        wanted = {
+            "x-content-type-options": "nosniff",
+            "content-security-policy": "frame-ancestors 'none'",
+            "cross-origin-resource-policy": "same-origin",
+        }
+        self.wants({name: fields.get(name) for name in wanted}, wanted, "the header fields of the page")
+
+    def test_names(self):
+        """By which names an array answers: any port, any case."""
+        for name in "localhost", "LOCALHOST:1", "127.0.0.1", "[::1]:7119":
+            said = answered(self.server.http_port, f"GET /healthz HTTP/1.1\r\nHost: {name}\r\n\r\n".encode())
+            self.wants(said[:13] + said[-8:], b"HTTP/1.1 200 " + b"\nserves\n", name)
 
     def test_other_methods(self):
         for method in "POST", "PUT", "DELETE", "OPTIONS":
