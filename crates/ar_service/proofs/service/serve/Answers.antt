@@ -21,19 +21,25 @@ serve_array-stops-requires-sync-L g c κs within = c.type_bounds.sync-L
 pub serve_array-stops-requires-sync-M : goal.serve_array-stops-requires-sync-M
 serve_array-stops-requires-sync-M g c κs within = c.type_bounds.sync-M
 
-pub serve_array-stops-2-requires-send-A : goal.serve_array-stops-2-requires-send-A
-serve_array-stops-2-requires-send-A g c κs within =
+pub serve_array-stops-requires-else-audits-send-A : goal.serve_array-stops-requires-else-audits-send-A
+serve_array-stops-requires-else-audits-send-A g c κs within =
     param_send 0 _
     (arg_send _ yes _ (counted.the_send _ g.row.L g.D.Disk g.L.Ledger (given_send 0 _ g.row.D c.type_bounds.send-D)))
 
-pub serve_array-stops-2-requires-send-L : goal.serve_array-stops-2-requires-send-L
-serve_array-stops-2-requires-send-L g c κs within = c.type_bounds.send-L
+pub serve_array-stops-requires-else-audits-send-L : goal.serve_array-stops-requires-else-audits-send-L
+serve_array-stops-requires-else-audits-send-L g c κs within = c.type_bounds.send-L
 
-pub serve_array-stops-2-requires-send-M : goal.serve_array-stops-2-requires-send-M
-serve_array-stops-2-requires-send-M g c κs within = c.type_bounds.send-M
+pub serve_array-stops-requires-else-audits-send-M : goal.serve_array-stops-requires-else-audits-send-M
+serve_array-stops-requires-else-audits-send-M g c κs within = c.type_bounds.send-M
 
-pub serve_array-stops-2-requires-sync-L : goal.serve_array-stops-2-requires-sync-L
-serve_array-stops-2-requires-sync-L g c κs within = c.type_bounds.sync-L
+pub serve_array-stops-requires-else-audits-sync-L : goal.serve_array-stops-requires-else-audits-sync-L
+serve_array-stops-requires-else-audits-sync-L g c κs within = c.type_bounds.sync-L
 
-pub serve_array-stops-2-requires-sync-M : goal.serve_array-stops-2-requires-sync-M
-serve_array-stops-2-requires-sync-M g c κs within = c.type_bounds.sync-M
+pub serve_array-stops-requires-else-audits-sync-M : goal.serve_array-stops-requires-else-audits-sync-M
+serve_array-stops-requires-else-audits-sync-M g c κs within = c.type_bounds.sync-M
+
+pub serve_array-stops-requires-sync-R : goal.serve_array-stops-requires-sync-R
+serve_array-stops-requires-sync-R g c κs within = c.type_bounds.sync-R
+
+pub serve_array-stops-requires-else-audits-sync-R : goal.serve_array-stops-requires-else-audits-sync-R
+serve_array-stops-requires-else-audits-sync-R g c κs within = c.type_bounds.sync-R
