@@ -129,7 +129,7 @@ answered_shape false u cdb bytes shape same later = later
 check_not_busy : (reply : Reply) (sense : Sense) → reply ≡ check sense → reply.status ≢ Busy
 check_not_busy reply sense is busy = let status = sym (ap (λ (r : Reply). r.status) is) ∙ busy in cc
 
--- the failure is told only where the data are lost, since no reply of the table is that
+-- the failure is reported only where the data are lost, since no reply of the table is that
 failure_told : (broken : Bool) (old : UnitState) (cdb bytes : List ℕ) (reply : Reply) (new : UnitState)
     → (broken ≡ false → IsServed old (answer old cdb bytes) reply new)
     → reply ≡ check internal_target_failure → IsTrue broken

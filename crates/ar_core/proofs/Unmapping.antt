@@ -61,7 +61,7 @@ past_none : (past : Bool)
 past_none true = refl
 past_none false = refl
 
--- the failure is told only where the data are lost, since no reply of the table is that
+-- the failure is reported only where the data are lost, since no reply of the table is that
 failure_unmapped : (broken : Bool) (old : UnitState) (lba count : ℕ) (reply : Reply)
     → (broken ≡ false → reply ≡ (unmap_answer old lba count).reply)
     → reply ≡ check internal_target_failure → IsTrue broken
@@ -171,14 +171,14 @@ unmaps_served old new addr n lba count reply unit quiet serves settles =
       capacity = serves.follows.capacity;
     }
 
--- a command of which a growth is told
+-- a command of which a growth is reported
 abbrev told_command : UnitEntry
 told_command = Cmd [] []
 
 abbrev told_entry : Reply → List UnitEntry
 told_entry reply = cond (is_busy reply.status) [] (told_command ∷ [])
 
--- a growth that was told to a command, as to a discard
+-- a growth that was reported to a command, as to a discard
 pub unmaps_told : (old new : ArrayState) (addr : Addr) (n lba count : ℕ) (reply : Reply)
     → IsUnit old addr n → attention_at old.store.book addr ≡ true
     → reply ≡ check capacity_data_has_changed → new ≡ with_book old (unmarked old.store.book addr) → SameSeen old new

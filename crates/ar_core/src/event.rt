@@ -31,7 +31,7 @@ pub enum EventOf<N> {
         cdb: [u8; 16],
         payload: Bytes,
     },
-    /// Discards sectors of a unit for its host, from an LBA on and so many (UNMAP, SBC-3): they are zeros afterwards, and
+    /// Discards sectors of a unit for its host, `count` from an LBA on (UNMAP, SBC-3): they are zeros afterwards, and
     /// blocks of which all sectors are discarded give their slots back. It is answered as a WRITE of the sectors, never
     /// by BUSY.
     Unmap(Addr, u64, u32),

@@ -27,7 +27,7 @@ pub enum Entry {
     Remove(Addr),
     /// A host's command had a reply other than BUSY.
     Cmd(Host, Exchange),
-    /// Sectors of a unit were discarded for its host, from an LBA on and so many. The reply isn't stored, nor is the
+    /// Sectors of a unit were discarded for its host, `count` from an LBA on. The reply isn't stored, nor is the
     /// discard in a transcript: what it was is a matter of the entries before it (`unmap_answer`).
     Unmap(Addr, u64, u32),
 }

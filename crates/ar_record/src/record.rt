@@ -14,7 +14,7 @@ pub enum Record {
     /// A command was executed that changed its unit: the command descriptor block, padded with zeros to 16 bytes, and
     /// the data-out.
     Command(Addr, [u8; 16], Bytes),
-    /// Sectors of a unit were discarded for its host, from an LBA on and so many.
+    /// Sectors of a unit were discarded for its host, `count` from an LBA on.
     Unmap(Addr, u64, u32),
     /// A disk of this many extents was added.
     AddDisk(u32),
