@@ -222,6 +222,33 @@ nothing_stands file place at_place damage others other =
     let Q : List ℕ → Type 0 = λ l. AreBatchesFrom place.number found.0 l in
     damage found.0 (subst Q place_is (subst P counts found.1))
 
+-- the batches that were read are the first of those that the file holds
+pub prefix_of : (file : List ℕ) (place : Place) → IsAt file place → (others : List Batch) → HoldsBatches others file
+    → (more : List Batch) × (others ≡ batches_before place.at file ++ more)
+prefix_of file place at_place others other =
+    let batches = batches_before place.at file in
+    let t = batches_len batches in
+    let x = take place.at file ++ 0 ∷ 0 ∷ [] in
+    let size_x : length (take place.at file) ≡ place.at = length-take-le place.at file (omega (arith, at_place.left)) in
+    let same_at : take place.at file ≡ take place.at x = sym (take_at (take place.at file) (0 ∷ 0 ∷ []) place.at size_x) in
+    let R : ℕ → Type 0 = λ n. take n file ≡ take n x in
+    let same : take (8 + t) file ≡ take (8 + t) x = subst R at_place.at same_at in
+    let rests : take t other.0 ≡ take t at_place.stands.0 =
+    ap (λ (l : List ℕ). take t l) (sym (behind_magic file other.0 other.1))
+    ∙ sym (drop-take 8 t file)
+    ∙ ap (λ (l : List ℕ). drop 8 l) same
+    ∙ drop-take 8 t x
+    ∙ ap (λ (l : List ℕ). take t l) (behind_magic x at_place.stands.0 at_place.stands.1) in
+    let found = ahead 0 batches others at_place.stands.0 other.0 at_place.stands.2 other.2 rests in
+    let behind : drop t other.0 ≡ drop (8 + t) file =
+    ap (λ (l : List ℕ). drop t l) (sym (behind_magic file other.0 other.1)) ∙ drop-drop t 8 file in
+    let counts : 0 + length batches ≡ length batches = omega arith in
+    let P : ℕ → Type 0 = λ n. AreBatchesFrom n found.0 (drop t other.0) in
+    let Q : List ℕ → Type 0 = λ l. AreBatchesFrom (length batches) found.0 l in
+    let whole : HoldsBatches (batches ++ found.0) file =
+    graft_file batches found.0 x file at_place.stands same (subst Q behind (subst P counts found.1)) in
+    (found.0, sym (batches_of_stands others file other) ∙ batches_of_stands (batches ++ found.0) file whole)
+
 -- two bytes that are no closed gate
 pub opens_if : (gate bytes : List ℕ) → gate ≡ take 2 bytes → length gate ≡ 2 → gate ≢ 0 ∷ 0 ∷ [] → begins_open bytes ≡ true
 opens_if gate [] is len other = absurd (omega (arith, len, ap length is))

@@ -25,3 +25,4 @@ pub use place::{Place, ReadBatch};
 pub use read::{next_batch, open};
 pub use recover_log::{WholeLog, recover};
 pub use start::{create, cut_torn, resume};
+pub use write::write_synced;

@@ -54,6 +54,7 @@ impl<M: Media> Log<M> {
             → IsTrue (M.is_clean self.old.media) → KeepsBatches M.seen M.may_leave self.old self.new) }
         ensures closed { self.old.is_closed ≡ true → (result ≡ Err Closed) × (self.new ≡ self.old) }
         ensures closes { IfErr result (λ e. self.old.is_closed ≡ false → self.new.is_closed ≡ is_final e) }
+        ensures open { OnOk result (self.new.is_closed ≡ false) }
 
         // It doesn't give up by itself.
         ensures cause { ReportsMedium (M.faults self.old.media) (M.faults self.new.media) result }

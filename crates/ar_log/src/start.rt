@@ -1,8 +1,8 @@
 //! A log that begins to be written: a new one, or one that was read to its end.
-ghost use Rattle.std.specs.Prelude.{◌≡◌, ◌≤◌, ◌+◌, ℕ, List, [], ◌∷◌, length, take, OnOk, IfOk, false};
+ghost use Rattle.std.specs.Prelude.{◌≡◌, ◌≤◌, ◌<◌, ◌+◌, ℕ, List, [], ◌∷◌, length, OnOk, IfOk, IfErr, IsTrue, false};
 ghost use Rattle.ar_media.specs.Media.{Only, LeavesOnly};
-ghost use Rattle.ar_log.specs.Failure.{ReportsMedium};
-ghost use Rattle.ar_log.specs.Log.{HoldsBatches, batches_len, IsSynced, batches_of};
+ghost use Rattle.ar_log.specs.Failure.{is_of_medium, ReportsMedium};
+ghost use Rattle.ar_log.specs.Log.{HoldsBatches, batches_len, IsSynced, batches_of, IsBegun};
 
 use crate::{Log, LogError, Place, write_head};
 use ar_media::Media;
@@ -13,6 +13,14 @@ pub fn create<M: Media>(alloc: Global, media: M, head: &[u8]) -> Result<Log<M>, 
     ensures settled { IfOk result (λ log. IsSynced M.seen M.may_leave log) }
     ensures batches { IfOk result (λ log. batches_of (M.seen log.media) ≡ (head.now ∷ []) ∷ []) }
     ensures open { IfOk result (λ log. log.is_closed ≡ false) }
+
+    // A crash at any moment leaves no log, or the new one, but for batches that were behind the first eight bytes.
+    ensures any_moment { IfOk result (λ log. LeavesOnly M.moment M.left_since media log.media
+        (IsBegun head.now (M.may_leave media))) }
+    ensures any_moment_err { IfErr result (λ e. LeavesOnly M.moment M.left_since media e.1
+        (IsBegun head.now (M.may_leave media))) }
+
+    ensures cause { IfErr result (λ e. IsTrue (is_of_medium e.0) → M.faults media < M.faults e.1) }
     ensures clean { IfOk result (λ log. M.is_clean log.media ≡ M.is_clean media) }
 {
     let mut media = media;
