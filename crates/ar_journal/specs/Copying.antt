@@ -1,0 +1,75 @@
+-- One copy of a journal and another.
+use Rattle.std.specs.Prelude.{◌≡◌, ◌⊎◌, ℕ, ◌==◌, Bool, false, not, ◌&&◌, ◌||◌, nat_lt, if◌then◌else◌}
+use Rattle.std.specs.Prelude.{List, [], ◌∷◌, length, take, drop, IsTrue}
+use Rattle.std.specs.Int.{w64, from_le_bytes}
+use Rattle.ar_log.specs.Codec.{Batch}
+use Rattle.ar_log.specs.declared.place.Place.{Place}
+use Rattle.ar_journal.specs.Journal.{IsReady, IsClean, IsBehind, batches_now, journal_batches}
+use Rattle.ar_journal.specs.Mirror.{IsMirrored, IsSound, HasBatches, GoesOn}
+use Rattle.ar_journal.specs.declared.files.JournalFiles.{JournalFiles}
+use Rattle.ar_journal.specs.declared.journal.Journal.{Journal}
+use Rattle.ar_journal.specs.declared.mirrored.MirroredJournal.{MirroredJournal}
+
+-- behind this place of one journal are the batches that the other lacks
+pub record IsPrefix {M : Type 0} (seen : M → List ℕ) (is_clean : M → Bool) (from to from_new to_new : Journal M)
+    (place : Place) : Type 0 where
+  pub behind : IsTrue (is_clean from_new.active.media) → IsBehind (batches_now seen from) place
+  pub same : IsTrue (is_clean from_new.active.media) → IsTrue (is_clean to_new.active.media)
+      → take place.number (batches_now seen from) ≡ batches_now seen to
+
+-- a journal that had the batches before this place of the other has all of them now
+abbrev pub IsCopied : {M : Type 0} → (M → List ℕ) → (M → Bool) → Journal M → Journal M → Journal M → Journal M → Place
+    → Type 0
+IsCopied seen is_clean from to from_new to_new place =
+    IsTrue (is_clean from_new.active.media) → IsTrue (is_clean to_new.active.media)
+    → take place.number (batches_now seen from) ≡ batches_now seen to → batches_now seen to_new ≡ batches_now seen from
+
+-- the generation in a head: its bytes 1 to 8, little-endian
+abbrev pub generation_in : List ℕ → ℕ
+generation_in head = if nat_lt (length head) 9 then 0 else from_le_bytes w64 (take 8 (drop 1 head))
+
+-- the generation of a journal, by the one record of its first batch
+abbrev pub generation : List Batch → ℕ
+generation [] = 0
+generation ([] ∷ batches) = 0
+generation ((head ∷ more) ∷ batches) = generation_in head
+
+-- of a later generation or, in the same one, of no fewer batches
+abbrev pub is_ahead_by : ℕ → ℕ → ℕ → ℕ → Bool
+is_ahead_by one count other others = nat_lt other one || ((one == other) && not (nat_lt count others))
+
+abbrev pub is_ahead : List Batch → List Batch → Bool
+is_ahead one other = is_ahead_by (generation one) (length one) (generation other) (length other)
+
+-- the first batch is this head, and the place is behind it
+pub record HeadIs (batches : List Batch) (head : List ℕ) (place : Place) : Type 0 where
+  pub behind : IsBehind batches place
+  pub first : take place.number batches ≡ (head ∷ []) ∷ []
+
+-- a copy is ready, and has the batches of the other unless it is given up
+pub record Mirrors {M : Type 0} (seen : M → List ℕ) (may_leave : M → List ℕ → Type 0) (is_clean : M → Bool)
+    (from to : Journal M) : Type 0 where
+  pub ready : IsReady seen may_leave is_clean to
+  pub same : to.active.is_closed ≡ false → IsTrue (is_clean from.active.media) → IsTrue (is_clean to.active.media)
+      → batches_now seen to ≡ batches_now seen from
+
+-- both copies are ready, one at least isn't given up, and each that isn't has the batches of this journal
+pub record Starts {M : Type 0} (seen : M → List ℕ) (may_leave : M → List ℕ → Type 0) (is_clean : M → Bool)
+    (from : Journal M) (mirror : MirroredJournal M) : Type 0 where
+  pub ready : IsMirrored seen may_leave is_clean mirror
+  pub goes_on : GoesOn mirror
+  pub has : IsSound is_clean mirror → HasBatches seen (batches_now seen from) mirror
+  -- what was read of it is as clean as what is read now
+  pub clean : IsSound is_clean mirror → IsClean is_clean from
+
+-- the batches of the files of a journal
+abbrev pub files_batches : {M : Type 0} → (M → List ℕ) → JournalFiles M → List Batch
+files_batches seen files = journal_batches (seen files.selector) (seen files.first) (seen files.second)
+
+-- both copies are ready, one at least isn't given up, and each that isn't has the batches of one of these
+pub record StartsFrom {M : Type 0} (seen : M → List ℕ) (may_leave : M → List ℕ → Type 0) (is_clean : M → Bool)
+    (one other : JournalFiles M) (mirror : MirroredJournal M) : Type 0 where
+  pub ready : IsMirrored seen may_leave is_clean mirror
+  pub goes_on : GoesOn mirror
+  pub has : IsSound is_clean mirror
+      → HasBatches seen (files_batches seen one) mirror ⊎ HasBatches seen (files_batches seen other) mirror
