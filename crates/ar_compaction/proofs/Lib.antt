@@ -1,0 +1,14 @@
+pub mod Cutting
+pub mod Zeros
+pub mod Making
+pub mod Pieces
+pub mod Writing
+pub mod Growth
+pub mod Checkpoints
+pub mod Granted
+pub mod Building
+pub mod Executing
+pub mod Noting
+pub mod Stepping
+pub mod Looping
+pub mod Heads

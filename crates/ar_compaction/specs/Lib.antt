@@ -1,0 +1,14 @@
+pub mod Addresses
+pub mod Bytes
+pub mod Checkpoint
+pub mod Compaction
+pub mod Contents
+pub mod Giving
+pub mod Head
+pub mod HeadReading
+pub mod RecordsFields
+pub mod ReplayFields
+pub mod Replaying
+pub use Rattle.ar_record.specs.Record
+pub use Rattle.ar_record.specs.Replay
+pub use Rattle.ar_unit.specs.Unit
