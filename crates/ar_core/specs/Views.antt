@@ -1,5 +1,6 @@
 -- Views of the tables, and of rows on the disks.
 use Rattle.std.specs.Prelude.{◌≡◌, ℕ, ◌<◌, nat_le, not, if◌then◌else◌, Option, Some, None, List, length}
+use Rattle.ar_disks.specs.Addresses.{same_addr}
 use Rattle.ar_disks.specs.declared.address.Addr.{Addr}
 use Rattle.ar_disks.specs.declared.address.Place.{Place}
 use Rattle.ar_disks.specs.Geometry.{rows_of}
@@ -12,6 +13,8 @@ use Rattle.ar_book.specs.declared.class.Level.{Level}
 use Rattle.ar_book.specs.declared.class.Level.TheVariants.{Unplaced as NowherePlaced, Mirrored as AtMirrored}
 use Rattle.ar_book.specs.declared.class.Level.TheVariants.{Parity as AtParity}
 use Rattle.ar_book.specs.declared.class.Slot.{Slot}
+use Rattle.std.specs.Option.{option_map}
+use Rattle.std.specs.Map.{lookup}
 use Rattle.ar_book.specs.Tables.{GroupState, Tables, has_unit, unit_in, home, level, used}
 use Rattle.ar_core.specs.declared.views.LevelOf.{LevelOf}
 use Rattle.ar_core.specs.declared.views.LevelOf.TheVariants as levels
@@ -27,6 +30,10 @@ abbrev pub level_shown : Level → LevelOf
 level_shown NowherePlaced = levels.Unplaced
 level_shown AtMirrored = levels.Mirrored
 level_shown AtParity = levels.Parity
+
+-- a unit's length in sectors, if there is one
+abbrev pub sectors_at : Tables → Addr → Option ℕ
+sectors_at t addr = option_map (λ unit. unit.sectors) (lookup (same_addr addr) t.units)
 
 -- the level of a unit's block, if both exist
 abbrev pub level_at : Tables → Addr → ℕ → LevelOf

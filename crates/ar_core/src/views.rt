@@ -9,7 +9,7 @@ ghost use Rattle.ar_volume.specs.Image.{is_broken, geometry_of, image, image_at,
 ghost use Rattle.ar_volume.specs.Sectors.{Address};
 ghost use Rattle.ar_unit.specs.Unit.{IsWhole};
 ghost use Rattle.ar_core.specs.Quiet.{LooksAt};
-ghost use Rattle.ar_core.specs.Views.{level_at, home_of, use_of, HasRow, Shows};
+ghost use Rattle.ar_core.specs.Views.{level_at, home_of, sectors_at, use_of, HasRow, Shows};
 
 use crate::{Array, Class, Counters, Health, Slot};
 use ar_book::{Book, Level};
@@ -78,6 +78,13 @@ impl<D: Disk> Array<D> {
         ensures { result ≡ self.now.store.disks.extents }
     {
         self.blocks.disks().extents()
+    }
+
+    /// Returns the length of the unit at `addr` in sectors, or None if there is no unit.
+    pub fn sectors(&self, addr: Addr) -> Option<u32>
+        ensures { result ≡ sectors_at self.now.store.book addr }
+    {
+        self.blocks.book().sectors(addr)
     }
 
     /// Returns the level of block `rb` (from 0) of the unit at `addr`.
