@@ -1,13 +1,19 @@
 -- What each call does to a served array: what the array, its history and the caller's seat are afterwards.
 use Rattle.std.specs.Prelude.{◌≡◌, ◌&&◌, ◌+◌, ℕ, Bool, true, false, not, if◌then◌else◌, List, [], ◌∷◌, ◌++◌, length}
+use Rattle.std.specs.Prelude.{Result, Ok}
 use Rattle.ar_disks.specs.declared.address.Addr.{Addr}
 use Rattle.ar_scsi.specs.declared.reply.Reply.{Reply}
+use Rattle.ar_scsi.specs.declared.command.Command.{Command}
+use Rattle.ar_scsi.specs.declared.command.Command.TheVariants.{Write}
+use Rattle.ar_scsi.specs.declared.sense.Sense.{Sense}
+use Rattle.ar_scsi.specs.Reading.{reading}
+use Rattle.ar_unit.specs.Broken.{is_good}
 use Rattle.ar_volume.specs.declared.flush.UnitFlush.{UnitFlush}
 use Rattle.ar_volume.specs.declared.flush.UnitFlush.TheVariants.{Done}
 use Rattle.ar_volume.specs.Image.{is_broken, image, image_at, image_on_disks}
 use Rattle.ar_volume.specs.Sectors.{Address}
 use Rattle.ar_core.specs.Events.{Event, Outcome}
-use Rattle.ar_core.specs.Step.{Steps}
+use Rattle.ar_core.specs.Step.{Steps, is_write}
 use Rattle.ar_core.specs.declared.event.EventOf.TheVariants.{Cmd as CmdEvent, FlushUnit as FlushUnitEvent}
 use Rattle.ar_core.specs.declared.event.OutcomeOf.TheVariants.{Cmd as CmdOutcome, FlushUnit as FlushUnitOutcome}
 use Rattle.ar_history.specs.Counts.{CountsCommand, CountsOperation, CountsTask, is_idle}
@@ -26,10 +32,11 @@ RecordsWithin false old before lun cdb payload reply new after =
     Steps old.array (CmdEvent before.host lun cdb payload) (CmdOutcome reply) new.array
     × (new.room ≡ old.room) × (after.room ≡ before.room)
 
--- A command of a seat's host, at an array that stores transcripts or doesn't: one step of the array at most, between two
--- states in both of which each unit is what the history makes it. The history has grown by the command and its reply
--- exactly if the reply isn't BUSY and the array hasn't failed; the reply is then the one that the unit's own entries
--- give. With the history grow the seat's share by one and, if transcripts are stored, its transcript by the command.
+-- A command of a seat's host, at an array that stores transcripts or doesn't: one step of the array at most, between
+-- two states in both of which each unit is what the history makes it. The history has grown by the command and its
+-- reply exactly if the reply isn't BUSY and the array hasn't failed; the reply is then the one that the unit's own
+-- entries give. With the history grow the seat's share by one and, if transcripts are stored, its transcript by the
+-- command.
 pub record AnswersCommand (stores : Bool) (old : KeptState) (before : SeatState) (lun : ℕ) (cdb payload : List ℕ)
     (reply : Reply)
     (new : KeptState) (after : SeatState) : Type 0 where
@@ -53,8 +60,8 @@ pub record Operates (event : Event) (old : KeptState) (outcome : Outcome) (new :
   pub kept : StaysKept old new
   pub counts : CountsOperation old new
 
--- A task's event was one step of the array, and the history and its capacity stay, as until data loss do the contents of
--- all units. The array was kept before and after, and the task is counted if it did something.
+-- A task's event was one step of the array, and the history and its capacity stay, as until data loss do the contents
+-- of all units. The array was kept before and after, and the task is counted if it did something.
 pub record Maintains (task : Task) (old : KeptState) (outcome : Outcome) (new : KeptState) : Type 0 where
   pub steps : Steps old.array (event_of_task task) outcome new.array
   pub history : new.history ≡ old.history
@@ -79,3 +86,16 @@ pub record DestagesUnit (old : KeptState) (addr : Addr) (answer : UnitFlush) (ne
   pub kept : StaysKept old new
   pub images : is_broken new.array ≡ false → (a : Address) → image new.array a ≡ image old.array a
   pub counts : CountsOperation old new
+
+-- the command is a WRITE with FORCE UNIT ACCESS (SBC-2, WRITE (10) command)
+abbrev pub is_forced : Result Command Sense → Bool
+is_forced (Ok (Write lba count fua)) = fua
+is_forced other = false
+
+-- an answer that acknowledges data: GOOD to a WRITE
+abbrev pub acknowledges : List ℕ → Reply → Bool
+acknowledges cdb reply = is_good reply.status && is_write (reading cdb)
+
+-- an answer that says that what was written lasts: GOOD to such a WRITE
+abbrev pub asks_commit : List ℕ → Reply → Bool
+asks_commit cdb reply = is_good reply.status && is_forced (reading cdb)

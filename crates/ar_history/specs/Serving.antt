@@ -50,8 +50,8 @@ pub record ServesCommand (old : ArrayState) (was : List Entry) (host : Host) (lu
 abbrev pub with_reply : Exchange → Reply → Exchange
 with_reply exchange reply = record exchange { reply = reply }
 
--- The command is recorded: history, transcript and the seat's share have grown by it and its reply, which is that of its
--- unit, as the history so far has made the unit.
+-- The command is recorded: history, transcript and the seat's share have grown by it and its reply, which is that of
+-- its unit, as the history so far has made the unit.
 pub record IsRecorded (old : KeptState) (before : SeatState) (lun : ℕ) (cdb payload : List ℕ) (reply : Reply)
     (position : ℕ)
     (new : KeptState) (after : SeatState) : Type 0 where
@@ -63,8 +63,8 @@ pub record IsRecorded (old : KeptState) (before : SeatState) (lun : ℕ) (cdb pa
   pub not_busy : is_busy reply.status ≡ false
   pub sound : is_broken new.array ≡ false
 
--- It is not recorded: history, transcript and share stay. Either the reply is BUSY and no unit has changed; or the array has
--- failed after it, and the reply is that of a failed array in place of the unit's.
+-- It is not recorded: history, transcript and share stay. Either the reply is BUSY and no unit has changed; or the
+-- array has failed after it, and the reply is that of a failed array in place of the unit's.
 pub record IsUnrecorded (old : KeptState) (before : SeatState) (lun : ℕ) (cdb payload : List ℕ) (reply : Reply)
     (new : KeptState) (after : SeatState) : Type 0 where
   pub history : new.history ≡ old.history

@@ -26,7 +26,7 @@ pub struct CountedArray<D: Disk, L: Ledger> {
 }
 
 impl<D: Disk, L: Ledger> Model for CountedArray<D, L> {
-    ghost use Rattle.std.specs.Prelude.{◌≡◌, count_by};
+    ghost use Rattle.std.specs.Prelude.{◌≤◌, count_by};
     ghost use Rattle.ar_history.specs.History.{is_command};
     ghost use Rattle.ar_history.specs.Kept.{KeptState};
 
@@ -34,7 +34,7 @@ impl<D: Disk, L: Ledger> Model for CountedArray<D, L> {
 
     ghost view = { λ counted. counted.live };
 
-    ghost invariant = { λ counted. counted.book.total ≡ count_by is_command counted.live.history };
+    ghost invariant = { λ counted. counted.book.total ≤ count_by is_command counted.live.history };
 }
 
 impl<D: Disk, L: Ledger> CountedArray<D, L> {
@@ -52,9 +52,27 @@ impl<D: Disk, L: Ledger> CountedArray<D, L> {
         ensures commands { map (λ (s : SeatState). s.commands) result.1 ≡ 0 ∷ 0 ∷ 0 ∷ 0 ∷ [] }
         ensures transcripts { map (λ (s : SeatState). s.transcript) result.1 ≡ [] ∷ [] ∷ [] ∷ [] ∷ [] }
     {
+        CountedArray::resume(alloc, blank, LiveArray::start(alloc, array))
+    }
+
+    /// Goes on with an array that has a history, as one that was recovered has, and returns it with the seats of
+    /// hosts 0 to 3, in order. What is counted begins at zero.
+    pub fn resume(
+        alloc: Global,
+        blank: Blank,
+        live: LiveArray<D>,
+    ) -> (CountedArray<D, L>, [Seat<L>; 4])
+        requires name { blank.name ≡ L.name }
+        requires parts { blank.parts ≡ L.parts }
+        requires four { blank.parts ≡ 4 }
+        ensures array { result.0 ≡ record live { counts = no_counts; events = 0 } }
+        ensures hosts { map (λ (s : SeatState). s.host.number) result.1 ≡ 0 ∷ 1 ∷ 2 ∷ 3 ∷ [] }
+        ensures commands { map (λ (s : SeatState). s.commands) result.1 ≡ 0 ∷ 0 ∷ 0 ∷ 0 ∷ [] }
+        ensures transcripts { map (λ (s : SeatState). s.transcript) result.1 ≡ [] ∷ [] ∷ [] ∷ [] ∷ [] }
+    {
         let (book, mut rest) = blank.open::<L>();
         let counted = CountedArray {
-            live: LiveArray::start(alloc, array),
+            live: live.with_no_counts(),
             book,
         };
         (counted, seats(alloc, &mut rest))

@@ -1,5 +1,5 @@
-// Discards of a unit's sectors, for its host (UNMAP). Each is one step of the array and, unless the array has failed, the
-// history's next entry.
+// Discards of a unit's sectors, for its host (UNMAP). Each is one step of the array and, unless the array has failed,
+// the history's next entry.
 ghost use Rattle.std.specs.Prelude.{◌≡◌, ◌<◌, true, false, length};
 ghost use Rattle.ar_volume.specs.Image.{is_broken};
 ghost use Rattle.ar_core.specs.Step.{Steps, addr_in, is_busy};
@@ -17,8 +17,8 @@ use std::alloc::Global;
 use std::sync::ledger::Ledger;
 
 impl<D: Disk + Drop> LiveArray<D> {
-    /// Discards `count` sectors of a host's LUN from `lba` on, and returns the reply, which is that to a WRITE of zeros to
-    /// them and never BUSY. The history grows by the discard, unless the array has failed after it.
+    /// Discards `count` sectors of a host's LUN from `lba` on, and returns the reply, which is that to a WRITE of
+    /// zeros to them and never BUSY. The history grows by the discard, unless the array has failed after it.
     pub fn discard(&mut self, host: Host, lun: u8, lba: u64, count: u32) -> Reply
         ensures serves { ServesUnmap self.old.array self.old.history (addr_in host lun) lba count result self.new.array
             self.new.history }
@@ -51,9 +51,9 @@ impl<D: Disk + Drop> LiveArray<D> {
 }
 
 impl<D: Disk + Drop, L: Ledger> Kept<D, L> {
-    /// Discards `count` sectors of a host's LUN from `lba` on, and returns the reply, which is that to a WRITE of zeros to
-    /// them. The history grows by the discard, unless the array has failed after it; no transcript does. If a full
-    /// history can't grow, the reply is BUSY and nothing is done; nothing is allocated on a failed array.
+    /// Discards `count` sectors of a host's LUN from `lba` on, and returns the reply, which is that to a WRITE of
+    /// zeros to them. The history grows by the discard, unless the array has failed after it; no transcript does. If
+    /// a full history can't grow, the reply is BUSY and nothing is done; nothing is allocated on a failed array.
     pub fn discard(&mut self, host: Host, lun: u8, lba: u64, count: u32) -> Reply
         ensures serves { is_busy result.status ≡ false
             → ServesUnmap self.old.array self.old.history (addr_in host lun) lba count result self.new.array

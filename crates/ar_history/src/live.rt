@@ -90,6 +90,16 @@ impl<D: Disk> LiveArray<D> {
         self.events
     }
 
+    // The array with its history, of which nothing was counted.
+    pub(crate) fn with_no_counts(self) -> LiveArray<D>
+        ensures { result ≡ record self { counts = no_counts; events = 0 } }
+    {
+        let mut live = self;
+        live.counts = Counts::new();
+        live.events = 0;
+        live
+    }
+
     // Whether the array has failed.
     pub(crate) fn is_lost(&self) -> bool
         ensures { result ≡ is_broken self.now.array }

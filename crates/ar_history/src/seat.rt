@@ -1,5 +1,5 @@
-// A host's seat. Its share of the ledger is the number of its commands in the history, so that neither the share nor the
-// transcript grows without the history.
+// A host's seat. Its share of the ledger is the number of its commands in the history, so that neither the share nor
+// the transcript grows without the history.
 ghost use Rattle.std.specs.Prelude.{◌≡◌, ◌<◌, ◌+◌, ◌++◌, ◌∷◌, [], length};
 
 use crate::Exchange;

@@ -4,7 +4,8 @@ ghost use Rattle.std.specs.Prelude.{◌≡◌, Bool, true, false, if◌then◌el
 ghost use Rattle.ar_book.specs.Tables.{free_groups};
 ghost use Rattle.ar_extents.specs.Set.{CanCount};
 ghost use Rattle.ar_history.specs.Kept.{KeptState, HistoryAgrees};
-ghost use Rattle.ar_history.specs.Served.{AnswersCommand, DestagesUnit, Maintains, Operates, Works};
+ghost use Rattle.ar_history.specs.Served.{AnswersCommand, DestagesUnit, Maintains, Operates, Works, acknowledges};
+ghost use Rattle.ar_history.specs.Served.{asks_commit};
 
 use crate::{CountedArray, Counts, Kept, OperationOf, Seat, Task, is_idle};
 use ar_core::{Array, EventOf, NewDisk, Outcome, UnitFlush};
@@ -16,14 +17,20 @@ use std::sync::ledger::Ledger;
 /// An array that is served, with its history: until data loss each unit is what the history makes it.
 ///
 /// Each call says what the array is afterwards. A command, a piece of maintenance and a flush are one step of the array
-/// each; all other calls leave it as it is. Two arrays are served: `Kept` stores its history and hosts' transcripts,
-/// `CountedArray` stores neither.
+/// each; all other calls leave it as it is. `Kept` stores its history and hosts' transcripts, `CountedArray` stores
+/// neither; what either has done ends with the program.
 pub trait ServedArray<L: Ledger> {
     /// The array with its history.
     ghost state: { Self → KeptState };
 
     /// Whether the history and hosts' transcripts are stored.
     ghost stores: { Bool };
+
+    /// Whether there is a store, which may fail, to keep what is done beyond the end of the program.
+    ghost persists: { Bool };
+
+    /// What was done so far outlasts the program, where there is a store.
+    ghost lasts: { Self → Type 0 };
 
     /// Returns what was counted since the start.
     fn counts(&self) -> Counts
@@ -53,6 +60,19 @@ pub trait ServedArray<L: Ledger> {
     fn ask(&mut self, seat: &mut Seat<L>, lun: u8, cdb: &[u8; 16], payload: Bytes) -> Reply
         ensures { AnswersCommand stores (state self.old) seat.old lun cdb.now payload result (state self.new)
             seat.new };
+
+    /// Commits what was done to the store, if the answer to this command has to wait for that. False where the store
+    /// has failed, so that GOOD to a WRITE must not be answered; other answers never wait.
+    fn settle(&mut self, cdb: &[u8; 16], reply: &Reply) -> bool
+        ensures same { state self.new ≡ state self.old }
+        ensures settled { result ≡ true → asks_commit cdb.now reply.now ≡ true → lasts self.new }
+        ensures failed { result ≡ false → (persists ≡ true) × (acknowledges cdb.now reply.now ≡ true) };
+
+    /// Commits what was done to the store, if there is one. False where it has failed.
+    fn commit(&mut self) -> bool
+        ensures same { state self.new ≡ state self.old }
+        ensures committed { result ≡ true → lasts self.new }
+        ensures failed { result ≡ false → persists ≡ true };
 
     /// Executes one piece of background work, and returns whether it did anything.
     fn work(&mut self, task: Task) -> bool
@@ -93,7 +113,8 @@ pub trait OperableArray<L: Ledger>: ServedArray<L> {
     /// Adds a disk, whose fault count must be below its maximum.
     fn add_disk(&mut self, disk: Self::Disk) -> Outcome<Self::Disk>
         requires { CanCount (Self.Disk.state disk) }
-        ensures { Operates (EventOf.AddDisk (Self.Disk.state disk)) (Self.state self.old) result (Self.state self.new) };
+        ensures { Operates (EventOf.AddDisk (Self.Disk.state disk)) (Self.state self.old) result
+            (Self.state self.new) };
 
     /// Takes a disk out, by its number.
     fn take_out(&mut self, number: u8) -> Outcome<Self::Disk>
@@ -102,7 +123,8 @@ pub trait OperableArray<L: Ledger>: ServedArray<L> {
     /// Replaces the failed disk of this number by one whose fault count must be below its maximum.
     fn replace(&mut self, number: u8, disk: Self::Disk) -> Outcome<Self::Disk>
         requires { CanCount (Self.Disk.state disk) }
-        ensures { Operates (EventOf.Replace number (Self.Disk.state disk)) (Self.state self.old) result (Self.state self.new) };
+        ensures { Operates (EventOf.Replace number (Self.Disk.state disk)) (Self.state self.old) result
+            (Self.state self.new) };
 
     /// Executes one piece of background work, and returns its outcome.
     fn background(&mut self, task: Task) -> Outcome<Self::Disk>
@@ -113,6 +135,10 @@ impl<D: Disk + Drop, L: Ledger> ServedArray<L> for Kept<D, L> {
     ghost state = { λ served. served };
 
     ghost stores = { true };
+
+    ghost persists = { false };
+
+    ghost lasts = { λ served. Unit {0} };
 
     fn counts(&self) -> Counts {
         Kept::counts(self)
@@ -141,6 +167,14 @@ impl<D: Disk + Drop, L: Ledger> ServedArray<L> for Kept<D, L> {
     fn ask(&mut self, seat: &mut Seat<L>, lun: u8, cdb: &[u8; 16], payload: Bytes) -> Reply {
         let served = self.host(seat, lun, *cdb, payload);
         served.reply
+    }
+
+    fn settle(&mut self, _cdb: &[u8; 16], _reply: &Reply) -> bool {
+        true
+    }
+
+    fn commit(&mut self) -> bool {
+        true
     }
 
     fn work(&mut self, task: Task) -> bool {
@@ -200,6 +234,10 @@ impl<D: Disk + Drop, L: Ledger> ServedArray<L> for CountedArray<D, L> {
 
     ghost stores = { false };
 
+    ghost persists = { false };
+
+    ghost lasts = { λ served. Unit {0} };
+
     fn counts(&self) -> Counts {
         CountedArray::counts(self)
     }
@@ -226,6 +264,14 @@ impl<D: Disk + Drop, L: Ledger> ServedArray<L> for CountedArray<D, L> {
 
     fn ask(&mut self, seat: &mut Seat<L>, lun: u8, cdb: &[u8; 16], payload: Bytes) -> Reply {
         self.host(seat, lun, *cdb, payload)
+    }
+
+    fn settle(&mut self, _cdb: &[u8; 16], _reply: &Reply) -> bool {
+        true
+    }
+
+    fn commit(&mut self) -> bool {
+        true
     }
 
     fn work(&mut self, task: Task) -> bool {
