@@ -24,8 +24,8 @@ no_unit words many = λ has. let count = has.count in absurd (omega arith)
 no_number : (bits : ℕ) (words : Words) → 7 ≤ length words → ¬ HasUnitAndNumber bits words
 no_number bits words many = λ has. let count = has.count in absurd (omega arith)
 
-no_sectors : (Lba : List ℕ → Type 0) (words : Words) → 7 ≤ length words → ¬ HasSectors Lba words
-no_sectors Lba words many = λ has. let count = has.count in absurd (omega arith)
+no_sectors : (bits : ℕ) (Lba : List ℕ → Type 0) (words : Words) → 7 ≤ length words → ¬ HasSectors bits Lba words
+no_sectors bits Lba words many = λ has. let count = has.count in absurd (omega arith)
 
 no_written : (Lba : List ℕ → Type 0) (words : Words) → 7 ≤ length words → ¬ HasSectorsAndByte Lba words
 no_written Lba words many =
@@ -73,10 +73,11 @@ module _ (name : List ℕ) (xs ys : Words) (r : Result Order FaultKind) (some : 
         bad (HasUnitAndNumber bits xs) (HasUnitAndNumber bits ys) A B r (no_number bits xs some)
         (no_number bits ys more)
 
-    sectors : (Lba : List ℕ → Type 0) (A B : Order → Type 0) → ParsesAs (HasSectors Lba xs) A r
-        → ParsesAs (HasSectors Lba ys) B r
-    sectors Lba A B =
-        bad (HasSectors Lba xs) (HasSectors Lba ys) A B r (no_sectors Lba xs some) (no_sectors Lba ys more)
+    sectors : (bits : ℕ) (Lba : List ℕ → Type 0) (A B : Order → Type 0) → ParsesAs (HasSectors bits Lba xs) A r
+        → ParsesAs (HasSectors bits Lba ys) B r
+    sectors bits Lba A B =
+        bad (HasSectors bits Lba xs) (HasSectors bits Lba ys) A B r (no_sectors bits Lba xs some)
+        (no_sectors bits Lba ys more)
 
     written : (Lba : List ℕ → Type 0) (A B : Order → Type 0) → ParsesAs (HasSectorsAndByte Lba xs) A r
         → ParsesAs (HasSectorsAndByte Lba ys) B r
@@ -110,13 +111,14 @@ module _ (name : List ℕ) (xs ys : Words) (r : Result Order FaultKind) (some : 
     unit_order =
         row (bytes_eq name (codes "make")) _ _ _ _ (number 32 _ _)
         (row (bytes_eq name (codes "grow")) _ _ _ _ (number 32 _ _)
-        (row (bytes_eq name (codes "drop")) _ _ _ _ (unit _ _) array_order))
+        (row (bytes_eq name (codes "drop")) _ _ _ _ (unit _ _)
+        (row (bytes_eq name (codes "unmap")) _ _ _ _ (sectors 32 IsNumber _ _) array_order)))
 
     any_order : ReadsOrder name xs r → ReadsOrder name ys r
     any_order =
-        row (bytes_eq name (codes "read")) _ _ _ _ (sectors (IsNumberOf 32) _ _)
+        row (bytes_eq name (codes "read")) _ _ _ _ (sectors 16 (IsNumberOf 32) _ _)
         (row (bytes_eq name (codes "write")) _ _ _ _ (written (IsNumberOf 32) _ _)
-        (row (bytes_eq name (codes "read16")) _ _ _ _ (sectors IsNumber _ _)
+        (row (bytes_eq name (codes "read16")) _ _ _ _ (sectors 16 IsNumber _ _)
         (row (bytes_eq name (codes "write16")) _ _ _ _ (written IsNumber _ _)
         (row (bytes_eq name (codes "tur")) _ _ _ _ (unit _ _)
         (row (bytes_eq name (codes "inquiry")) _ _ _ _ (number 16 _ _)

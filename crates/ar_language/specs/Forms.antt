@@ -112,12 +112,17 @@ AsksInquiry words =
 abbrev pub AsksCapacity : Words → Order → Type 0
 AsksCapacity words = AsksCommand words read_capacity_block Capacity empty_data Bytes
 
--- a unit, a logical block address and a number of sectors
-pub record HasSectors (Lba : List ℕ → Type 0) (words : Words) : Type 0 where
+-- a unit, a logical block address and a number of sectors of at most `bits` bits
+pub record HasSectors (bits : ℕ) (Lba : List ℕ → Type 0) (words : Words) : Type 0 where
   pub count : length words ≡ 4
   pub address : AreAddress (word words 0) (word words 1)
   pub lba : Lba (word words 2)
-  pub sectors : IsNumberOf 16 (word words 3)
+  pub sectors : IsNumberOf bits (word words 3)
+
+-- `unmap H L LBA COUNT`
+abbrev pub AsksUnmap : Words → Order → Type 0
+AsksUnmap words =
+    AboutUnit words (λ addr. Act (actions.Unmap addr (value (word words 2)) (value (word words 3))))
 
 -- `read H L LBA COUNT` and `read16 H L LBA COUNT`, by the blocks of READ (10) and of READ (16)
 abbrev pub AsksRead : (ℕ → ℕ → List ℕ) → Words → Order → Type 0
@@ -240,17 +245,18 @@ ReadsUnitOrder name words result =
     MatchBool (bytes_eq name (codes "make")) (ParsesAs (HasUnitAndNumber 32 words) (AsksMake words) result) (
     MatchBool (bytes_eq name (codes "grow")) (ParsesAs (HasUnitAndNumber 32 words) (AsksGrow words) result) (
     MatchBool (bytes_eq name (codes "drop")) (ParsesAs (HasUnit words) (AsksDrop words) result) (
-    ReadsArrayOrder name words result)))
+    MatchBool (bytes_eq name (codes "unmap")) (ParsesAs (HasSectors 32 IsNumber words) (AsksUnmap words) result) (
+    ReadsArrayOrder name words result))))
 
 -- the SCSI commands, and then those
 abbrev pub ReadsOrder : List ℕ → Words → Result Order FaultKind → Type 0
 ReadsOrder name words result =
     MatchBool (bytes_eq name (codes "read"))
-    (ParsesAs (HasSectors (IsNumberOf 32) words) (AsksRead read_10_block words) result) (
+    (ParsesAs (HasSectors 16 (IsNumberOf 32) words) (AsksRead read_10_block words) result) (
     MatchBool (bytes_eq name (codes "write"))
     (ParsesAs (HasSectorsAndByte (IsNumberOf 32) words) (AsksWrite write_10_block words) result) (
     MatchBool (bytes_eq name (codes "read16"))
-    (ParsesAs (HasSectors IsNumber words) (AsksRead read_16_block words) result) (
+    (ParsesAs (HasSectors 16 IsNumber words) (AsksRead read_16_block words) result) (
     MatchBool (bytes_eq name (codes "write16"))
     (ParsesAs (HasSectorsAndByte IsNumber words) (AsksWrite write_16_block words) result) (
     MatchBool (bytes_eq name (codes "tur")) (ParsesAs (HasUnit words) (AsksTur words) result) (

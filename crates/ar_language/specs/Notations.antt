@@ -10,6 +10,7 @@ notation_in (actions.Make addr sectors) = Bytes
 notation_in (actions.Grow addr sectors) = Bytes
 notation_in (actions.Remove addr) = Bytes
 notation_in (actions.Command addr cdb d notation) = notation
+notation_in (actions.Unmap addr lba count) = Bytes
 notation_in actions.Flush = Bytes
 notation_in actions.Demote = Bytes
 notation_in actions.Clean = Bytes

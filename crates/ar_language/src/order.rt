@@ -44,6 +44,8 @@ pub enum Action {
         data: Data,
         notation: Notation,
     },
+    /// `unmap`: discard sectors of a unit, this many from an LBA on.
+    Unmap(Addr, u64, u32),
     /// Write the least recently used block of the cache to the disks.
     Flush,
     /// Move the least recently written mirrored block to a parity group (RAID 5 layout).

@@ -9,8 +9,8 @@ ghost use Rattle.ar_language.specs.Forms.{HasRowAddress, HasDisk, Gives, ReadsOr
 ghost use Rattle.ar_language.specs.Forms.{ReadsNamed, ReadsLine, empty_data};
 ghost use Rattle.ar_language.specs.Parts.{AreSpan, IsSpan, NamesSpan, SaysWritten, AreData, IsData, AreBlock};
 ghost use Rattle.ar_language.specs.Parts.{AsksBlockWith};
-ghost use Rattle.ar_language.specs.Forms.{AsksMake, AsksGrow, AsksDrop, AsksTur, AsksInquiry, AsksCapacity, AsksRead};
-ghost use Rattle.ar_language.specs.Forms.{AsksWrite, AsksBlock, AsksLevels, AsksHome, AsksRow, AsksOut, AsksReplace};
+ghost use Rattle.ar_language.specs.Forms.{AsksMake, AsksGrow, AsksDrop, AsksUnmap, AsksTur, AsksInquiry, AsksCapacity};
+ghost use Rattle.ar_language.specs.Forms.{AsksRead, AsksWrite, AsksBlock, AsksLevels, AsksHome, AsksRow, AsksOut, AsksReplace};
 ghost use Rattle.ar_language.specs.Forms.{IsDisk};
 
 use crate::order::{Action, Data, Notation, Order, Question};
@@ -91,6 +91,7 @@ fn unit_order_of(name: &str, arguments: &[&str]) -> Result<Order, FaultKind>
         "make" => make(arguments),
         "grow" => grow(arguments),
         "drop" => remove(arguments),
+        "unmap" => unmap(arguments),
         _ => return array_order_of(name, arguments),
     };
     order.ok_or(FaultKind::BadArgument)
@@ -143,6 +144,18 @@ fn remove(arguments: &[&str]) -> Option<Order>
     Some(Order::Act(Action::Remove(addr)))
 }
 
+fn unmap(arguments: &[&str]) -> Option<Order>
+    ensures { Gives (HasSectors 32 IsNumber arguments.now) (AsksUnmap arguments.now) result }
+{
+    let [host, lun, lba, count] = arguments else {
+        return None;
+    };
+    let addr = address(host, lun)?;
+    let lba = words::number(lba)?;
+    let count = number_32(count)?;
+    Some(Order::Act(Action::Unmap(addr, lba, count)))
+}
+
 fn test_unit_ready(arguments: &[&str]) -> Option<Order>
     ensures { Gives (HasUnit arguments.now) (AsksTur arguments.now) result }
 {
@@ -166,7 +179,7 @@ fn capacity(arguments: &[&str]) -> Option<Order>
 }
 
 fn read(arguments: &[&str]) -> Option<Order>
-    ensures { Gives (HasSectors (IsNumberOf 32) arguments.now) (AsksRead read_10_block arguments.now) result }
+    ensures { Gives (HasSectors 16 (IsNumberOf 32) arguments.now) (AsksRead read_10_block arguments.now) result }
 {
     let span = sectors(arguments)?;
     let lba = u32::try_from(span.lba).ok()?;
@@ -175,7 +188,7 @@ fn read(arguments: &[&str]) -> Option<Order>
 }
 
 fn read_16(arguments: &[&str]) -> Option<Order>
-    ensures { Gives (HasSectors IsNumber arguments.now) (AsksRead read_16_block arguments.now) result }
+    ensures { Gives (HasSectors 16 IsNumber arguments.now) (AsksRead read_16_block arguments.now) result }
 {
     let span = sectors(arguments)?;
     let cdb = blocks::read_16(span.lba, span.count);
@@ -201,7 +214,7 @@ fn write_16(arguments: &[&str]) -> Option<Order>
 
 // Parses the arguments of a READ: the sectors that it transfers.
 fn sectors(arguments: &[&str]) -> Option<Span>
-    ensures { Gives (HasSectors IsNumber arguments.now) (NamesSpan arguments.now) result }
+    ensures { Gives (HasSectors 16 IsNumber arguments.now) (NamesSpan arguments.now) result }
 {
     let [host, lun, lba, count] = arguments else {
         return None;

@@ -18,9 +18,10 @@ use Rattle.ar_operator.specs.declared.order.OperatorOrder.TheVariants.{Act, Ask,
 use Rattle.ar_operator.specs.declared.order.LineFault.{LineFault}
 use Rattle.ar_operator.specs.declared.order.LineFault.TheVariants.{Line, NotOperatorWord}
 
--- an action that an operator may order: any but a SCSI command
+-- an action that an operator may order: any but a SCSI command and a discard
 abbrev pub IsOperatorAction : Action → Type 0
 IsOperatorAction (actions.Command addr cdb d notation) = ⊥
+IsOperatorAction (actions.Unmap addr lba count) = ⊥
 IsOperatorAction action = Unit {0}
 
 -- an order that an operator may give
@@ -38,13 +39,14 @@ abbrev pub is_host_word : List ℕ → Bool
 is_host_word name =
     list_any (bytes_eq name)
     (codes "tur" ∷ codes "inquiry" ∷ codes "capacity" ∷ codes "read" ∷ codes "write" ∷ codes "read16" ∷ codes "write16"
-    ∷ codes "cdb"
+    ∷ codes "cdb" ∷ codes "unmap"
     ∷ codes "block" ∷ [])
 
 -- a script's order as an operator's
 abbrev pub as_operator : Result (Option Order) FaultKind → Result (Option OperatorOrder) LineFault
 as_operator (Ok None) = Ok None
 as_operator (Ok (Some (orders.Act (actions.Command addr cdb d notation)))) = Err NotOperatorWord
+as_operator (Ok (Some (orders.Act (actions.Unmap addr lba count)))) = Err NotOperatorWord
 as_operator (Ok (Some (orders.Ask (questions.Block disk extent row)))) = Err NotOperatorWord
 as_operator (Ok (Some (orders.Act action))) = Ok (Some (Act action))
 as_operator (Ok (Some (orders.Ask question))) = Ok (Some (Ask question))

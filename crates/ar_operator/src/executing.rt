@@ -83,7 +83,7 @@ fn act<A: OperableArray<L>, L: Ledger, M: DiskMaker<A::Disk>>(
         Action::Make(addr, sectors) => Ok(array.make(addr, sectors)),
         Action::Grow(addr, sectors) => Ok(array.grow(addr, sectors)),
         Action::Remove(addr) => Ok(array.remove(addr)),
-        Action::Command { .. } => unreachable!(),
+        Action::Command { .. } | Action::Unmap(..) => unreachable!(),
         Action::Flush => Ok(array.background(Task::Flush)),
         Action::Demote => Ok(array.background(Task::Demote)),
         Action::Clean => Ok(array.background(Task::Clean)),

@@ -14,7 +14,7 @@ use thiserror::Error;
 /// An operator's order.
 #[derive(Clone, Copy)]
 pub enum OperatorOrder {
-    /// Execute an action on the array, other than a SCSI command.
+    /// Execute an action on the array, other than a SCSI command and a discard.
     Act(Action),
     /// Show the result of a query, other than the bytes of a row.
     Ask(Question),
@@ -117,7 +117,16 @@ fn is_host_word(name: &str) -> bool
 {
     matches!(
         name,
-        "tur" | "inquiry" | "capacity" | "read" | "write" | "read16" | "write16" | "cdb" | "block"
+        "tur"
+            | "inquiry"
+            | "capacity"
+            | "read"
+            | "write"
+            | "read16"
+            | "write16"
+            | "cdb"
+            | "unmap"
+            | "block"
     )
 }
 
@@ -128,9 +137,12 @@ fn as_operator(read: Result<Option<Order>, FaultKind>) -> Result<Option<Operator
 {
     match read {
         Ok(None) => Ok(None),
-        Ok(Some(Order::Act(Action::Command { .. }) | Order::Ask(Question::Block { .. }))) => {
-            Err(LineFault::NotOperatorWord)
-        }
+        Ok(
+            Some(
+                Order::Act(Action::Command { .. } | Action::Unmap(..))
+                | Order::Ask(Question::Block { .. }),
+            ),
+        ) => Err(LineFault::NotOperatorWord),
         Ok(Some(Order::Act(action))) => Ok(Some(OperatorOrder::Act(action))),
         Ok(Some(Order::Ask(question))) => Ok(Some(OperatorOrder::Ask(question))),
         Err(kind) => Err(LineFault::Line(kind)),

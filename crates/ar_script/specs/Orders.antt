@@ -3,8 +3,8 @@ use Rattle.std.specs.Prelude.{◌≡◌, ◌⊎◌, ◌<◌, ℕ, false, List, O
 use Rattle.ar_disks.specs.declared.address.Addr.{Addr}
 use Rattle.ar_disks.specs.declared.address.Place.{Place}
 use Rattle.ar_core.specs.Events.{Event, Outcome}
-use Rattle.ar_core.specs.declared.event.EventOf.TheVariants.{Make, Grow, Remove, Cmd, Flush, Demote, Clean, Balance}
-use Rattle.ar_core.specs.declared.event.EventOf.TheVariants.{AddDisk, DiskOut, Replace, Rebuild}
+use Rattle.ar_core.specs.declared.event.EventOf.TheVariants.{Make, Grow, Remove, Cmd, Unmap, Flush, Demote, Clean}
+use Rattle.ar_core.specs.declared.event.EventOf.TheVariants.{Balance, AddDisk, DiskOut, Replace, Rebuild}
 use Rattle.ar_core.specs.declared.views.Shown.{Shown}
 use Rattle.ar_core.specs.Views.{Shows}
 use Rattle.ar_volume.specs.Image.{ArrayState, is_broken, image_at}
@@ -29,6 +29,7 @@ event_in s (actions.Make addr sectors) = Make addr sectors
 event_in s (actions.Grow addr sectors) = Grow addr sectors
 event_in s (actions.Remove addr) = Remove addr
 event_in s (actions.Command addr cdb d notation) = Cmd addr.host addr.lun cdb (replicate d.len d.byte)
+event_in s (actions.Unmap addr lba count) = Unmap addr lba count
 event_in s actions.Flush = Flush
 event_in s actions.Demote = Demote
 event_in s actions.Clean = Clean

@@ -125,6 +125,7 @@ impl Runner {
                 cdb,
                 payload: self.filled.with(alloc, data)?,
             }),
+            Action::Unmap(addr, lba, count) => Ok(EventOf::Unmap(addr, lba, count)),
             Action::Flush => Ok(EventOf::Flush),
             Action::Demote => Ok(EventOf::Demote),
             Action::Clean => Ok(EventOf::Clean),

@@ -1,6 +1,6 @@
 use Rattle.ar_language.specs.Forms.{ReadsUnitOrder}
 use Rattle.ar_language.proofs.ParseLemmas.{named, answered}
-use Rattle.ar_language.proofs.parse.unit_order_of.Goals.{in-make, in-grow, in-drop}
+use Rattle.ar_language.proofs.parse.unit_order_of.Goals.{in-make, in-grow, in-drop, in-unmap}
 use Rattle.ar_language.proofs.parse.unit_order_of.Goals as goal
 
 pub returns-clause-reads : goal.returns-clause-reads
@@ -12,4 +12,6 @@ returns-clause-reads c =
           (answered _ _ _ _ _ w.grow-order.ensures w.order-is c.ok_or.ensures.value)
       | in-drop w ↦ named ReadsUnitOrder _ _ _ _ w.in-drop.is
           (answered _ _ _ _ _ w.remove-order.ensures w.order-is c.ok_or.ensures.value)
+      | in-unmap w ↦ named ReadsUnitOrder _ _ _ _ w.in-unmap.is
+          (answered _ _ _ _ _ w.unmap-order.ensures w.order-is c.ok_or.ensures.value)
     ]
