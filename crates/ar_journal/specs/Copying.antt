@@ -1,7 +1,7 @@
 -- One copy of a journal and another.
 use Rattle.std.specs.Prelude.{◌≡◌, ◌⊎◌, ℕ, ◌==◌, Bool, false, not, ◌&&◌, ◌||◌, nat_lt, if◌then◌else◌}
 use Rattle.std.specs.Prelude.{List, [], ◌∷◌, length, take, drop, IsTrue}
-use Rattle.std.specs.Int.{w64, from_le_bytes}
+use Rattle.std.specs.Int.{w64, from_be_bytes}
 use Rattle.ar_log.specs.Codec.{Batch}
 use Rattle.ar_log.specs.declared.place.Place.{Place}
 use Rattle.ar_journal.specs.Journal.{IsReady, IsClean, IsBehind, batches_now, journal_batches}
@@ -24,9 +24,9 @@ IsCopied seen is_clean from to from_new to_new place =
     IsTrue (is_clean from_new.active.media) → IsTrue (is_clean to_new.active.media)
     → take place.number (batches_now seen from) ≡ batches_now seen to → batches_now seen to_new ≡ batches_now seen from
 
--- the generation in a head: its bytes 1 to 8, little-endian
+-- the generation in a head: its bytes 1 to 8, big-endian
 abbrev pub generation_in : List ℕ → ℕ
-generation_in head = if nat_lt (length head) 9 then 0 else from_le_bytes w64 (take 8 (drop 1 head))
+generation_in head = if nat_lt (length head) 9 then 0 else from_be_bytes w64 (take 8 (drop 1 head))
 
 -- the generation of a journal, by the one record of its first batch
 abbrev pub generation : List Batch → ℕ

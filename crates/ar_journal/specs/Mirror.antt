@@ -46,7 +46,8 @@ pub record IsSound {M : Type 0} (is_clean : M → Bool) (mirror : MirroredJourna
   pub second : mirror.second.active.is_closed ≡ false → IsClean is_clean mirror.second
 
 -- each copy that isn't given up has these batches
-pub record HasBatches {M : Type 0} (seen : M → List ℕ) (batches : List Batch) (mirror : MirroredJournal M) : Type 0 where
+pub record HasBatches {M : Type 0} (seen : M → List ℕ) (batches : List Batch) (mirror : MirroredJournal M)
+    : Type 0 where
   pub first : mirror.first.active.is_closed ≡ false → batches_now seen mirror.first ≡ batches
   pub second : mirror.second.active.is_closed ≡ false → batches_now seen mirror.second ≡ batches
 

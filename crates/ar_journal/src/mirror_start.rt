@@ -2,7 +2,8 @@
 //! whole where it was lost, is damaged or differs. A copy that can't be written is given up.
 ghost use Rattle.std.specs.Prelude.{◌≡◌, ◌⊎◌, ◌≤◌, [], ◌∷◌, length, take, IfOk, IfSome, IsTrue, true, false};
 ghost use Rattle.ar_log.specs.Codec.{items_of};
-ghost use Rattle.ar_journal.specs.Copying.{generation_in, is_ahead, is_ahead_by, HeadIs, Mirrors, Starts, StartsFrom, files_batches};
+ghost use Rattle.ar_journal.specs.Copying.{generation_in, is_ahead, is_ahead_by, HeadIs, Mirrors, Starts};
+ghost use Rattle.ar_journal.specs.Copying.{StartsFrom, files_batches};
 ghost use Rattle.ar_journal.specs.Files.{AreDurable};
 ghost use Rattle.ar_journal.specs.Journal.{IsReady, IsClean, IsBehind, ReadsLog, batches_now};
 
@@ -35,14 +36,14 @@ pub struct MirrorStart<M: Media> {
     pub second: CopyState,
 }
 
-/// The generation that a head names in its bytes 1 to 8, little-endian. A shorter head is of generation 0.
+/// The generation that a head names in its bytes 1 to 8, big-endian. A shorter head is of generation 0.
 fn generation_of(head: &[u8]) -> u64
     ensures { result ≡ generation_in head.now }
 {
     if head.len() < 9 {
         return 0;
     }
-    u64::from_le_bytes([
+    u64::from_be_bytes([
         head[1], head[2], head[3], head[4], head[5], head[6], head[7], head[8],
     ])
 }
@@ -332,8 +333,8 @@ fn start_copy<M: Media>(
     }
 }
 
-/// Whether a copy that was refused with this error is lost or damaged, so that it is rewritten. A copy of another version
-/// is not.
+/// Whether a copy that was refused with this error is lost or damaged, so that it is rewritten. A copy of another
+/// version is not.
 fn is_lost(error: &LogError) -> bool {
     matches!(
         error,
@@ -341,9 +342,9 @@ fn is_lost(error: &LogError) -> bool {
     )
 }
 
-/// Starts a journal of two copies. The one that is further is taken, and the other brought up to it, rewritten, or given
-/// up. An error is that of the first copy that can't be started, if the other can't be either, or if it is no sign of a
-/// loss: out of memory, or another version.
+/// Starts a journal of two copies. The one that is further is taken, and the other brought up to it, rewritten, or
+/// given up. An error is that of the first copy that can't be started, if the other can't be either, or if it is no
+/// sign of a loss: out of memory, or another version.
 pub fn open_mirrored<M: Media + Drop>(
     alloc: Global,
     first: JournalFiles<M>,

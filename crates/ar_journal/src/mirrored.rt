@@ -60,7 +60,8 @@ impl<M: Media> MirroredJournal<M> {
             → HasBatches M.seen batches self.old
             → HasBatches M.seen (batches ++ items_of records.now ∷ []) self.new)) }
 
-        // A crash at any moment of the call leaves of each copy the batches from before it, with the new one or without.
+        // A crash at any moment of the call leaves of each copy the batches from before it, with the new one or
+        // without.
         ensures any_moment { (batches : List Batch) → IsSound M.is_clean self.old → HasBatches M.seen batches self.old
             → EachLeaves M.moment M.left_since self.old self.new (IsBeforeOrAfter batches (items_of records.now)) }
 
@@ -114,8 +115,9 @@ impl<M: Media> MirroredJournal<M> {
         }
     }
 
-    /// Appends to the second copy a batch that the first has failed to take with this error. The first is given up, unless
-    /// the second fails too and both are as they were. Where the batch may be on a medium, both are closed then.
+    /// Appends to the second copy a batch that the first has failed to take with this error. The first is given up,
+    /// unless the second fails too and both are as they were. Where the batch may be on a medium, both are closed
+    /// then.
     fn append_second(
         &mut self,
         alloc: Global,
@@ -125,7 +127,8 @@ impl<M: Media> MirroredJournal<M> {
         requires ready { IsReady M.seen M.may_leave M.is_clean self.old.second }
         requires open { self.old.second.active.is_closed ≡ false }
 
-        ensures taken { OnOk result ((self.new.first.active.is_closed ≡ true) × (self.new.second.active.is_closed ≡ false)
+        ensures taken { OnOk result ((self.new.first.active.is_closed ≡ true)
+            × (self.new.second.active.is_closed ≡ false)
             × CopyHas M.seen M.is_clean (items_of records.now ∷ []) self.old.second self.new.second) }
         ensures kept { IfErr result (λ e. is_final e ≡ false
             → CopyHas M.seen M.is_clean [] self.old.second self.new.second) }

@@ -172,6 +172,7 @@ impl<M: Media> JournalReader<M> {
             → HoldsBatches (batches_of (M.seen self.old.active)) (M.seen self.old.active)
             → LeavesRead M.seen M.may_leave M.moment M.left_since M.is_clean self.old self.new.active }
         ensures others { KeepsFiles self.old self.new }
+        ensures clean { IsTrue (M.is_clean self.new.active) → IsTrue (M.is_clean self.old.active) }
         ensures cause { ReportsMedium (M.faults self.old.active) (M.faults self.new.active) result }
     {
         match self.read_rest(alloc) {
@@ -188,6 +189,8 @@ impl<M: Media> JournalReader<M> {
         ensures ready { IfOk result (λ journal. IsReady M.seen M.may_leave M.is_clean journal) }
         ensures batches { IfOk result (λ journal. IsTrue (M.is_clean journal.active.media)
             → batches_now M.seen journal ≡ batches_of (M.seen self.active)) }
+        ensures clean { IfOk result (λ journal. IsTrue (M.is_clean journal.active.media)
+            → IsTrue (M.is_clean self.active)) }
         ensures files { IfOk result (λ journal. Resumes self journal) }
 
         // A crash at any moment leaves the same batches. A medium that holds no whole log is not written.

@@ -6,10 +6,10 @@
 //     Command   3 | host | LUN | command block, 16 bytes | length of the data, 4 bytes | data
 //     AddDisk   4 | extents, 4 bytes
 //     Unmap     5 | host | LUN | LBA, 8 bytes | sectors, 4 bytes
-ghost use Rattle.std.specs.Prelude.{◌≡◌, ◌++◌, ◌∷◌, [], OnOk, IfOk, length, map};
+ghost use Rattle.std.specs.Prelude.{◌≡◌, ◌<◌, ◌^◌, ◌++◌, ◌∷◌, [], OnOk, IfOk, length, map};
 ghost use Rattle.std.specs.Int.{w32, w64, to_be_bytes};
 ghost use Rattle.ar_record.specs.Encoding.{encoding_of, encodings_of};
-ghost use Rattle.ar_record.specs.Record.{IsEncodable, AreEncodable, data_of, all_data};
+ghost use Rattle.ar_record.specs.Record.{Command, IsEncodable, AreEncodable, data_of, all_data};
 
 use crate::Record;
 use ar_disks::Addr;
@@ -42,12 +42,7 @@ pub fn encode(entry: &Record, out: &mut Vec<u8>) -> Result<(), AllocError>
             out.extend_from_slice(&sectors.to_be_bytes())
         }
         Record::Remove(addr) => push_unit(out, REMOVE, *addr),
-        Record::Command(addr, cdb, payload) => {
-            push_unit(out, COMMAND, *addr)?;
-            out.extend_from_slice(cdb)?;
-            out.extend_from_slice(&(payload.len() as u32).to_be_bytes())?;
-            out.extend_from_slice(payload.as_slice())
-        }
+        Record::Command(addr, cdb, payload) => encode_command(*addr, cdb, payload.as_slice(), out),
         Record::Unmap(addr, lba, count) => {
             push_unit(out, UNMAP, *addr)?;
             push_sectors(out, *lba, *count)
@@ -57,6 +52,24 @@ pub fn encode(entry: &Record, out: &mut Vec<u8>) -> Result<(), AllocError>
             out.extend_from_slice(&extents.to_be_bytes())
         }
     }
+}
+
+/// Appends the encoding of a command's record to `out`, which needs not be made for it. `Err` is out of memory; `out`
+/// then ends in a part of the encoding.
+pub fn encode_command(
+    addr: Addr,
+    cdb: &[u8; 16],
+    payload: &[u8],
+    out: &mut Vec<u8>,
+) -> Result<(), AllocError>
+    requires fits { length payload.now < 2 ^ 32 }
+    ensures appended { OnOk result (out.new.items
+        ≡ out.old.items ++ encoding_of (Command addr.host.number addr.lun cdb.now payload.now)) }
+{
+    push_unit(out, COMMAND, addr)?;
+    out.extend_from_slice(cdb)?;
+    out.extend_from_slice(&(payload.len() as u32).to_be_bytes())?;
+    out.extend_from_slice(payload)
 }
 
 /// Encodes each of the records.

@@ -16,7 +16,7 @@ mod record;
 
 pub use changing::changes_unit;
 pub use decoding::{DecodeError, decode};
-pub use encoding::{encode, encode_each};
+pub use encoding::{encode, encode_command, encode_each};
 pub use record::Record;
 
 /// Law: each record that fits its fields is decoded from its encoding.
