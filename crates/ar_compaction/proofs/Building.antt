@@ -11,7 +11,7 @@ use Rattle.ar_compaction.specs.Addresses.{is_among}
 use Rattle.ar_compaction.specs.Checkpoint.{added_disks, AreExecuted, IsCheckpoint}
 use Rattle.ar_compaction.specs.Compaction.{disk_records, BeginsCompaction, ContinuesCompaction, EndsCompaction}
 use Rattle.ar_compaction.specs.Compaction.{TakesLater}
-use Rattle.ar_compaction.proofs.Making.{is_unit_at-is, is_unit_at-self, added_disks-append, executed-append}
+use Rattle.ar_compaction.proofs.Creation.{is_unit_at-is, is_unit_at-self, added_disks-append, executed-append}
 use Rattle.ar_compaction.proofs.Granted.{can_be_created_again}
 use Rattle.ar_compaction.proofs.Noting.{among-push, named_own}
 

@@ -11,7 +11,7 @@ use Rattle.ar_compaction.specs.Checkpoint.{pieces_of, step_record, steps_from, s
 use Rattle.ar_compaction.specs.Checkpoint.{CanBeCreated, IsCheckpoint}
 use Rattle.ar_compaction.specs.Replaying.{count_sectors}
 use Rattle.ar_compaction.proofs.Growth.{growth_makes, some_base}
-use Rattle.ar_compaction.proofs.Making.{Makes, makes_none}
+use Rattle.ar_compaction.proofs.Creation.{Makes, makes_none}
 use Rattle.ar_compaction.proofs.Pieces.{IsUnit, all_steps}
 
 -- a step has one record at most

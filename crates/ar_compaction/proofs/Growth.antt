@@ -12,7 +12,7 @@ use Rattle.ar_compaction.specs.Bytes.{are_zeros}
 use Rattle.ar_compaction.specs.Checkpoint.{UnitParts, ends_in_zeros, base_of, growth_record, CanBeGrown, CanBeCreated}
 use Rattle.ar_compaction.proofs.Cutting.{cut-add, drop-cut}
 use Rattle.ar_compaction.proofs.Zeros.{zeros-are, zeros-all, cut-zeros}
-use Rattle.ar_compaction.proofs.Making.{Makes, makes_none, makes_one}
+use Rattle.ar_compaction.proofs.Creation.{Makes, makes_none, makes_one}
 
 -- the sectors with a last one that is zero
 with_last : (sectors : ℕ) (bytes : List ℕ) → length bytes ≡ sectors * 512 → ends_in_zeros sectors bytes ≡ true

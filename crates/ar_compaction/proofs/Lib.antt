@@ -1,6 +1,6 @@
 pub mod Cutting
 pub mod Zeros
-pub mod Making
+pub mod Creation
 pub mod Pieces
 pub mod Writing
 pub mod Growth

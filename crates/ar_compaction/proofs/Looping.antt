@@ -10,7 +10,7 @@ use Rattle.ar_compaction.specs.Addresses.{is_among, AreDistinct, AreAddresses}
 use Rattle.ar_compaction.specs.Compaction.{disk_records, IsCompaction, Compacts, AppendsCheckpoint}
 use Rattle.ar_compaction.specs.Replaying.{ReplayState, replayed}
 use Rattle.ar_compaction.proofs.Building.{begins, goes_on, ends}
-use Rattle.ar_compaction.proofs.Making.{fit-append}
+use Rattle.ar_compaction.proofs.Creation.{fit-append}
 use Rattle.ar_compaction.proofs.Noting.{distinct_at}
 
 -- one record more is replayed

@@ -11,7 +11,7 @@ use Rattle.ar_record.proofs.Replaying.{own_of-append}
 use Rattle.ar_compaction.specs.Addresses.{address_named, is_address, names, is_among, with_address, noted_one, noted}
 use Rattle.ar_compaction.specs.Addresses.{AreDistinct, AreAddresses}
 use Rattle.ar_compaction.specs.Replaying.{unit_address, own_entry}
-use Rattle.ar_compaction.proofs.Making.{is_unit_at-is, is_unit_at-self, is_unit_at-other}
+use Rattle.ar_compaction.proofs.Creation.{is_unit_at-is, is_unit_at-self, is_unit_at-other}
 
 -- ---- one record
 

@@ -17,7 +17,7 @@ use Rattle.ar_compaction.specs.Checkpoint.{growth_record, step_record, steps_fro
 use Rattle.ar_compaction.proofs.Cutting.{cut-add, cut-take}
 use Rattle.ar_compaction.proofs.Zeros.{zeros-are, cut-zeros}
 use Rattle.ar_compaction.proofs.Writing.{writes, writes_change}
-use Rattle.ar_compaction.proofs.Making.{Makes, makes_none, makes_append, makes_one}
+use Rattle.ar_compaction.proofs.Creation.{Makes, makes_none, makes_append, makes_one}
 
 -- the sectors that were written so far, and those that are still zero
 abbrev so_far : List ℕ → ℕ → ℕ → List Sector

@@ -1,5 +1,5 @@
--- The records of one unit: it is created, each piece of 128 sectors that isn't all zeros is written by a WRITE (10), and
--- a pending UNIT ATTENTION is that of a last growth.
+-- The records of one unit: it is created, each piece of 128 sectors that isn't all zeros is written by a WRITE (10),
+-- and a pending UNIT ATTENTION is that of a last growth.
 use Rattle.std.specs.Prelude.{◌≡◌, ◌≢◌, ◌<◌, ◌≤◌, ◌+◌, ◌-◌, ◌*◌, ◌/◌, ◌==◌, ◌&&◌, ℕ, zero, suc, Bool, true, nat_lt}
 use Rattle.std.specs.Prelude.{nat_le, min, List, [], ◌∷◌, ◌++◌, length, drop, replicate, if◌then◌else◌}
 use Rattle.std.specs.Int.{w16, w32, to_be_bytes}

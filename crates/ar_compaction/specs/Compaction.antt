@@ -55,4 +55,5 @@ TakesLater =
 
 -- units that records make as an array executes them can be made by a checkpoint
 abbrev pub CanBeCreatedAgain : Type 0
-CanBeCreatedAgain = (a : ℕ × ℕ) (records : List RecordData) → AreExecuted a Absent records → CanBeCreated (unit_of records a)
+CanBeCreatedAgain =
+    (a : ℕ × ℕ) (records : List RecordData) → AreExecuted a Absent records → CanBeCreated (unit_of records a)

@@ -1,7 +1,8 @@
 //! Compaction of records: fewer records that make each unit what the old ones make it.
 #![tactic(auto)]
 
-ghost use Rattle.ar_compaction.specs.Compaction.{BeginsCompaction, CanBeCreatedAgain, EndsCompaction, ContinuesCompaction, TakesLater};
+ghost use Rattle.ar_compaction.specs.Compaction.{BeginsCompaction, CanBeCreatedAgain, ContinuesCompaction};
+ghost use Rattle.ar_compaction.specs.Compaction.{EndsCompaction, TakesLater};
 
 mod addresses;
 mod compacting;

@@ -55,8 +55,8 @@ impl UnitReplay {
         }
     }
 
-    /// Executes a record if it names the unit's address. `Err` is out of memory, for a unit that is created or extended,
-    /// and leaves the unit unchanged.
+    /// Executes a record if it names the unit's address. `Err` is out of memory, for a unit that is created or
+    /// extended, and leaves the unit unchanged.
     pub fn apply(&mut self, entry: &Record) -> Result<(), AllocError>
         ensures applied { OnOk result (self.new ≡ replayed self.old (data_of entry.now)) }
         ensures unchanged { OnErr result (self.new ≡ self.old) }

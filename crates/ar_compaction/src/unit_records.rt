@@ -90,8 +90,8 @@ fn steps_of(present: bool, base: u32) -> u64
     if present { pieces_of(base) + 2 } else { 0 }
 }
 
-// With how many sectors a unit is created, to be extended to `sectors` if a UNIT ATTENTION is pending: where the last is
-// zero and not the only one, the growth adds it. Else it adds none, which the model executes and an array doesn't.
+// With how many sectors a unit is created, to be extended to `sectors` if a UNIT ATTENTION is pending: where the last
+// is zero and not the only one, the growth adds it. Else it adds none, which the model executes and an array doesn't.
 fn base_of(sectors: u32, attention: bool, bytes: &[u8]) -> u32
     requires { length bytes.now ≡ sectors * 512 }
     ensures base { result ≡ base_of sectors attention bytes.now }

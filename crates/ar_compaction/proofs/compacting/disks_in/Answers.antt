@@ -3,7 +3,7 @@ use Rattle.std.proofs.lemmas.List.{map_more}
 use Rattle.ar_record.specs.Record.{RecordData, all_data, data_of, AreEncodable}
 use Rattle.ar_compaction.specs.Compaction.{disk_records}
 use Rattle.ar_compaction.proofs.Building.{disk_records-append}
-use Rattle.ar_compaction.proofs.Making.{fit-append}
+use Rattle.ar_compaction.proofs.Creation.{fit-append}
 use Rattle.ar_compaction.proofs.compacting.disks_in.Goals as goal
 
 pub loop-entry-preserved : goal.loop-entry-preserved
