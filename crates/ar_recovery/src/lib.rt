@@ -7,7 +7,7 @@ mod from_records;
 mod recovery;
 
 pub use from_records::{RecoveryFault, recover};
-pub use recovery::Recovery;
+pub use recovery::{Recovery, is_recorded};
 
 /// Law: the records of a legal history make each unit what the history makes it, though the history has more entries.
 pub fn records_suffice()

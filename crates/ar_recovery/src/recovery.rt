@@ -11,13 +11,16 @@ ghost use Rattle.ar_recovery.specs.Recovering.{Redoes, RedoesCommand};
 use ar_core::{Array, Health, NewDisk, OutcomeOf};
 use ar_disks::{Addr, Disk};
 use ar_extents::StartFault;
-use ar_history::{LiveArray, OperationOf};
+use ar_history::{LiveArray, OperationOf, Task, is_idle};
 use ar_record::{Record, changes_unit};
 use ar_scsi::{Reply, Status};
 use bytes::Bytes;
-use std::alloc::Global;
+use std::alloc::{AllocError, Global};
 use std::collections::VecDeque;
 use std::marker::Model;
+
+/// More steps than balancing the largest array takes: twelve disks of 1,024 extents.
+const MOST_STEPS: u32 = 1 << 20;
 
 /// An array that is recovered, record by record.
 #[derive(Drop)]
@@ -57,6 +60,24 @@ impl<D: Disk + Drop> Recovery<D> {
         }
     }
 
+    /// Begins with an array without units.
+    pub fn of(alloc: Global, array: Array<D>) -> Recovery<D>
+        requires no_unit { array.store.book.units ≡ [] }
+        ensures history { result.history ≡ [] }
+    {
+        Recovery {
+            live: LiveArray::start(alloc, array),
+            added: VecDeque::new(alloc),
+        }
+    }
+
+    /// Gives it a disk for a record that adds one: those that are given are added in this order.
+    pub fn supply(&mut self, disk: NewDisk<D>) -> Result<(), AllocError>
+        ensures { self.new ≡ self.old }
+    {
+        self.added.push_back(disk).map_err(|_| AllocError)
+    }
+
     /// Executes a record again. False if it can't be done, as when it isn't a record of such an array, a disk has
     /// failed, or out of memory.
     pub fn redo(&mut self, record: Record) -> bool
@@ -70,6 +91,13 @@ impl<D: Disk + Drop> Recovery<D> {
             Record::Unmap(addr, lba, count) => self.unmap(addr, lba, count),
             Record::AddDisk(extents) => self.add_disk(extents),
         }
+    }
+
+    /// Returns the array as it is so far, for its views.
+    pub fn array(&self) -> &Array<D>
+        ensures { result.now ≡ self.now.array }
+    {
+        self.live.array()
     }
 
     /// Returns the array.
@@ -128,15 +156,29 @@ impl<D: Disk + Drop> Recovery<D> {
         let Some(disk) = self.added.pop_front() else {
             return false;
         };
-        matches!(
+        let is_added = matches!(
             self.live.operate(OperationOf::AddDisk(disk)),
             OutcomeOf::AddDisk(Ok(()))
-        )
+        );
+        balance(&mut self.live);
+        is_added
     }
 }
 
-// Whether a live array has recorded a command with this reply.
-pub(crate) fn is_recorded<D: Disk>(array: &Array<D>, reply: &Reply) -> bool
+// Forms groups of the extents of added disks, as background work has done by and by: the records that follow may need
+// their room.
+fn balance<D: Disk + Drop>(live: &mut LiveArray<D>)
+    ensures { live.new.history ≡ live.old.history }
+{
+    for _ in 0..MOST_STEPS {
+        if is_idle(&live.background(Task::Balance)) {
+            break;
+        }
+    }
+}
+
+/// Whether a live array has recorded a command with this reply.
+pub fn is_recorded<D: Disk>(array: &Array<D>, reply: &Reply) -> bool
     ensures { result ≡ is_recorded array.now reply.now }
 {
     !matches!(array.health(), Health::Broken) && !matches!(reply.status, Status::Busy)
