@@ -1,0 +1,4 @@
+pub mod Clauses
+pub mod Replays
+pub mod Appends
+pub mod Switching

@@ -1,0 +1,5 @@
+pub mod Failing
+pub mod LogReplay
+pub mod Replacing
+pub mod Successor
+pub mod Writing

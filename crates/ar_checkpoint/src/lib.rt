@@ -1,0 +1,13 @@
+//! A checkpoint of a store: its log, which only grows, is replaced by one with far fewer records that make the same
+//! units. The successor is written on the medium that the journal does not use, so that a crash leaves the old log
+//! active until the journal switches by one byte.
+#![tactic(auto)]
+
+mod error;
+mod log_replay;
+mod reading;
+mod replacing;
+mod successor;
+
+pub use error::CheckpointError;
+pub use replacing::checkpoint;
