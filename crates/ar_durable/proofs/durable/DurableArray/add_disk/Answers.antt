@@ -1,0 +1,19 @@
+use Rattle.std.proofs.Common.{List, sym, subst}
+use Rattle.ar_history.specs.declared.entry.Entry.{Entry}
+use Rattle.ar_history.specs.Kept.{history_entry}
+use Rattle.ar_core.specs.declared.event.EventOf.TheVariants as events
+use Rattle.ar_record.specs.Record.{AddDisk}
+use Rattle.ar_durable.specs.Durable.{AreRecords}
+use Rattle.ar_durable.proofs.Keeping.{disk_same, noted}
+use Rattle.ar_durable.proofs.durable.DurableArray.add_disk.Goals as goal
+
+pub invariant_of-self : goal.invariant_of-self
+invariant_of-self g c =
+    let disk = g.D.Disk.state c.args.disk in
+    let outcome = c.operate-outcome.result in
+    subst (λ (h : List Entry). AreRecords g.M.Media.seen g.M.Media.is_clean c.note_if.new.store h)
+    (sym c.operate-outcome.ensures.recorded)
+    (noted g.M.Media.seen g.M.Media.may_leave g.M.Media.is_clean c.is_added.result c.encoded-encoding.result
+    (AddDisk c.from-extents.result) c.self.inside.store c.note_if.new.store c.self.inside.counted.history
+    (history_entry (events.AddDisk disk) outcome) c.self.invariant c.encoded-encoding.ensures c.note_if.ensures
+    (λ a. disk_same c.is_added.result a c.from-extents.result disk outcome))

@@ -1,0 +1,21 @@
+use Rattle.std.proofs.Common.{Bool, cond, List, [], ◌∷◌, sym, ap, subst, ◌∙◌}
+use Rattle.ar_history.specs.declared.entry.Entry.{Entry}
+use Rattle.ar_history.specs.Kept.{history_entry}
+use Rattle.ar_core.specs.declared.event.EventOf.TheVariants as events
+use Rattle.ar_record.specs.Record.{RecordData, Make}
+use Rattle.ar_record.specs.Replay.{own_of}
+use Rattle.ar_durable.specs.Durable.{AreRecords}
+use Rattle.ar_durable.proofs.Keeping.{make_same, noted}
+use Rattle.ar_durable.proofs.durable.DurableArray.make.Goals as goal
+
+pub invariant_of-self : goal.invariant_of-self
+invariant_of-self g c =
+    let addr = c.args.addr in
+    let r : RecordData = Make addr.host.number addr.lun c.args.sectors in
+    let outcome = c.operate-outcome.result in
+    subst (λ (h : List Entry). AreRecords g.M.Media.seen g.M.Media.is_clean c.note_if.new.store h)
+    (sym c.operate-outcome.ensures.recorded)
+    (noted g.M.Media.seen g.M.Media.may_leave g.M.Media.is_clean c.is_made.result c.encoded-encoding.result r
+    c.self.inside.store c.note_if.new.store c.self.inside.counted.history
+    (history_entry (events.Make addr c.args.sectors) outcome) c.self.invariant c.encoded-encoding.ensures c.note_if.ensures
+    (λ a. ap (λ (b : Bool). own_of a (cond b (r ∷ []) [])) c.is_made.ensures ∙ make_same a addr c.args.sectors outcome))

@@ -1,0 +1,9 @@
+use Rattle.std.proofs.Common.{take}
+use Rattle.ar_log.specs.Codec.{items_of}
+use Rattle.ar_record.specs.Reading.{all_decoded}
+use Rattle.ar_recovery.specs.Recovering.{RedoesAll}
+use Rattle.ar_durable.proofs.restarts.redo_batch.Given as goal
+
+abbrev pub invariant-loop-bytes : goal.invariant-loop-bytes
+invariant-loop-bytes g l =
+    RedoesAll l.initial.recovery.history (all_decoded (items_of (take l.bytes-index l.fn.batch))) l.recovery.history

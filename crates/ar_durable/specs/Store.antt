@@ -1,0 +1,67 @@
+-- What a store holds, and what a crash leaves of it.
+use Rattle.std.specs.Prelude.{◌≡◌, ◌≢◌, ◌⊎◌, ℕ, Bool, true, false, List, [], ◌∷◌, ◌++◌, drop, IsTrue}
+use Rattle.std.specs.Prelude.{Option, Some, None, Vec}
+use Rattle.std.specs.declared.alloc.Global.{Global}
+use Rattle.ar_unit.specs.Unit.{UnitState}
+use Rattle.ar_log.specs.Codec.{Batch}
+use Rattle.ar_log.specs.Log.{IsBeforeOrAfter}
+use Rattle.ar_journal.specs.Journal.{IsClean, LeavesJournal, batches_now, first_of, journal_batches, second_of}
+use Rattle.ar_journal.specs.declared.journal.Journal.{Journal}
+use Rattle.ar_record.specs.Reading.{all_decoded}
+use Rattle.ar_checkpoint.specs.Successor.{log_records}
+use Rattle.ar_record.specs.Record.{RecordData}
+use Rattle.ar_record.specs.Replay.{unit_of}
+use Rattle.ar_volume.specs.Sectors.{Address}
+use Rattle.ar_history.specs.declared.entry.Entry.{Entry}
+use Rattle.ar_history.specs.History.{replay}
+
+-- the journal, and the records that wait for a commit, each as its bytes
+pub record RecordStore (M : Type 0) : Type 0 where
+  pub journal : Journal M
+  pub waiting : Batch
+
+-- nothing is written any more
+abbrev pub is_given_up : {M : Type 0} → RecordStore M → Bool
+is_given_up store = store.journal.active.is_closed
+
+-- the records of a store: those in the journal, and those that wait
+abbrev pub stored_records : {M : Type 0} → (M → List ℕ) → RecordStore M → List RecordData
+stored_records seen store = log_records (batches_now seen store.journal) ++ all_decoded store.waiting
+
+-- the first batch of a journal that is written is its head
+abbrev pub HasFirstBatch : {M : Type 0} → (M → List ℕ) → (M → Bool) → Journal M → Type 0
+HasFirstBatch seen is_clean journal =
+    journal.active.is_closed ≡ false → IsTrue (is_clean journal.active.media) → batches_now seen journal ≢ []
+
+-- A record waits, behind the others, or the store is given up: it is where there is no encoding.
+abbrev pub Waits : {M : Type 0} → Option (Vec ℕ Global) → RecordStore M → RecordStore M → Type 0
+Waits None old new = is_given_up new ≡ true
+Waits (Some encoded) old new =
+    (is_given_up new ≡ true)
+    ⊎ (new ≡ record { journal = old.journal; waiting = old.waiting ++ encoded.items ∷ [] })
+
+-- the store has the same records, unless it is given up
+abbrev pub KeepsRecords : {M : Type 0} → (M → List ℕ) → (M → Bool) → RecordStore M → RecordStore M → Type 0
+KeepsRecords seen is_clean old new =
+    is_given_up new ≡ false → IsTrue (is_clean old.journal.active.media)
+    → (is_given_up old ≡ false) × (stored_records seen new ≡ stored_records seen old)
+
+-- A crash at any moment from old to new leaves the batches of the journal from before, with the waiting records as one
+-- more or without.
+abbrev pub MayLeave : {M : Type 0} → (M → List ℕ) → (M → ℕ) → (M → ℕ → List ℕ → Type 0) → (M → Bool) → RecordStore M
+    → RecordStore M → Type 0
+MayLeave seen moment left_since is_clean old new =
+    is_given_up old ≡ false → IsClean is_clean old.journal
+    → LeavesJournal moment left_since old.journal new.journal
+    (IsBeforeOrAfter (batches_now seen old.journal) old.waiting)
+
+-- Every crash at this moment leaves files whose records make each unit what the history makes it.
+abbrev pub Lasts : {M : Type 0} → (M → List ℕ → Type 0) → (M → Bool) → Journal M → List Entry → Type 0
+Lasts may_leave is_clean journal history =
+    IsClean is_clean journal → (selector active spare : List ℕ) → may_leave journal.selector selector
+    → may_leave journal.active.media active → (a : Address)
+    → unit_of
+    (log_records (journal_batches selector (first_of journal.is_second active spare)
+    (second_of journal.is_second active spare)))
+    a
+    ≡ replay history a

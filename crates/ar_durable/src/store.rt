@@ -1,0 +1,121 @@
+// A journal, and the records that wait for the next commit.
+ghost use Rattle.std.specs.Prelude.{◌≡◌, ◌++◌, ◌∷◌, [], OnOk, IfErr, IsTrue, false, true, length};
+ghost use Rattle.ar_log.specs.Failure.{is_final};
+ghost use Rattle.ar_journal.specs.Journal.{IsReady};
+ghost use Rattle.ar_durable.specs.Store.{HasFirstBatch, KeepsRecords, MayLeave, RecordStore, Waits, is_given_up};
+
+use ar_journal::Journal;
+use ar_log::LogError;
+use ar_media::Media;
+use std::alloc::Global;
+use std::marker::Model;
+
+/// The most bytes that wait for a commit. A store that can't be written for so long is given up, so that its records
+/// don't fill the memory.
+const MOST_WAITING: usize = 256 << 20;
+
+/// The records of an array: those in a journal, and those that wait for the next commit.
+#[derive(Drop)]
+pub struct Store<M: Media> {
+    journal: Journal<M>,
+    waiting: Vec<Vec<u8>>,
+    // How many bytes wait.
+    bytes: usize,
+}
+
+impl<M: Media> Model for Store<M> {
+    ghost use Rattle.ar_log.specs.Codec.{items_of};
+    ghost use Rattle.ar_journal.specs.Journal.{IsReady};
+    ghost use Rattle.ar_durable.specs.Store.{HasFirstBatch, RecordStore};
+
+    ghost Value = { RecordStore M };
+
+    ghost view = { λ store. record { journal = store.journal; waiting = items_of store.waiting.items } };
+
+    ghost invariant = { λ store. IsReady M.seen M.may_leave M.is_clean store.journal
+        × HasFirstBatch M.seen M.is_clean store.journal };
+}
+
+impl<M: Media> Store<M> {
+    /// The store of a journal that begins with a head. No record waits.
+    pub fn new(alloc: Global, journal: Journal<M>) -> Store<M>
+        requires ready { IsReady M.seen M.may_leave M.is_clean journal }
+        requires head { HasFirstBatch M.seen M.is_clean journal }
+        ensures { result ≡ record { journal = journal; waiting = [] } }
+    {
+        Store {
+            journal,
+            waiting: Vec::new(alloc),
+            bytes: 0,
+        }
+    }
+
+    /// Whether the store is given up: after a sync that failed, or because a record couldn't be noted.
+    pub fn is_given_up(&self) -> bool
+        ensures { result ≡ is_given_up self.now }
+    {
+        self.journal.is_closed()
+    }
+
+    /// Whether records wait for a commit.
+    pub fn is_waiting(&self) -> bool {
+        !self.waiting.is_empty()
+    }
+
+    /// How many bytes wait for a commit.
+    pub fn bytes(&self) -> usize {
+        self.bytes
+    }
+
+    /// Gives the store up: nothing is written to it any more.
+    pub fn give_up(&mut self)
+        ensures { is_given_up self.new ≡ true }
+    {
+        self.journal.active.is_closed = true;
+    }
+
+    /// Appends the encoding of a record to those that wait. Where there is none, or no memory for it, the store is
+    /// given up, since it has no record of what was done.
+    pub fn note(&mut self, encoded: Option<Vec<u8>>)
+        ensures { Waits encoded self.old self.new }
+    {
+        match encoded {
+            Some(bytes) if self.bytes <= MOST_WAITING => self.push(bytes),
+            _ => self.give_up(),
+        }
+    }
+
+    fn push(&mut self, encoded: Vec<u8>)
+        ensures { Waits (Some encoded) self.old self.new }
+    {
+        let len = encoded.len();
+        match self.waiting.push(encoded) {
+            Ok(()) => self.bytes = self.bytes.saturating_add(len),
+            Err(_) => self.give_up(),
+        }
+    }
+
+    /// Appends the records that wait to the journal, as one batch. At `Ok` every crash from then on leaves them.
+    ///
+    /// `Memory`, `TooLong` and `Refused` leave all as it was, so that a later commit may succeed. After `Failed` the
+    /// store is given up, and a new start finds the records that waited, or none of them.
+    pub fn commit(&mut self, alloc: Global) -> Result<(), LogError>
+        ensures done { OnOk result ((self.new.waiting ≡ []) × (is_given_up self.new ≡ false)) }
+        ensures records { KeepsRecords M.seen M.is_clean self.old self.new }
+        ensures kept { IfErr result (λ e. is_final e ≡ false → is_given_up self.old ≡ false
+            → (is_given_up self.new ≡ false) × (self.new.waiting ≡ self.old.waiting)) }
+        ensures clean { M.is_clean self.new.journal.active.media ≡ M.is_clean self.old.journal.active.media }
+        ensures ready { IsReady M.seen M.may_leave M.is_clean self.new.journal }
+        // A crash at any moment of the call leaves the records of the journal from before, with those that waited or
+        // without.
+        ensures any_moment { MayLeave M.seen M.moment M.left_since M.is_clean self.old self.new }
+    {
+        if self.waiting.is_empty() && !self.journal.is_closed() {
+            return Ok(());
+        }
+        self.journal.append(alloc, &self.waiting)?;
+        self.waiting.clear();
+        self.bytes = 0;
+        Ok(())
+    }
+}
