@@ -19,7 +19,10 @@ use Rattle.ar_history.specs.Kept.{KeptState, exchange_of, replayed_unit}
 use Rattle.ar_history.specs.Seat.{SeatState}
 use Rattle.ar_history.specs.Served.{AnswersCommand}
 use Rattle.ar_history.specs.Serving.{ServesCommand, is_recorded}
-use Rattle.ar_sessions.specs.Port.{AsksArray, GrowsSeat, KeepsSeat, RecordsCommand, is_good_access}
+use Rattle.ar_history.specs.Served.{asks_commit}
+use Rattle.ar_frames.specs.Frame.{IsReply}
+use Rattle.ar_sessions.specs.Port.{AnswersLasting, AsksArray, GrowsSeat, KeepsSeat, RecordsCommand}
+use Rattle.ar_sessions.specs.Port.{is_good_access, lasting_reply}
 
 -- BUSY is not GOOD
 good_is_not_busy : (status : Status) → is_good status ≡ true → status ≢ Busy
@@ -118,13 +121,24 @@ records stores old new before after lun cdb payload reply answers = by (is_recor
     }
 
 -- and so of a command under the lock
-pub asks : (stores : Bool) (old new : KeptState) (before after : SeatState) (lun : ℕ) (cdb payload : List ℕ)
+pub asks : (stores persists : Bool) (old new : KeptState) (before after : SeatState) (lun : ℕ) (cdb payload : List ℕ)
     (reply : Reply)
-    → AnswersCommand stores old before lun cdb payload reply new after
-    → AsksArray stores before lun cdb payload reply after
-asks stores old new before after lun cdb payload reply answers = record {
+    → AnswersLasting stores persists old before lun cdb payload reply new after
+    → AsksArray stores persists before lun cdb payload reply after
+asks stores persists old new before after lun cdb payload reply answers = record {
   old = old;
   new = new;
   answers = answers;
-  entry = records stores old new before after lun cdb payload reply answers;
+  entry = records stores old new before after lun cdb payload answers.own answers.answers;
 }
+
+-- of a replaced reply as of the array's own: it is one that a frame can carry
+pub lasting_reply-is : (lasts : Bool) (own : Reply) → IsReply own → IsReply (lasting_reply lasts own)
+lasting_reply-is true own is = is
+lasting_reply-is false own is = (refl, refl)
+
+-- a replaced reply acknowledges nothing
+pub lasting_commit : (lasts : Bool) (cdb : List ℕ) (own : Reply) → asks_commit cdb (lasting_reply lasts own) ≡ true
+    → (lasts ≡ true) × (asks_commit cdb own ≡ true)
+lasting_commit true cdb own asked = (refl, asked)
+lasting_commit false cdb own asked = absurd (cc)

@@ -16,37 +16,40 @@ use Rattle.ar_sessions.specs.Desk.{IsFound, ReceiptState, receipt_for}
 use Rattle.ar_sessions.specs.Port.{TakesSeat, AsksArray, AsksSeat}
 
 -- A session over streams in these states ended with `end`. It began at a port without a seat, and its logins and
--- commands were those of a port to the shared array, which stores transcripts or doesn't.
-pub record IsSessionEnd (stores : Bool) (source : SourceState) (sink : SinkState)
+-- commands were those of a port to the shared array, which stores transcripts or doesn't,
+-- and has a store for what it has done or hasn't.
+pub record IsSessionEnd (stores persists : Bool) (source : SourceState) (sink : SinkState)
     (end : SessionEnd) : Type 0 where
   pub source' : SourceState
   pub sink' : SinkState
   pub port : Option SeatState
-  pub session : Session (TakesSeat IsFound) (AsksSeat (AsksArray stores)) source source' sink sink' None port end
+  pub session :
+      Session (TakesSeat IsFound) (AsksSeat (AsksArray stores persists)) source source' sink sink' None port end
 
 -- The same, and this is the receipt for the seat that the port had in the end, or none if it had none.
-pub record GivesBack (stores : Bool) (source : SourceState) (sink : SinkState) (end : SessionEnd)
+pub record GivesBack (stores persists : Bool) (source : SourceState) (sink : SinkState) (end : SessionEnd)
     (receipt : Option ReceiptState) : Type 0 where
-  pub served : IsSessionEnd stores source sink end
+  pub served : IsSessionEnd stores persists source sink end
   pub receipt_is : receipt ≡ receipt_for served.port
 
 -- The same, and these are the states in which the session left the streams: nothing has used them since.
-pub record LeavesOff (stores : Bool) (source source' : SourceState) (sink sink' : SinkState)
+pub record LeavesOff (stores persists : Bool) (source source' : SourceState) (sink sink' : SinkState)
     (end : SessionEnd) (receipt : Option ReceiptState) : Type 0 where
   pub port : Option SeatState
-  pub session : Session (TakesSeat IsFound) (AsksSeat (AsksArray stores)) source source' sink sink' None port end
+  pub session :
+      Session (TakesSeat IsFound) (AsksSeat (AsksArray stores persists)) source source' sink sink' None port end
   pub receipt_is : receipt ≡ receipt_for port
 
 -- A session over a connection's two streams, as they were when it was opened, ended with `end`.
-abbrev pub IsServedOver : {S W : Type 0} → Bool → (S → SourceState) → (W → SinkState) → S × W → SessionEnd
+abbrev pub IsServedOver : {S W : Type 0} → Bool → Bool → (S → SourceState) → (W → SinkState) → S × W → SessionEnd
     → Type 0
-IsServedOver stores source sink pair end = IsSessionEnd stores (source pair.0) (sink pair.1) end
+IsServedOver stores persists source sink pair end = IsSessionEnd stores persists (source pair.0) (sink pair.1) end
 
 -- a session over the two streams in its thread's promise ended with `end`
-abbrev pub IsPromised : {A L S W : Type 0} → Bool → (S → SourceState) → (W → SinkState) → AsServed A L S W
+abbrev pub IsPromised : {A L S W : Type 0} → Bool → Bool → (S → SourceState) → (W → SinkState) → AsServed A L S W
     → SessionEnd → Type 0
-IsPromised stores source sink promise end =
-    IsSessionEnd stores (source promise.reader.value) (sink promise.writer.value) end
+IsPromised stores persists source sink promise end =
+    IsSessionEnd stores persists (source promise.reader.value) (sink promise.writer.value) end
 
 -- the end of a connection that could not be opened
 abbrev pub unopened : SessionEnd

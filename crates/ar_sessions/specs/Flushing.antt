@@ -1,5 +1,5 @@
 -- A flush of a unit at a session's port.
-use Rattle.std.specs.Prelude.{◌≡◌, ◌<◌, ◌≤◌, ℕ, Option, Some}
+use Rattle.std.specs.Prelude.{◌≡◌, ◌<◌, ◌≤◌, ℕ, Bool, true, false, if◌then◌else◌, Option, Some}
 use Rattle.ar_disks.specs.declared.address.Addr.{Addr}
 use Rattle.ar_disks.specs.declared.address.Host.{Host}
 use Rattle.ar_volume.specs.declared.flush.UnitFlush.{UnitFlush}
@@ -16,23 +16,29 @@ flush_outcome flushes.Done = outcomes.Done
 flush_outcome flushes.Absent = outcomes.NoUnit
 flush_outcome flushes.Broken = outcomes.ArrayFailed
 
+-- how it is answered where what was done may not last: the store has failed
+abbrev pub lasting_outcome : Bool → FlushOutcome → FlushOutcome
+lasting_outcome lasts outcome = if lasts then outcome else outcomes.ArrayFailed
+
 -- The unit was flushed at one moment: there are a state of an array before it and one after it, in both of which each
--- unit is what its history makes it, and the flush was answered by what this array returned. That these are states of
--- the array behind the lock is not specified.
-pub record FlushedAtOneMoment (addr : Addr) (outcome : FlushOutcome) : Type 0 where
+-- unit is what its history makes it, and the flush was answered by what this array returned or, only where there is a
+-- store, by that this has failed. That these are states of the array behind the lock is not specified.
+pub record FlushedAtOneMoment (persists : Bool) (addr : Addr) (outcome : FlushOutcome) : Type 0 where
   pub old : KeptState
   pub new : KeptState
   pub answer : UnitFlush
   pub destages : DestagesUnit old addr answer new
-  pub outcome_is : outcome ≡ flush_outcome answer
+  pub lasts : Bool
+  pub outcome_is : outcome ≡ lasting_outcome lasts (flush_outcome answer)
+  pub failed : lasts ≡ false → persists ≡ true
 
 -- A flush of a host's LUN: 0 to 7 may have a unit, which was flushed; others have none.
-pub record FlushesLun (host : Host) (lun : ℕ) (outcome : FlushOutcome) : Type 0 where
-  pub known : lun < 8 → FlushedAtOneMoment (record { host = host; lun = lun }) outcome
+pub record FlushesLun (persists : Bool) (host : Host) (lun : ℕ) (outcome : FlushOutcome) : Type 0 where
+  pub known : lun < 8 → FlushedAtOneMoment persists (record { host = host; lun = lun }) outcome
   pub unknown : 8 ≤ lun → outcome ≡ outcomes.NoUnit
 
 -- a flush of a unit of the seat's host: the seat stays, and the unit was flushed
-pub record FlushesSeat (old : Option SeatState) (lun : ℕ) (outcome : FlushOutcome)
+pub record FlushesSeat (persists : Bool) (old : Option SeatState) (lun : ℕ) (outcome : FlushOutcome)
     (new : Option SeatState) : Type 0 where
   pub same : new ≡ old
-  pub flushed : (seat : SeatState) → old ≡ Some seat → FlushesLun seat.host lun outcome
+  pub flushed : (seat : SeatState) → old ≡ Some seat → FlushesLun persists seat.host lun outcome

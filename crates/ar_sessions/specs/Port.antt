@@ -1,11 +1,14 @@
 -- Logins and commands at a port to the shared array.
-use Rattle.std.specs.Prelude.{◌≡◌, ◌⊎◌, ◌+◌, ℕ, Bool, true, ◌&&◌, if◌then◌else◌, List, [], ◌∷◌, ◌++◌, Option, Some}
+use Rattle.std.specs.Prelude.{◌≡◌, ◌⊎◌, ◌+◌, ℕ, Bool, true, false, ◌&&◌, if◌then◌else◌, List, [], ◌∷◌, ◌++◌}
+use Rattle.std.specs.Prelude.{Option, Some}
 use Rattle.ar_scsi.specs.declared.reply.Reply.{Reply}
 use Rattle.ar_scsi.specs.Reading.{reading}
+use Rattle.ar_scsi.specs.Reply.{check}
+use Rattle.ar_scsi.specs.Sense.{internal_target_failure}
 use Rattle.ar_unit.specs.Broken.{needs_blocks, is_good}
 use Rattle.ar_history.specs.Kept.{KeptState, exchange_of}
 use Rattle.ar_history.specs.Seat.{SeatState}
-use Rattle.ar_history.specs.Served.{AnswersCommand}
+use Rattle.ar_history.specs.Served.{AnswersCommand, acknowledges}
 use Rattle.ar_frames.specs.Conversation.{Commands}
 use Rattle.ar_frames.specs.declared.port.Login.{Login}
 use Rattle.ar_frames.specs.declared.port.Login.TheVariants.{Taken, BadHost, InUse}
@@ -15,8 +18,8 @@ use Rattle.ar_sessions.specs.Desk.{HasSeat, FindsNoSeat}
 abbrev pub is_good_access : List ℕ → Reply → Bool
 is_good_access cdb reply = is_good reply.status && needs_blocks (reading cdb)
 
--- A command was recorded at a seat: its share of the ledger has grown by one, and its transcript by the command with its
--- reply where transcripts are stored.
+-- A command was recorded at a seat: its share of the ledger has grown by one, and its transcript by the command with
+-- its reply where transcripts are stored.
 pub record GrowsSeat (stores : Bool) (before : SeatState) (lun : ℕ) (cdb payload : List ℕ) (reply : Reply)
     (after : SeatState) : Type 0 where
   pub commands : after.commands ≡ before.commands + 1
@@ -35,16 +38,31 @@ pub record RecordsCommand (stores : Bool) (before : SeatState) (lun : ℕ) (cdb 
   pub one : GrowsSeat stores before lun cdb payload reply after ⊎ KeepsSeat before after
   pub done : is_good_access cdb reply ≡ true → GrowsSeat stores before lun cdb payload reply after
 
--- A host's command to a served array, which stores transcripts or doesn't, was executed atomically: there are a state of
--- an array before it and one after it, in both of which each unit is what its history makes it, and between them the
--- command is one step at most, done as the array specifies it. That these are states of the array behind the lock is not
--- specified; what the seat has of it (`RecordsCommand`) is.
-pub record AsksArray (stores : Bool) (before : SeatState) (lun : ℕ) (cdb payload : List ℕ) (reply : Reply)
+-- the reply to a command, or HARDWARE ERROR, INTERNAL TARGET FAILURE in its place, where the store has failed to keep
+-- what it would acknowledge
+abbrev pub lasting_reply : Bool → Reply → Reply
+lasting_reply lasts reply = if lasts then reply else check internal_target_failure
+
+-- The array answered a command, which is one step of it at most, and this reply is its own. Only GOOD to a WRITE,
+-- where there is a store, may it be replaced, and the seat has then grown by the array's own.
+pub record AnswersLasting (stores persists : Bool) (old : KeptState) (before : SeatState) (lun : ℕ)
+    (cdb payload : List ℕ) (reply : Reply) (new : KeptState) (after : SeatState) : Type 0 where
+  pub own : Reply
+  pub lasts : Bool
+  pub answers : AnswersCommand stores old before lun cdb payload own new after
+  pub reply_is : reply ≡ lasting_reply lasts own
+  pub failed : lasts ≡ false → (persists ≡ true) × (acknowledges cdb own ≡ true)
+
+-- A host's command to a served array, which stores transcripts or doesn't and has a store or hasn't, was executed
+-- atomically: there are a state of an array before it and one after it, in both of which each unit is what its history
+-- makes it, and between them the command is one step at most, done as the array specifies it. That these are states of
+-- the array behind the lock is not specified; what the seat has of it (`RecordsCommand`) is.
+pub record AsksArray (stores persists : Bool) (before : SeatState) (lun : ℕ) (cdb payload : List ℕ) (reply : Reply)
     (after : SeatState) : Type 0 where
   pub old : KeptState
   pub new : KeptState
-  pub answers : AnswersCommand stores old before lun cdb payload reply new after
-  pub entry : RecordsCommand stores before lun cdb payload reply after
+  pub answers : AnswersLasting stores persists old before lun cdb payload reply new after
+  pub entry : RecordsCommand stores before lun cdb payload answers.own after
 
 -- An accepted login brings the host's seat, a refused one nothing. The host is in use only if its seat is not in its
 -- place; what a look into a place finds the desk specifies.

@@ -1,7 +1,8 @@
 // What a device server needs of a session's port beyond commands: that the cached blocks of a unit are written to the
 // disks.
 ghost use Rattle.std.specs.Prelude.{◌≡◌};
-ghost use Rattle.ar_sessions.specs.Flushing.{FlushedAtOneMoment, FlushesLun, flush_outcome};
+ghost use Rattle.ar_sessions.specs.Flushing.{FlushedAtOneMoment, FlushesLun, flush_outcome, lasting_outcome};
+ghost use Rattle.ar_target.specs.declared.flush_port.FlushOutcome.TheVariants as outcomes;
 
 use crate::{LockPort, SeatDesk};
 use ar_core::UnitFlush;
@@ -18,7 +19,7 @@ impl<'a, R: Wait, A: ServedArray<L> + Drop, K: SeatDesk<L> + Drop, L: Ledger> Fl
     for LockPort<'a, R, A, K, L> {
     ghost use Rattle.ar_sessions.specs.Flushing.{FlushesSeat};
 
-    ghost flushes = { λ old lun outcome new. FlushesSeat old lun outcome new };
+    ghost flushes = { λ old lun outcome new. FlushesSeat A.persists old lun outcome new };
 
     fn flush(&mut self, lun: u8) -> FlushOutcome {
         match &self.seat {
@@ -35,7 +36,7 @@ fn flush_locked<R: Wait, A: ServedArray<L> + Drop, L: Ledger>(
     host: Host,
     lun: u8,
 ) -> FlushOutcome
-    ensures { FlushesLun host lun result }
+    ensures { FlushesLun A.persists host lun result }
 {
     if lun >= LUNS {
         return FlushOutcome::NoUnit;
@@ -49,10 +50,30 @@ fn flush_at<R: Wait, A: ServedArray<L> + Drop, L: Ledger>(
     array: &Mutex<A>,
     addr: Addr,
 ) -> FlushOutcome
-    ensures { FlushedAtOneMoment addr result }
+    ensures { FlushedAtOneMoment A.persists addr result }
 {
-    let answer = array.lock(rt).flush_unit(addr);
-    outcome_of(answer)
+    flush_with::<A, L>(&mut array.lock(rt), addr)
+}
+
+// Destages the unit at an address, and commits what was done to the store.
+fn flush_with<A: ServedArray<L>, L: Ledger>(array: &mut A, addr: Addr) -> FlushOutcome
+    ensures flushed { FlushedAtOneMoment A.persists addr result }
+    ensures lasts { result ≡ outcomes.Done → A.lasts array.new }
+{
+    let answer = array.flush_unit(addr);
+    let lasts = array.commit();
+    lasting_outcome(lasts, outcome_of(answer))
+}
+
+// The outcome of a flush, or that the array has failed where its store has.
+fn lasting_outcome(lasts: bool, outcome: FlushOutcome) -> FlushOutcome
+    ensures { result ≡ lasting_outcome lasts outcome }
+{
+    if lasts {
+        outcome
+    } else {
+        FlushOutcome::ArrayFailed
+    }
 }
 
 // How a flush is answered, by what the array returned.

@@ -1,7 +1,7 @@
 //! Hosts' sessions on one array, each in a thread of its own, with maintenance in the background. The array and its
-//! history (`ServedArray`) are behind one lock, which each command and each maintenance step holds. A host has one session at
-//! a time: a login takes the host's right to issue commands (`Seat`) from the pool of those that are free (`Desk`), and
-//! the end of the session puts it back.
+//! history (`ServedArray`) are behind one lock, which each command and each maintenance step holds. A host has one
+//! session at a time: a login takes the host's right to issue commands (`Seat`) from the pool of those that are free
+//! (`Desk`), and the end of the session puts it back.
 #![tactic(auto)]
 
 mod background;

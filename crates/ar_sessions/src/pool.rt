@@ -214,7 +214,8 @@ impl<
     S: Source + Drop,
     W: Sink + Drop,
 > Handler<S, W, (SessionEnd, Option<Receipt>)> for Shared<'a, R, A, L, G> {
-    ghost ends = { λ _ reader writer ended. GivesBack A.stores (S.state reader) (W.state writer) ended.0 ended.1 };
+    ghost ends = { λ _ reader writer ended. GivesBack A.stores A.persists (S.state reader) (W.state writer) ended.0
+        ended.1 };
 
     // Serves a host's session.
     fn handle(&self, number: u64, reader: S, writer: W) -> (SessionEnd, Option<Receipt>) {

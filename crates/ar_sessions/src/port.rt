@@ -1,16 +1,16 @@
 // A session's port to the shared array. Each command is executed under the array's lock, between one state of the array
 // and the next.
-ghost use Rattle.std.specs.Prelude.{◌≡◌, None};
+ghost use Rattle.std.specs.Prelude.{◌≡◌, None, true};
 ghost use Rattle.ar_frames.specs.Frame.{IsReply};
-ghost use Rattle.ar_history.specs.Served.{AnswersCommand};
+ghost use Rattle.ar_history.specs.Served.{asks_commit};
 ghost use Rattle.ar_sessions.specs.Desk.{receipt_for};
-ghost use Rattle.ar_sessions.specs.Port.{AsksArray};
+ghost use Rattle.ar_sessions.specs.Port.{AnswersLasting, AsksArray, lasting_reply};
 
 use crate::{Desk, Receipt, SeatDesk, SeatSlot};
 use ar_disks::Host;
 use ar_frames::{Login, Port};
 use ar_history::{Seat, ServedArray};
-use ar_scsi::{Command, Reply, decode};
+use ar_scsi::{Command, Reply, Sense, decode};
 use bytes::Bytes;
 use std::alloc::Global;
 use std::hint::spin_loop;
@@ -89,7 +89,8 @@ impl<'a, R: Wait, A: ServedArray<L> + Drop, K: SeatDesk<L> + Drop, L: Ledger> Po
 
     ghost logins = { λ old host answer new. TakesSeat K.finds old host answer new };
 
-    ghost commands = { λ old lun cdb payload reply new. AsksSeat (AsksArray A.stores) old lun cdb payload reply new };
+    ghost commands = { λ old lun cdb payload reply new. AsksSeat (AsksArray A.stores A.persists) old lun cdb payload
+        reply new };
 
     fn login(&mut self, host: u8) -> Login {
         let Some(host) = Host::new(host) else {
@@ -127,7 +128,7 @@ fn ask_counted<R: Wait, A: ServedArray<L> + Drop, K: SeatDesk<L> + Drop, L: Ledg
     cdb: &[u8; 16],
     payload: Bytes,
 ) -> Reply
-    ensures asks { AsksArray A.stores seat.old lun cdb.now payload result seat.new }
+    ensures asks { AsksArray A.stores A.persists seat.old lun cdb.now payload result seat.new }
     ensures reply { IsReply result }
 {
     let host = seat.host();
@@ -147,13 +148,13 @@ fn ask_locked<R: Wait, A: ServedArray<L> + Drop, L: Ledger>(
     cdb: &[u8; 16],
     payload: Bytes,
 ) -> Reply
-    ensures asks { AsksArray A.stores seat.old lun cdb.now payload result seat.new }
+    ensures asks { AsksArray A.stores A.persists seat.old lun cdb.now payload result seat.new }
     ensures reply { IsReply result }
 {
     ask_with::<A, L>(&mut lock_soon(rt, array), memory, seat, lun, cdb, payload)
 }
 
-// Executes a command on the array, for which memory may be lent.
+// Executes a command on the array, for which memory may be lent. Where the store has failed, its reply is replaced.
 fn ask_with<A: ServedArray<L>, L: Ledger>(
     array: &mut A,
     memory: Option<Vec<u8>>,
@@ -162,12 +163,26 @@ fn ask_with<A: ServedArray<L>, L: Ledger>(
     cdb: &[u8; 16],
     payload: Bytes,
 ) -> Reply
-    ensures answers { AnswersCommand A.stores (A.state array.old) seat.old lun cdb.now payload result
+    ensures answers { AnswersLasting A.stores A.persists (A.state array.old) seat.old lun cdb.now payload result
         (A.state array.new) seat.new }
+    ensures lasts { asks_commit cdb.now result ≡ true → A.lasts array.new }
     ensures reply { IsReply result }
 {
     lend(array, memory);
-    array.ask(seat, lun, cdb, payload)
+    let reply = array.ask(seat, lun, cdb, payload);
+    let lasts = array.settle(cdb, &reply);
+    lasting_reply(lasts, reply)
+}
+
+// The reply to a command or, where the store has failed to keep it, HARDWARE ERROR in its place.
+fn lasting_reply(lasts: bool, reply: Reply) -> Reply
+    ensures { result ≡ lasting_reply lasts reply }
+{
+    if lasts {
+        reply
+    } else {
+        Reply::check(Sense::INTERNAL_TARGET_FAILURE)
+    }
 }
 
 // Lends memory to the array, if there is any.

@@ -69,8 +69,8 @@ impl<A: ServedArray<L>, L: Ledger, S: Source, W: Sink> Promise<(SessionEnd, Opti
     for AsServed<A, L, S, W> {
     ghost use Rattle.ar_sessions.specs.Ends.{GivesBack};
 
-    ghost kept_by = { λ promise ended. GivesBack A.stores (S.state promise.reader.value) (W.state promise.writer.value)
-        ended.0 ended.1 };
+    ghost kept_by = { λ promise ended. GivesBack A.stores A.persists (S.state promise.reader.value)
+        (W.state promise.writer.value) ended.0 ended.1 };
 }
 
 // The handle of a session's thread.
@@ -116,7 +116,8 @@ pub fn run_sessions<
     ensures count { IfOk result.1 (λ ends. vec_len ends ≡ O.to_come door) }
     // One end for each connection, in the order in which the door opened them, or couldn't.
     ensures ends { IfOk result.1 (λ ends.
-        InTurn (ConnectionEnds O.opens (IsServedOver A.stores O.Reader.state O.Writer.state)) ends.items door result.0) }
+        InTurn (ConnectionEnds O.opens (IsServedOver A.stores A.persists O.Reader.state O.Writer.state)) ends.items door
+        result.0) }
     ensures opened { OnOk result.1 (O.to_come result.0 ≡ 0) }
     ensures refused { OnErr result.1 (result.0 ≡ door) }
 {
@@ -138,7 +139,8 @@ pub fn run_sessions<
             requires { O.to_come door ≡ join_list.left }
             ensures { (O.to_come result.0 ≡ 0)
                 × (vec_len result.1 ≡ join_list.left)
-                × InTurn (ConnectionEnds O.opens (IsServedOver A.stores O.Reader.state O.Writer.state)) result.1.items
+                × InTurn (ConnectionEnds O.opens (IsServedOver A.stores A.persists O.Reader.state O.Writer.state))
+                result.1.items
                 door result.0 }
         {
             let mut door = door;
@@ -168,7 +170,8 @@ pub fn run_beside_background<
     ensures count { IfOk result.1 (λ ends. vec_len ends ≡ O.to_come door) }
     // One end for each connection, in the order in which the door opened them, or couldn't.
     ensures ends { IfOk result.1 (λ ends.
-        InTurn (ConnectionEnds O.opens (IsServedOver A.stores O.Reader.state O.Writer.state)) ends.items door result.0) }
+        InTurn (ConnectionEnds O.opens (IsServedOver A.stores A.persists O.Reader.state O.Writer.state)) ends.items door
+        result.0) }
     ensures opened { OnOk result.1 (O.to_come result.0 ≡ 0) }
     ensures refused { OnErr result.1 (result.0 ≡ door) }
 {
@@ -179,7 +182,8 @@ pub fn run_beside_background<
         rt,
         move |scope| -> (O, Result<Vec<ConnectionEnd>, NoMemory>)
             ensures { IfOk result.1 (λ ends. (vec_len ends ≡ O.to_come door)
-                × InTurn (ConnectionEnds O.opens (IsServedOver A.stores O.Reader.state O.Writer.state)) ends.items door
+                × InTurn (ConnectionEnds O.opens (IsServedOver A.stores A.persists O.Reader.state O.Writer.state))
+                ends.items door
                 result.0)
                 × OnOk result.1 (O.to_come result.0 ≡ 0)
                 × OnErr result.1 (result.0 ≡ door) }
@@ -233,7 +237,8 @@ where
     O::Writer: 's,
     requires { O.to_come door.old ≡ join_list.left }
     ensures count { vec_len result ≡ join_list.left }
-    ensures ends { InTurn (ConnectionEnds O.opens (IsServedOver A.stores O.Reader.state O.Writer.state)) result.items
+    ensures ends { InTurn (ConnectionEnds O.opens (IsServedOver A.stores A.persists O.Reader.state O.Writer.state))
+        result.items
         door.old door.new }
     ensures opened { O.to_come door.new ≡ 0 }
 {
@@ -269,8 +274,9 @@ where
     O::Writer: 's,
     requires { 0 < O.to_come door.old }
     ensures count { O.to_come door.new + 1 ≡ O.to_come door.old }
-    ensures becomes { Becomes O.opens (λ handle. IsPromised A.stores O.Reader.state O.Writer.state handle.promise)
-        (IsServedOver A.stores O.Reader.state O.Writer.state) door.old result door.new }
+    ensures becomes { Becomes O.opens
+        (λ handle. IsPromised A.stores A.persists O.Reader.state O.Writer.state handle.promise)
+        (IsServedOver A.stores A.persists O.Reader.state O.Writer.state) door.old result door.new }
 {
     let Some((reader, writer)) = door.accept() else {
         return Pending::Unopened;
@@ -309,7 +315,7 @@ fn begin<
         writer: Snapshot::of(&connection.writer),
     };
     let session = move || -> (SessionEnd, Option<Receipt>)
-        ensures { GivesBack A.stores (S.state connection.entry.reader) (W.state connection.entry.writer)
+        ensures { GivesBack A.stores A.persists (S.state connection.entry.reader) (W.state connection.entry.writer)
             result.0 result.1 }
     {
         let (end, receipt, _reader, _writer) = connection.serve_logged();
@@ -330,7 +336,7 @@ fn join_all<R: Threads, A: ServedArray<L>, L: Ledger, S: Source, W: Sink>(
     requires none { vec_len ends ≡ 0 }
     requires room { deque_len pending ≤ vec_capacity ends }
     ensures count { vec_len result ≡ deque_len pending }
-    ensures order { AllZip (EndOf (λ handle. IsPromised A.stores S.state W.state handle.promise))
+    ensures order { AllZip (EndOf (λ handle. IsPromised A.stores A.persists S.state W.state handle.promise))
         pending.items result.items }
 {
     while let Some(next) = pending.pop_front() {
@@ -344,7 +350,7 @@ fn end_of<R: Threads, A: ServedArray<L>, L: Ledger, S: Source, W: Sink>(
     rt: &R,
     pending: Pending<Handle<A, L, S, W>>,
 ) -> ConnectionEnd
-    ensures { EndOf (λ handle. IsPromised A.stores S.state W.state handle.promise) pending result }
+    ensures { EndOf (λ handle. IsPromised A.stores A.persists S.state W.state handle.promise) pending result }
 {
     match pending {
         Pending::Served(handle) => {
@@ -389,7 +395,8 @@ impl<
 > Connection<'a, R, A, L, G, S, W> {
     /// Serves the connection's session as `serve` does, and logs its start and its end.
     pub fn serve_logged(self) -> (SessionEnd, Option<Receipt>, S, W)
-        ensures { LeavesOff A.stores (S.state self.entry.reader) (S.state result.2) (W.state self.entry.writer)
+        ensures { LeavesOff A.stores A.persists (S.state self.entry.reader) (S.state result.2)
+            (W.state self.entry.writer)
             (W.state result.3) result.0 result.1 }
     {
         let (rt, number) = (self.shared.rt, self.number);
@@ -402,7 +409,8 @@ impl<
     // Serves the connection's session, and returns its seat to the desk for a receipt. The streams are returned as the
     // session left them, so that they are dropped, and so closed, only once the seat is back.
     fn run_session(self) -> (SessionEnd, Option<Receipt>, S, W)
-        ensures { LeavesOff A.stores (S.state self.entry.reader) (S.state result.2) (W.state self.entry.writer)
+        ensures { LeavesOff A.stores A.persists (S.state self.entry.reader) (S.state result.2)
+            (W.state self.entry.writer)
             (W.state result.3) result.0 result.1 }
     {
         let Connection {

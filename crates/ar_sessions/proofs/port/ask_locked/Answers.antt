@@ -2,4 +2,4 @@ use Rattle.ar_sessions.proofs.Asking.{asks}
 use Rattle.ar_sessions.proofs.port.ask_locked.Goals as goal
 
 pub returns-clause-asks : goal.returns-clause-asks
-returns-clause-asks g c = asks _ _ _ _ _ _ _ _ _ c.ask_with.ensures.answers
+returns-clause-asks g c = asks _ _ _ _ _ _ _ _ _ _ c.ask_with.ensures.answers
