@@ -1,8 +1,9 @@
 -- A whole service: the units at its start, and the audit at its end.
-use Rattle.std.specs.Prelude.{◌≡◌, ℕ, false, List, [], ◌∷◌, Option, Some, None, is_some, Result, Ok, Err, All, length}
-use Rattle.std.specs.Prelude.{map, sum, count_by, slice_get, take}
+use Rattle.std.specs.Prelude.{◌≡◌, ◌⊎◌, ℕ, false, List, [], ◌∷◌, Option, Some, None, is_some, Result, Ok, Err, All}
+use Rattle.std.specs.Prelude.{length, map, sum, count_by, slice_get, take}
 use Rattle.std.specs.List.{list_all}
 use Rattle.ar_core.specs.Events.{Outcome}
+use Rattle.ar_core.specs.Views.{sectors_at}
 use Rattle.ar_core.specs.declared.event.OutcomeOf.{OutcomeOf}
 use Rattle.ar_core.specs.declared.event.OutcomeOf.TheVariants as outcomes
 use Rattle.ar_history.specs.Audit.{IsFirstMismatch, IsHostsPart}
@@ -35,6 +36,17 @@ pub record IsCreated (unit : NewUnit) (old new : KeptState) : Type 0 where
 abbrev pub AreCreated : List NewUnit → KeptState → KeptState → Type 0
 AreCreated [] old new = new ≡ old
 AreCreated (unit ∷ units) old new = (middle : KeptState) × IsCreated unit old middle × AreCreated units middle new
+
+-- a unit of the plan is there with its length, or was created since it wasn't there
+pub record IsProvided (unit : NewUnit) (old new : KeptState) : Type 0 where
+  pub how :
+      ((sectors_at old.array.store.book unit.addr ≡ Some unit.sectors) × (new ≡ old))
+      ⊎ ((sectors_at old.array.store.book unit.addr ≡ None) × IsCreated unit old new)
+
+-- so are these units, one after another
+abbrev pub AreProvided : List NewUnit → KeptState → KeptState → Type 0
+AreProvided [] old new = new ≡ old
+AreProvided (unit ∷ units) old new = (middle : KeptState) × IsProvided unit old middle × AreProvided units middle new
 
 -- the units were created up to the one of this number, which was refused
 pub record StopsCreating (units : List NewUnit) (number : ℕ) (refusal : Refusal) (old new : KeptState) : Type 0 where

@@ -1,13 +1,14 @@
 // An operator's orders on the shared array. Each is executed under the array's lock, between one state of the array and
 // the next.
-ghost use Rattle.std.specs.Prelude.{◌≡◌, [], length};
-ghost use Rattle.ar_operator.specs.Executing.{Executes, IsArrayOrder};
-ghost use Rattle.ar_service.specs.Control.{DoneAtOneMoment};
+ghost use Rattle.std.specs.Prelude.{◌≡◌, ◌⊎◌, [], OnOk, false, length, true};
+ghost use Rattle.ar_operator.specs.Executing.{IsArrayOrder};
+ghost use Rattle.ar_service.specs.Control.{AnswersWith, DoneAtOneMoment, ExecutesLasting, is_act, store_failed};
 ghost use Rattle.ar_service.specs.Watching.{health_watched};
 
 use crate::doors::OperatedArray;
 use crate::shown::ControlledArray;
 use ar_disks::Host;
+use ar_history::ServedArray;
 use ar_language::{Action, Order};
 use ar_operator::{Controller, OperatorOrder, write_counts, write_help, write_session};
 use ar_sessions::Desk;
@@ -19,6 +20,9 @@ use std::time::Clock;
 
 /// The answer of an action that was done.
 const DONE: &[u8] = b"ok\n";
+
+/// The answer where the store has failed: what an order has done, if anything, may not last.
+const STORE_FAILED: &[u8] = b"fault: store failed\n";
 
 /// A controller of an array behind a lock, whose hosts' seats are on a desk with a lock of its own.
 #[derive(Drop)]
@@ -59,7 +63,7 @@ impl<'a, R: Wait + Clock, A: ControlledArray<L, M> + Drop, L: Ledger, M: Copy> L
     fn execute(&mut self, order: Order, out: &mut Vec<u8>) -> Result<(), AllocError>
         requires allowed { IsArrayOrder order }
         requires empty { out.old.items ≡ [] }
-        ensures { DoneAtOneMoment order result out.new.items }
+        ensures { DoneAtOneMoment A.persists order result out.new.items }
     {
         let mut disks = self.array.disks;
         let mut log = self.array.log.lock(self.array.rt);
@@ -77,7 +81,8 @@ impl<'a, R: Wait + Clock, A: ControlledArray<L, M> + Drop, L: Ledger, M: Copy> L
     }
 }
 
-// Executes an order on the array, and lists what has happened.
+// Executes an order on the array, and lists what has happened. Where the store has failed to keep what it has done, the
+// answer says so.
 fn execute_listed<A: ControlledArray<L, M>, L: Ledger, M>(
     alloc: Global,
     array: &mut A,
@@ -89,14 +94,44 @@ fn execute_listed<A: ControlledArray<L, M>, L: Ledger, M>(
 ) -> Result<(), AllocError>
     requires allowed { IsArrayOrder order }
     requires empty { out.old.items ≡ [] }
-    ensures executes { Executes order (A.state array.old) [] result out.new.items (A.state array.new) }
+    ensures executes { ExecutesLasting A.persists order (A.state array.old) result out.new.items (A.state array.new) }
+    // What an action has done lasts, or its answer says that it may not.
+    ensures lasts { OnOk result (is_act order ≡ true → (out.new.items ≡ store_failed) ⊎ A.lasts array.new) }
     ensures health { log.new.health ≡ health_watched (A.state array.new).array.store.disks.health }
     ensures disks { log.new.disks ≡ length (A.state array.new).array.store.disks.disks }
 {
     let done = array.execute(alloc, disks, order, out);
     list_done(log, seconds, order, out);
+    let lasts = lasts_behind::<A, L>(array, order);
     array.see(seconds, log);
-    done
+    answer_with(lasts, done, out)
+}
+
+// Commits what an action has done.
+fn lasts_behind<A: ServedArray<L>, L: Ledger>(array: &mut A, order: Order) -> bool
+    ensures same { A.state array.new ≡ A.state array.old }
+    ensures lasts { result ≡ true → is_act order ≡ true → A.lasts array.new }
+    ensures failed { result ≡ false → A.persists ≡ true }
+{
+    match order {
+        Order::Act(_) => array.commit(),
+        Order::Ask(_) => true,
+    }
+}
+
+// The answer of an order or, where the store has failed, that it has.
+fn answer_with(
+    lasts: bool,
+    done: Result<(), AllocError>,
+    out: &mut Vec<u8>,
+) -> Result<(), AllocError>
+    ensures { AnswersWith lasts done out.old.items result out.new.items }
+{
+    if lasts {
+        return done;
+    }
+    out.clear();
+    out.extend_from_slice(STORE_FAILED)
 }
 
 // Lists what an order has done to a unit, by its answer.
@@ -136,7 +171,7 @@ impl<'a, R: Wait + Clock, A: ControlledArray<L, M> + Drop, L: Ledger, M: Copy> C
     for LockController<'a, R, A, L, M> {
     ghost use Rattle.ar_service.specs.Control.{LockAnswers};
 
-    ghost answers = { λ _ order result answer _. LockAnswers order result answer };
+    ghost answers = { λ _ order result answer _. LockAnswers A.persists order result answer };
 
     fn answer(&mut self, order: OperatorOrder, out: &mut Vec<u8>) -> Result<(), AllocError> {
         match order {

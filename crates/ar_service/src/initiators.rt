@@ -29,8 +29,8 @@ const LOOK_PAUSE: u64 = 10;
 pub struct IscsiPort {
     /// The TCP port to listen at, on 127.0.0.1.
     pub port: u16,
-    /// Distinguishes the array from others in the names of its units. Nothing outlives the program, so that it has to
-    /// be another one at each start.
+    /// Distinguishes the array from others in the names of its units. An array without a store has another one at each
+    /// start.
     pub array: u32,
     /// Whether a WRITE may be GOOD before its blocks are on the disks: the array has a cache.
     pub write_back: bool,

@@ -2,7 +2,7 @@
 ghost use Rattle.std.specs.Prelude.{◌≡◌, [], ◌∷◌, Err, IfOk, IfErr, OnOk, map};
 ghost use Rattle.ar_history.specs.Seat.{SeatState};
 ghost use Rattle.ar_history.specs.declared.counts.HostCounts.{HostCounts};
-ghost use Rattle.ar_service.specs.Service.{CreatesUnits, FailsAudit, IsAudited, refusal_in};
+ghost use Rattle.ar_service.specs.Service.{AreProvided, CreatesUnits, FailsAudit, IsAudited, IsProvided, refusal_in};
 
 use crate::ServiceRuntime;
 use crate::doors::{OperatedArray, Ports, SideDoors, run_operated};
@@ -87,13 +87,17 @@ pub enum ServiceFault {
     SeatOut,
     /// A transcript isn't its host's part of the history.
     Mismatch(Mismatch),
+    /// The unit of this number in the plan, from 0, is there with another length, in sectors.
+    OtherSize(usize, u32),
+    /// What was done can't be kept: the store has failed.
+    Store,
 }
 
 // What a service begins with beside its array.
 #[derive(Drop)]
 struct Begun<L: Ledger> {
-    // Whether its units were created: otherwise the number of the one that was refused, and why.
-    made: Result<(), (usize, Refusal)>,
+    // Whether its units were created, and are kept where there is a store.
+    made: Result<(), ServiceFault>,
     seats: [Seat<L>; 4],
     log: EventLog,
 }
@@ -111,10 +115,10 @@ impl From<NoMemory> for ServiceFault {
 }
 
 /// Serves a new array by a plan: creates its units, listens, prints `listening PORT`, and serves hosts, operators,
-/// initiators and HTTP clients. If it `audits`, the history and the hosts' transcripts are stored, and compared at the end.
-/// Else contracts alone see the history, so that the array may be served for ever. `disks` are the fuses of its
-/// disks, by number, and what makes new ones; `stop` isn't set yet. Returns the operators that wait for the end, and the
-/// number of commands of each host, or what failed.
+/// initiators and HTTP clients. If it `audits`, the history and the hosts' transcripts are stored, and compared at
+/// the end. Else contracts alone see the history, so that the array may be served for ever. `disks` are the fuses of
+/// its disks, by number, and what makes new ones; `stop` isn't set yet. Returns the operators that wait for the end,
+/// and the number of commands of each host, or what failed.
 pub fn serve<
     's,
     D: Disk + Drop + Send,
@@ -139,7 +143,7 @@ pub fn serve<
     let log = EventLog::new(health_of(array.health()), array.disks());
     if audits {
         let (mut kept, seats) = Kept::<D, L>::start(alloc, blank, array);
-        let made = create_units(&mut kept, plan.units);
+        let made = create_units(&mut kept, plan.units).map_err(refused);
         let begun = Begun { made, seats, log };
         let (stops, served, kept, desk) = serve_array(rt, alloc, kept, begun, disks, stop, plan);
         let report = audit(served, &kept, desk);
@@ -147,7 +151,7 @@ pub fn serve<
         (stops, report.map(|report| report.commands))
     } else {
         let (mut counted, seats) = CountedArray::<D, L>::start(alloc, blank, array);
-        let made = create_units(&mut counted, plan.units);
+        let made = create_units(&mut counted, plan.units).map_err(refused);
         let begun = Begun { made, seats, log };
         let (stops, served, counted, desk) = serve_array(
             rt, alloc, counted, begun, disks, stop, plan,
@@ -159,8 +163,68 @@ pub fn serve<
     }
 }
 
-// Serves an array by a plan behind a lock, once its units are created. Returns the operators that wait for the end, what
-// came of the service, the array, and the desk with the hosts' seats.
+/// Serves an array that may have units, as one has that was taken up from a store, as `serve` serves a new one: those
+/// of the plan's units that aren't there are created. `seats` are those of hosts 0 to 3, in order. What was done
+/// lasts, as far as the array has a store, when `listening PORT` is printed, and again at the end.
+pub fn serve_lasting<
+    's,
+    A: ControlledArray<L, M> + OperableArray<L> + Drop + Send,
+    L: Ledger + Send + Sync,
+    M: Copy + Send + Sync,
+    R: ServiceRuntime + Sync,
+>(
+    rt: &'s R,
+    alloc: Global,
+    array: A,
+    seats: [Seat<L>; 4],
+    disks: (&[Fuse; 12], M),
+    stop: &'s AtomicBool,
+    plan: Plan<'_>,
+) -> (TcpStops<'s, R>, Result<[u64; 4], ServiceFault>)
+    requires hosts { map (λ (s : SeatState). s.host.number) seats ≡ 0 ∷ 1 ∷ 2 ∷ 3 ∷ [] }
+{
+    let mut array = array;
+    let log = EventLog::new(health_of(array.array().health()), array.array().disks());
+    let made = create_missing(&mut array, plan.units);
+    let is_made = made.is_ok();
+    let begun = Begun { made, seats, log };
+    let (stops, served, array, desk) = serve_array(rt, alloc, array, begun, disks, stop, plan);
+    drop(desk);
+    let (ended, commands) = end_lasting::<A, L>(array, is_made);
+    (stops, ended.and(served).map(|()| commands))
+}
+
+// Commits what was done, unless the start was refused, and returns whether it lasts, and the number of commands of each
+// host.
+fn end_lasting<A: OperableArray<L> + Drop, L: Ledger>(
+    array: A,
+    is_made: bool,
+) -> (Result<(), ServiceFault>, [u64; 4]) {
+    let mut array = array;
+    let ended = if is_made {
+        commit::<A, L>(&mut array)
+    } else {
+        Ok(())
+    };
+    let commands = commands_of(&array.counts());
+    drop(array);
+    (ended, commands)
+}
+
+// Commits what was done.
+fn commit<A: OperableArray<L>, L: Ledger>(array: &mut A) -> Result<(), ServiceFault>
+    ensures same { A.state array.new ≡ A.state array.old }
+    ensures lasts { OnOk result (A.lasts array.new) }
+{
+    if array.commit() {
+        Ok(())
+    } else {
+        Err(ServiceFault::Store)
+    }
+}
+
+// Serves an array by a plan behind a lock, once its units are created. Returns the operators that wait for the end,
+// what came of the service, the array, and the desk with the hosts' seats.
 fn serve_array<
     's,
     A: ControlledArray<L, M> + Drop + Send,
@@ -195,10 +259,7 @@ fn serve_array<
     };
     let (stops, served) = match made {
         Ok(()) => serve_plan(rt, &operated, stop, plan),
-        Err((number, refusal)) => (
-            PendingStops::none(alloc),
-            Err(ServiceFault::Unit(number, refusal)),
-        ),
+        Err(fault) => (PendingStops::none(alloc), Err(fault)),
     };
     (stops, served, array.into_inner(), desk.into_inner())
 }
@@ -348,6 +409,57 @@ fn create_units<A: OperableArray<L>, L: Ledger>(
         }
     }
     Ok(())
+}
+
+// Creates those of the units that aren't there, in their order, and commits that. Where one is refused or has another
+// length, nothing is committed.
+fn create_missing<A: OperableArray<L>, L: Ledger>(
+    array: &mut A,
+    units: &[NewUnit],
+) -> Result<(), ServiceFault>
+    ensures met { OnOk result (AreProvided units.now (A.state array.old) (A.state array.new)) }
+    ensures lasts { OnOk result (A.lasts array.new) }
+{
+    provide_units(array, units)?;
+    commit::<A, L>(array)
+}
+
+fn provide_units<A: OperableArray<L>, L: Ledger>(
+    array: &mut A,
+    units: &[NewUnit],
+) -> Result<(), ServiceFault>
+    ensures { OnOk result (AreProvided units.now (A.state array.old) (A.state array.new)) }
+{
+    for number in 0..units.len() {
+        provide_unit(array, number, units[number])?;
+    }
+    Ok(())
+}
+
+// Creates a unit, if it isn't there.
+fn provide_unit<A: OperableArray<L>, L: Ledger>(
+    array: &mut A,
+    number: usize,
+    unit: NewUnit,
+) -> Result<(), ServiceFault>
+    ensures { OnOk result (IsProvided unit (A.state array.old) (A.state array.new)) }
+{
+    match array.array().sectors(unit.addr) {
+        Some(sectors) if sectors == unit.sectors => return Ok(()),
+        Some(sectors) => return Err(ServiceFault::OtherSize(number, sectors)),
+        None => {}
+    }
+    let outcome = array.make(unit.addr, unit.sectors);
+    match refusal_in(&outcome) {
+        Some(refusal) => Err(ServiceFault::Unit(number, refusal)),
+        None => Ok(()),
+    }
+}
+
+// The fault of a unit that was refused.
+fn refused(refused: (usize, Refusal)) -> ServiceFault {
+    let (number, refusal) = refused;
+    ServiceFault::Unit(number, refusal)
 }
 
 // Why a unit was not created, or None if it was.

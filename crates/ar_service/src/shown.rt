@@ -11,7 +11,7 @@ ghost use Rattle.ar_service.specs.Watching.{operations_watched, replies_watched,
 use ar_core::{Array, Counters, Health};
 use ar_disks::Disk;
 use ar_history::{
-    CountedArray, Counts, HostCounts, Kept, OperationCounts, ReplyCounts, ServedArray, TaskCounts,
+    Counts, HostCounts, OperableArray, OperationCounts, ReplyCounts, ServedArray, TaskCounts,
 };
 use ar_language::Order;
 use ar_operator::{DiskMaker, Fuse, execute, set_fuse};
@@ -64,7 +64,7 @@ pub trait ControlledArray<L: Ledger, M>: ServedArray<L> {
         ensures { IfOk result (IsPicture (Self.state self.now).array) };
 }
 
-impl<D: Disk + Drop, L: Ledger, M: DiskMaker<D>> ControlledArray<L, M> for Kept<D, L> {
+impl<A: OperableArray<L>, L: Ledger, M: DiskMaker<A::Disk>> ControlledArray<L, M> for A {
     fn execute(
         &mut self,
         alloc: Global,
@@ -82,65 +82,25 @@ impl<D: Disk + Drop, L: Ledger, M: DiskMaker<D>> ControlledArray<L, M> for Kept<
         accesses: Option<u64>,
         out: &mut Vec<u8>,
     ) -> Result<(), AllocError> {
-        set_fuse(Kept::array(self), fuses, disk, accesses, out)
+        set_fuse(self.array(), fuses, disk, accesses, out)
     }
 
     fn see(&self, seconds: u64, log: &mut EventLog) {
-        see_array(Kept::array(self), seconds, log);
+        see_array(self.array(), seconds, log);
     }
 
     fn status(&self, seconds: u64, events: RecentEvents) -> ArrayStatus {
         status_with(
-            Kept::array(self),
-            &Kept::counts(self),
-            (self.history().len(), self.capacity()),
+            self.array(),
+            &self.counts(),
+            (self.stored_entries(), self.stored_room()),
             seconds,
             events,
         )
     }
 
     fn picture(&self, alloc: Global) -> Result<Picture, AllocError> {
-        picture_of(alloc, Kept::array(self))
-    }
-}
-
-impl<D: Disk + Drop, L: Ledger, M: DiskMaker<D>> ControlledArray<L, M> for CountedArray<D, L> {
-    fn execute(
-        &mut self,
-        alloc: Global,
-        disks: &mut M,
-        order: Order,
-        out: &mut Vec<u8>,
-    ) -> Result<(), AllocError> {
-        execute(alloc, self, disks, order, out)
-    }
-
-    fn set_fuse(
-        &self,
-        fuses: &[Fuse; 12],
-        disk: u8,
-        accesses: Option<u64>,
-        out: &mut Vec<u8>,
-    ) -> Result<(), AllocError> {
-        set_fuse(CountedArray::array(self), fuses, disk, accesses, out)
-    }
-
-    fn see(&self, seconds: u64, log: &mut EventLog) {
-        see_array(CountedArray::array(self), seconds, log);
-    }
-
-    fn status(&self, seconds: u64, events: RecentEvents) -> ArrayStatus {
-        status_with(
-            CountedArray::array(self),
-            &CountedArray::counts(self),
-            (0, 0),
-            seconds,
-            events,
-        )
-    }
-
-    fn picture(&self, alloc: Global) -> Result<Picture, AllocError> {
-        picture_of(alloc, CountedArray::array(self))
+        picture_of(alloc, self.array())
     }
 }
 
@@ -196,8 +156,8 @@ fn status_of<D: Disk>(
     }
 }
 
-// Bytes of memory that a stored history takes, at least: none, if nothing is stored. A failed array counts commands that
-// it doesn't record.
+// Bytes of memory that a stored history takes, at least: none, if nothing is stored. A failed array counts commands
+// that it doesn't record.
 fn stored_bytes(room: u64, health: ArrayHealth, counts: &Counts) -> u64 {
     let mut bytes = room.saturating_mul(ENTRY_LEN);
     if room > 0 && health != ArrayHealth::Broken {
