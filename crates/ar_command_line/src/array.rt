@@ -1,13 +1,15 @@
 // The command line of `autoraid`.
-ghost use Rattle.std.specs.Prelude.{◌≤◌, IfSome};
+ghost use Rattle.std.specs.Prelude.{◌≤◌, IfOk, IfSome, length};
+ghost use Rattle.std.specs.String.{string_bytes};
 
+use crate::array_forms::command;
 use crate::command::{Parsed, parse};
 use crate::fault::{UsageFault, bad_value};
-use crate::form::{Form, Otherwise, Value, with_forms};
-use ar_cli::{CommandLineFault, VERSION};
+use ar_cli::CommandLineFault;
 use ar_disks::{Addr, Geometry, Host};
 use ar_numbers::{number, sectors};
-use clap::{ArgMatches, Command};
+use clap::ArgMatches;
+use clap::parser::ValueSource;
 use std::alloc::{AllocError, Global};
 use std::convert::AsStr;
 
@@ -18,6 +20,10 @@ pub enum Order {
     Shown(String),
     /// A script is run on an array, which is then drawn to a file, if one is named.
     Run(ArrayOptions, Option<String>),
+    /// A store is created, with an array without units.
+    Create(CreateOptions),
+    /// The store in this folder is checked.
+    Check(String),
     /// Hosts are served.
     Serve(ServeOptions),
 }
@@ -34,18 +40,34 @@ pub struct ArrayOptions {
     pub cache: u32,
 }
 
+/// The store to create, and its array.
+#[derive(Drop)]
+pub struct CreateOptions {
+    /// The store's folder.
+    pub store: String,
+    /// The array's name, empty if it has none.
+    pub name: String,
+    pub geometry: Geometry,
+    /// The number of disks, 4 to 12.
+    pub disks: u8,
+    /// Extents of each disk, 1 to 1,024.
+    pub extents: u16,
+    pub ghost name_fits: { length (string_bytes name) ≤ 64 },
+}
+
 /// The array to serve, and how.
 #[derive(Drop)]
 pub struct ServeOptions {
+    /// The array. That of a store has the store's shape in place of the one here.
     pub array: ArrayOptions,
+    /// The store of the array. `None`: the array is new, and nothing outlives the service.
+    pub store: Option<StoreOptions>,
     /// Whether the start and the end of each session is logged.
     pub log: bool,
     pub port: u16,
     pub sessions: Option<u8>,
     pub operator: Option<u16>,
     pub http: Option<u16>,
-    /// A name by which HTTP clients may ask for the server, beside those of 127.0.0.1.
-    pub http_host: Option<String>,
     pub iscsi: Option<u16>,
     /// Seconds from a connection's opening to its accepted login.
     pub login_timeout: Option<u32>,
@@ -56,6 +78,35 @@ pub struct ServeOptions {
     pub units: Vec<UnitOption>,
     /// Their words.
     pub words: Vec<String>,
+}
+
+/// The store of a served array.
+#[derive(Drop)]
+pub struct StoreOptions {
+    /// The store's folder.
+    pub folder: String,
+    pub sync: SyncMode,
+    /// Seconds after which a change is synced at the latest, 1 to 3,600.
+    pub commit_every: u32,
+    /// The shape that the command line asks for, which may differ from the store's.
+    pub shape: ShapeOptions,
+}
+
+/// When a store is synced, besides every `commit_every` seconds.
+#[derive(Clone, Copy, Debug, PartialEq, Eq)]
+pub enum SyncMode {
+    /// Before a host's flush is answered.
+    Flush,
+    /// Before any write is answered.
+    Always,
+}
+
+/// An array's shape, as far as the command line has it: defaults are left out.
+#[derive(Clone, Copy, Debug, PartialEq, Eq)]
+pub struct ShapeOptions {
+    pub geometry: Option<Geometry>,
+    pub disks: Option<u8>,
+    pub extents: Option<u16>,
 }
 
 /// Whether the history is stored, and compared with hosts' transcripts at the end.
@@ -73,146 +124,10 @@ pub struct UnitOption {
 }
 
 /// The most blocks of a cache.
-const MOST_CACHE: u64 = 65_536;
+const MAX_CACHE: u64 = 65_536;
 
-static ARRAY: [Form; 4] = [
-    Form(
-        "geometry",
-        "NAME",
-        Value::Name(&["small", "paper"]),
-        Otherwise::Value("small"),
-        "small: blocks of 1 KiB; paper: of 64 KiB",
-    ),
-    Form(
-        "disks",
-        "COUNT",
-        Value::Number(4, 12),
-        Otherwise::Value("4"),
-        "Disks, 4 to 12",
-    ),
-    Form(
-        "extents",
-        "COUNT",
-        Value::Number(1, 1_024),
-        Otherwise::Value("4"),
-        "Extents of each disk, 1 to 1024",
-    ),
-    Form(
-        "cache",
-        "BLOCKS",
-        Value::Text,
-        Otherwise::Value("0"),
-        "Blocks of the write cache, 0 to 65536, or a size as 32M",
-    ),
-];
-
-static RUN: [Form; 1] = [Form(
-    "picture",
-    "FILE",
-    Value::Text,
-    Otherwise::Nothing,
-    "Draw the array to this file at the end, as an SVG",
-)];
-
-static SERVE: [Form; 11] = [
-    Form(
-        "port",
-        "PORT",
-        PORT,
-        Otherwise::Refused,
-        "The port for hosts",
-    ),
-    Form(
-        "sessions",
-        "COUNT",
-        Value::Number(1, 64),
-        Otherwise::Nothing,
-        "End after so many connections of hosts, 1 to 64",
-    ),
-    Form(
-        "operator",
-        "PORT",
-        PORT,
-        Otherwise::Nothing,
-        "The port for operators, whose stop ends the service",
-    ),
-    Form(
-        "http",
-        "PORT",
-        PORT,
-        Otherwise::Nothing,
-        "The port for browsers and Prometheus",
-    ),
-    Form(
-        "http-host",
-        "NAME",
-        Value::Text,
-        Otherwise::Nothing,
-        "A name that HTTP clients may use, beside localhost",
-    ),
-    Form(
-        "iscsi",
-        "PORT",
-        PORT,
-        Otherwise::Nothing,
-        "The port for iSCSI initiators",
-    ),
-    Form(
-        "login-timeout",
-        "SECONDS",
-        SECONDS,
-        Otherwise::Value("10"),
-        "How long a login may take",
-    ),
-    Form(
-        "idle-timeout",
-        "SECONDS",
-        SECONDS,
-        Otherwise::Nothing,
-        "How long a session may be silent",
-    ),
-    Form(
-        "audit",
-        "HOW",
-        Value::Name(&["full", "off"]),
-        Otherwise::Value("full"),
-        "Compare what hosts were answered with the history",
-    ),
-    Form(
-        "log",
-        "LOG",
-        Value::Flag,
-        Otherwise::Nothing,
-        "Log sessions, disks and units on standard error",
-    ),
-    Form(
-        "UNIT",
-        "UNIT",
-        Value::Words,
-        Otherwise::Nothing,
-        "Units to create, HOST:LUN:SIZE in sectors or as 32M",
-    ),
-];
-
-/// The value of a port's option.
-const PORT: Value = Value::Number(1, 65_535);
-
-/// The value of an option of at most a day.
-const SECONDS: Value = Value::Number(1, 86_400);
-
-static ABOUT: &str = "A disk array of two levels, mirrored and parity groups, for up to four hosts";
-
-static EXAMPLES: &str = "Examples:\n  \
-    autoraid run < examples/life.script\n  \
-    autoraid serve --port 7117 --operator 7118 0:0:32M";
-
-static RUN_EXAMPLE: &str =
-    "Example:\n  autoraid run --disks 5 --cache 16 --picture array.svg < examples/life.script";
-
-static SERVE_EXAMPLE: &str =
-    "One of --sessions and --operator is wanted, since nothing else would end it. All ports \
-    are those of 127.0.0.1.\n\nExample:\n  \
-    autoraid serve --port 7117 --operator 7118 --http 7119 --extents 40 0:0:32M 1:0:8192";
+/// The most bytes of an array's name.
+const MAX_NAME: usize = 64;
 
 /// Reads the words of a command line, the program's name first.
 pub fn order_in<S: AsStr>(alloc: Global, words: &[S]) -> Result<Order, UsageFault> {
@@ -222,53 +137,72 @@ pub fn order_in<S: AsStr>(alloc: Global, words: &[S]) -> Result<Order, UsageFaul
     }
 }
 
-fn command<'a>(alloc: Global) -> Result<Command<'a>, AllocError> {
-    let run = Command::new(alloc, "run")
-        .about("Run a script of standard input on a new array")
-        .after_help(RUN_EXAMPLE);
-    let serve = Command::new(alloc, "serve")
-        .about("Serve a new array to hosts, operators, initiators and HTTP clients")
-        .after_help(SERVE_EXAMPLE);
-    let run = with_forms(alloc, with_forms(alloc, run, &RUN)?, &ARRAY)?;
-    let serve = with_forms(alloc, with_forms(alloc, serve, &SERVE)?, &ARRAY)?;
-    Command::new(alloc, "autoraid")
-        .about(ABOUT)
-        .after_help(EXAMPLES)
-        .version(VERSION)
-        .subcommand_required(true)
-        .subcommand(run)?
-        .subcommand(serve)
-}
-
 fn order_of(alloc: Global, matches: &ArgMatches<'_>) -> Result<Order, UsageFault> {
     match matches.subcommand() {
         Some(("run", options)) => {
             let array = array_of(alloc, options)?;
             Ok(Order::Run(array, text_of(alloc, options, "picture")?))
         }
+        Some(("create", options)) => Ok(Order::Create(create_options_of(alloc, options)?)),
+        Some(("check", options)) => Ok(Order::Check(folder_of(alloc, options)?)),
         Some((_, options)) => Ok(Order::Serve(serve_options_of(alloc, options)?)),
-        None => Err(bad_value(alloc, "run or serve is wanted")),
+        None => Err(bad_value(alloc, "one of run, create, check and serve is required")),
     }
 }
 
 fn array_of(alloc: Global, options: &ArgMatches<'_>) -> Result<ArrayOptions, UsageFault> {
-    let geometry = match options.get_str("geometry") {
+    Ok(ArrayOptions {
+        geometry: geometry_of(options),
+        disks: disks_of(options),
+        extents: extents_of(options),
+        cache: cache_of(alloc, options)?,
+    })
+}
+
+fn geometry_of(options: &ArgMatches<'_>) -> Geometry {
+    match options.get_str("geometry") {
         Some("paper") => Geometry::PAPER,
         _ => Geometry::SMALL,
-    };
-    let cache = options.get_str("cache").unwrap_or("0");
-    let Some(cache) = blocks_in(cache, geometry) else {
-        return Err(bad_value(
+    }
+}
+
+fn disks_of(options: &ArgMatches<'_>) -> u8 {
+    options.get_one("disks").unwrap_or(4)
+}
+
+fn extents_of(options: &ArgMatches<'_>) -> u16 {
+    options.get_one("extents").unwrap_or(4)
+}
+
+// Blocks of a store have the size with which it was created. It isn't known here, so that a cache's size can't be
+// counted in them unless the command line has the geometry, which the caller compares with the store's.
+fn cache_of(alloc: Global, options: &ArgMatches<'_>) -> Result<u32, UsageFault> {
+    let word = options.get_str("cache").unwrap_or("0");
+    let is_size = number(word).is_none();
+    if is_size && is_given(options, "store") && !is_given(options, "geometry") {
+        return Err(bad_cache(alloc, word, "with --store a size requires --geometry"));
+    }
+    match blocks_in(word, geometry_of(options)) {
+        Some(blocks) => Ok(blocks),
+        None => Err(bad_cache(
             alloc,
-            "invalid value for '--cache <BLOCKS>': at most 65536 blocks are wanted, or their size as 32M",
-        ));
-    };
-    Ok(ArrayOptions {
-        geometry,
-        disks: options.get_one("disks").unwrap_or(4),
-        extents: options.get_one("extents").unwrap_or(4),
-        cache,
-    })
+            word,
+            "at most 65536 blocks are allowed, or a size of whole blocks as 32M",
+        )),
+    }
+}
+
+// The fault of a cache, in the words that `clap` has for other values.
+fn bad_cache(alloc: Global, word: &str, why: &str) -> UsageFault {
+    match format!(in alloc; "invalid value '{word}' for '--cache <BLOCKS>': {why}") {
+        Ok(text) => UsageFault::Bad(text),
+        Err(_) => UsageFault::Words(CommandLineFault::NoMemory),
+    }
+}
+
+// Whether the words have an option: its default doesn't count.
+fn is_given(options: &ArgMatches<'_>, name: &str) -> bool {
+    matches!(options.value_source(name), Some(ValueSource::CommandLine))
 }
 
 // The blocks of a cache: a number of them, or a size that is a whole number of them.
@@ -279,7 +213,7 @@ fn blocks_in(word: &str, geometry: Geometry) -> Option<u32>
         Some(blocks) => blocks,
         None => whole_blocks(sectors(word)?, geometry)?,
     };
-    if blocks > MOST_CACHE {
+    if blocks > MAX_CACHE {
         return None;
     }
     u32::try_from(blocks).ok()
@@ -294,6 +228,36 @@ fn whole_blocks(sectors: u32, geometry: Geometry) -> Option<u64> {
     Some(u64::from(sectors / of_block))
 }
 
+fn create_options_of(alloc: Global, options: &ArgMatches<'_>) -> Result<CreateOptions, UsageFault> {
+    let store = folder_of(alloc, options)?;
+    let name = name_of(alloc, options)?;
+    Ok(CreateOptions {
+        store,
+        name,
+        geometry: geometry_of(options),
+        disks: disks_of(options),
+        extents: extents_of(options),
+    })
+}
+
+// The folder of a store, where it is required.
+fn folder_of(alloc: Global, options: &ArgMatches<'_>) -> Result<String, AllocError> {
+    String::from_str(alloc, options.get_str("store").unwrap_or(""))
+}
+
+fn name_of(alloc: Global, options: &ArgMatches<'_>) -> Result<String, UsageFault>
+    ensures { IfOk result (λ name. length (string_bytes name) ≤ 64) }
+{
+    let name = options.get_str("name").unwrap_or("");
+    if name.len() > MAX_NAME {
+        return Err(bad_value(
+            alloc,
+            "invalid value for '--name <NAME>': at most 64 bytes are allowed",
+        ));
+    }
+    Ok(String::from_str(alloc, name)?)
+}
+
 fn serve_options_of(alloc: Global, options: &ArgMatches<'_>) -> Result<ServeOptions, UsageFault> {
     let array = array_of(alloc, options)?;
     let sessions = options.get_one("sessions");
@@ -301,31 +265,78 @@ fn serve_options_of(alloc: Global, options: &ArgMatches<'_>) -> Result<ServeOpti
     if sessions.is_none() && operator.is_none() {
         return Err(bad_value(
             alloc,
-            "one of --sessions COUNT and --operator PORT is wanted",
+            "one of --sessions COUNT and --operator PORT is required",
         ));
     }
+    let audit = audit_of(alloc, options)?;
+    let store = store_of(alloc, options)?;
     let (units, words) = units_of(alloc, options.get_strs("UNIT").unwrap_or(&[]))?;
     Ok(ServeOptions {
         array,
+        store,
         log: options.get_flag("log"),
         port: options.get_one("port").unwrap_or(0),
         sessions,
         operator,
         http: options.get_one("http"),
-        http_host: text_of(alloc, options, "http-host")?,
         iscsi: options.get_one("iscsi"),
         login_timeout: options.get_one("login-timeout"),
         idle_timeout: options.get_one("idle-timeout"),
-        audit: audit_of(options),
+        audit,
         units,
         words,
     })
 }
 
-fn audit_of(options: &ArgMatches<'_>) -> Audit {
+// The audit that is asked for. Otherwise a history is stored only where its end is in sight: initiators write whole
+// images, which would fill the memory, and the array of a store outlives any history.
+fn audit_of(alloc: Global, options: &ArgMatches<'_>) -> Result<Audit, UsageFault> {
+    let has_store = is_given(options, "store");
     match options.get_str("audit") {
-        Some("off") => Audit::Off,
-        _ => Audit::Full,
+        Some("full") if has_store => Err(bad_value(
+            alloc,
+            "'--audit full' cannot be used with '--store <FOLDER>': an array with a store keeps no history",
+        )),
+        Some("full") => Ok(Audit::Full),
+        Some(_) => Ok(Audit::Off),
+        None if has_store || is_given(options, "iscsi") => Ok(Audit::Off),
+        None if is_given(options, "sessions") => Ok(Audit::Full),
+        None => Ok(Audit::Off),
+    }
+}
+
+// The store, if one is named.
+fn store_of(alloc: Global, options: &ArgMatches<'_>) -> Result<Option<StoreOptions>, UsageFault> {
+    match options.get_str("store") {
+        Some(folder) => Ok(Some(StoreOptions {
+            folder: String::from_str(alloc, folder)?,
+            sync: sync_of(options),
+            commit_every: options.get_one("commit-every").unwrap_or(1),
+            shape: shape_of(options),
+        })),
+        None if is_given(options, "sync") => {
+            Err(bad_value(alloc, "'--sync <MODE>' requires '--store <FOLDER>'"))
+        }
+        None if is_given(options, "commit-every") => Err(bad_value(
+            alloc,
+            "'--commit-every <SECONDS>' requires '--store <FOLDER>'",
+        )),
+        None => Ok(None),
+    }
+}
+
+fn sync_of(options: &ArgMatches<'_>) -> SyncMode {
+    match options.get_str("sync") {
+        Some("always") => SyncMode::Always,
+        _ => SyncMode::Flush,
+    }
+}
+
+fn shape_of(options: &ArgMatches<'_>) -> ShapeOptions {
+    ShapeOptions {
+        geometry: is_given(options, "geometry").then_some(geometry_of(options)),
+        disks: is_given(options, "disks").then_some(disks_of(options)),
+        extents: is_given(options, "extents").then_some(extents_of(options)),
     }
 }
 

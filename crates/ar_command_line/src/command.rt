@@ -44,24 +44,37 @@ fn shown_or_refused<'a>(alloc: Global, error: &ParseError) -> Result<Parsed<'a>,
     }
 }
 
-// One line of an error's text: what is wrong, and the usage where it says that.
+// One line of an error's text: what is wrong, what is similar, and the usage, where it has them.
 fn reason(alloc: Global, text: &str) -> Result<String, AllocError> {
     let text = text.strip_prefix("error: ").unwrap_or(text);
-    let (wrong, rest) = text.split_once("\n\n").unwrap_or((text, ""));
     let mut reason = String::new(alloc);
-    add_lines(&mut reason, wrong)?;
-    if let Some((_, usage)) = rest.split_once("Usage: ") {
-        let (usage, _) = usage.split_once('\n').unwrap_or((usage, ""));
-        reason.push_str("; usage: ")?;
-        reason.push_str(usage)?;
+    for part in text.split("\n\n") {
+        add_part(&mut reason, part)?;
     }
     Ok(reason)
 }
 
+// Adds a paragraph of an error's text. The last names --help, for which this line needs no space.
+fn add_part(reason: &mut String, part: &str) -> Result<(), AllocError> {
+    if part.starts_with("For more information") {
+        return Ok(());
+    }
+    if !reason.is_empty() {
+        reason.push_str("; ")?;
+    }
+    match part.strip_prefix("Usage: ") {
+        Some(usage) => {
+            reason.push_str("usage: ")?;
+            add_lines(reason, usage)
+        }
+        None => add_lines(reason, part),
+    }
+}
+
 // Adds a text's lines as one.
 fn add_lines(reason: &mut String, text: &str) -> Result<(), AllocError> {
-    for line in text.lines() {
-        if !reason.is_empty() {
+    for (number, line) in text.lines().enumerate() {
+        if number > 0 {
             reason.push(' ')?;
         }
         reason.push_str(line.trim())?;

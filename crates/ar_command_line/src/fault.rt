@@ -42,7 +42,7 @@ impl From<AllocError> for UsageFault {
     }
 }
 
-/// The fault of an option's value.
+/// The fault of a command line, by its reason.
 pub fn bad_value(alloc: Global, text: &str) -> UsageFault {
     match String::from_str(alloc, text) {
         Ok(text) => UsageFault::Bad(text),

@@ -70,7 +70,8 @@ fn argument<'a>(alloc: Global, form: Form) -> Arg<'a> {
 fn with_value(argument: Arg<'_>, value: Value) -> Arg<'_> {
     match value {
         Value::Number(least, most) => argument.value_parser(ValueParser::unsigned(least, most)),
-        Value::Name(names) => argument.value_parser(names),
+        // The row's help says what each name means, which the bare list would repeat.
+        Value::Name(names) => argument.value_parser(names).hide_possible_values(true),
         Value::Flag => argument.action(ArgAction::SetTrue),
         Value::Text | Value::Words => argument,
     }

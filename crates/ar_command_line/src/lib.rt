@@ -3,11 +3,15 @@
 #![tactic(auto)]
 
 mod array;
+mod array_forms;
 mod client;
 mod command;
 mod fault;
 mod form;
 
-pub use array::{ArrayOptions, Audit, Order, ServeOptions, UnitOption, order_in};
+pub use array::{
+    ArrayOptions, Audit, CreateOptions, Order, ServeOptions, ShapeOptions, StoreOptions, SyncMode,
+    UnitOption, order_in,
+};
 pub use client::{Account, account_in};
 pub use fault::UsageFault;

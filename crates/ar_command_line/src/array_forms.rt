@@ -1,0 +1,247 @@
+// The options of `autoraid` as tables, and its command. `run` and `serve` create an array of a shape with a cache, and
+// `create` a store for an array of a shape, so that these options are tables of their own.
+use crate::form::{Form, Otherwise, Value, with_forms};
+use ar_cli::VERSION;
+use clap::Command;
+use std::alloc::{AllocError, Global};
+
+/// The value of a port's option.
+const PORT: Value = Value::Number(1, 65_535);
+
+/// The value of an option of at most a day.
+const SECONDS: Value = Value::Number(1, 86_400);
+
+static SHAPE: [Form; 3] = [
+    Form(
+        "geometry",
+        "NAME",
+        Value::Name(&["small", "paper"]),
+        Otherwise::Value("small"),
+        "small: blocks of 1 KiB; paper: of 64 KiB",
+    ),
+    Form(
+        "disks",
+        "COUNT",
+        Value::Number(4, 12),
+        Otherwise::Value("4"),
+        "Disks, 4 to 12",
+    ),
+    Form(
+        "extents",
+        "COUNT",
+        Value::Number(1, 1_024),
+        Otherwise::Value("4"),
+        "Extents of each disk, 1 to 1024",
+    ),
+];
+
+static CACHE: [Form; 1] = [Form(
+    "cache",
+    "BLOCKS",
+    Value::Text,
+    Otherwise::Value("0"),
+    "The write cache, 0 to 65536 blocks, or a size as 32M",
+)];
+
+static RUN: [Form; 1] = [Form(
+    "picture",
+    "FILE",
+    Value::Text,
+    Otherwise::Nothing,
+    "Draw the array to this file at the end, as an SVG",
+)];
+
+static CREATE: [Form; 2] = [
+    Form(
+        "store",
+        "FOLDER",
+        Value::Text,
+        Otherwise::Refused,
+        "The folder of the store",
+    ),
+    Form(
+        "name",
+        "NAME",
+        Value::Text,
+        Otherwise::Nothing,
+        "The array's name, at most 64 bytes; empty if not given",
+    ),
+];
+
+static CHECK: [Form; 1] = [Form(
+    "store",
+    "FOLDER",
+    Value::Text,
+    Otherwise::Refused,
+    "The folder of the store",
+)];
+
+static PORTS: [Form; 5] = [
+    Form(
+        "port",
+        "PORT",
+        PORT,
+        Otherwise::Refused,
+        "The port for hosts",
+    ),
+    Form(
+        "sessions",
+        "COUNT",
+        Value::Number(1, 64),
+        Otherwise::Nothing,
+        "End after COUNT connections of hosts, 1 to 64",
+    ),
+    Form(
+        "operator",
+        "PORT",
+        PORT,
+        Otherwise::Nothing,
+        "The port for operators, whose stop ends the service",
+    ),
+    Form(
+        "http",
+        "PORT",
+        PORT,
+        Otherwise::Nothing,
+        "The port for browsers and Prometheus",
+    ),
+    Form(
+        "iscsi",
+        "PORT",
+        PORT,
+        Otherwise::Nothing,
+        "The port for iSCSI initiators",
+    ),
+];
+
+static SERVE: [Form; 5] = [
+    Form(
+        "login-timeout",
+        "SECONDS",
+        SECONDS,
+        Otherwise::Value("10"),
+        "How long a login may take",
+    ),
+    Form(
+        "idle-timeout",
+        "SECONDS",
+        SECONDS,
+        Otherwise::Nothing,
+        "How long a session may be silent",
+    ),
+    Form(
+        "audit",
+        "HOW",
+        Value::Name(&["full", "off"]),
+        Otherwise::Nothing,
+        "full: keep all commands, and compare them at the end; or off",
+    ),
+    Form(
+        "log",
+        "LOG",
+        Value::Flag,
+        Otherwise::Nothing,
+        "Log sessions, disks and units on standard error",
+    ),
+    Form(
+        "UNIT",
+        "UNIT",
+        Value::Words,
+        Otherwise::Nothing,
+        "Units to create, HOST:LUN:SIZE in sectors or as 32M",
+    ),
+];
+
+static STORE: [Form; 3] = [
+    Form(
+        "store",
+        "FOLDER",
+        Value::Text,
+        Otherwise::Nothing,
+        "Serve the array of the store in this folder",
+    ),
+    Form(
+        "sync",
+        "MODE",
+        Value::Name(&["flush", "always"]),
+        Otherwise::Value("flush"),
+        "flush: sync at flushes; always: at each write",
+    ),
+    Form(
+        "commit-every",
+        "SECONDS",
+        Value::Number(1, 3_600),
+        Otherwise::Value("1"),
+        "Sync at least this often, 1 to 3600",
+    ),
+];
+
+static ABOUT: &str = "A disk array of two levels, mirrored and parity groups, for up to four hosts";
+
+static EXAMPLES: &str = "Examples:\n  \
+    autoraid run < examples/life.script\n  \
+    autoraid serve --port 7117 --operator 7118 0:0:32M";
+
+static RUN_EXAMPLE: &str =
+    "Example:\n  autoraid run --disks 5 --cache 16 --picture array.svg < examples/life.script";
+
+static CREATE_EXAMPLE: &str =
+    "Example:\n  autoraid create --store /srv/array --name backup --geometry paper --extents 64";
+
+static CHECK_EXAMPLE: &str = "Example:\n  autoraid check --store /srv/array";
+
+static SERVE_EXAMPLE: &str =
+    "All ports are those of 127.0.0.1. One of --sessions and --operator is required, since nothing\n\
+    else ends the service. --audit is full with --sessions, unless --iscsi or --store is given,\n\
+    and off otherwise. The array of a store has the store's own geometry, disks and extents.\n\n\
+    Example:\n  \
+    autoraid serve --port 7117 --operator 7118 --http 7119 --extents 40 0:0:32M 1:0:8192";
+
+/// The command of `autoraid`, with a subcommand for each way to use it.
+pub fn command<'a>(alloc: Global) -> Result<Command<'a>, AllocError> {
+    Command::new(alloc, "autoraid")
+        .about(ABOUT)
+        .after_help(EXAMPLES)
+        .version(VERSION)
+        .subcommand_required(true)
+        .subcommand_value_name("run|create|check|serve")
+        .subcommand(run(alloc)?)?
+        .subcommand(create(alloc)?)?
+        .subcommand(check(alloc)?)?
+        .subcommand(serve(alloc)?)
+}
+
+fn run<'a>(alloc: Global) -> Result<Command<'a>, AllocError> {
+    let command = Command::new(alloc, "run")
+        .about("Run a script of standard input on a new array")
+        .after_help(RUN_EXAMPLE);
+    let command = with_forms(alloc, command, &RUN)?;
+    let command = with_forms(alloc, command, &SHAPE)?;
+    with_forms(alloc, command, &CACHE)
+}
+
+fn create<'a>(alloc: Global) -> Result<Command<'a>, AllocError> {
+    let command = Command::new(alloc, "create")
+        .about("Create a store, which keeps an array in a folder")
+        .after_help(CREATE_EXAMPLE);
+    let command = with_forms(alloc, command, &CREATE)?;
+    with_forms(alloc, command, &SHAPE)
+}
+
+fn check<'a>(alloc: Global) -> Result<Command<'a>, AllocError> {
+    let command = Command::new(alloc, "check")
+        .about("Check the store in a folder")
+        .after_help(CHECK_EXAMPLE);
+    with_forms(alloc, command, &CHECK)
+}
+
+fn serve<'a>(alloc: Global) -> Result<Command<'a>, AllocError> {
+    let command = Command::new(alloc, "serve")
+        .about("Serve an array to hosts, operators, initiators and HTTP clients")
+        .after_help(SERVE_EXAMPLE);
+    let command = with_forms(alloc, command, &PORTS)?;
+    let command = with_forms(alloc, command, &SERVE)?;
+    let command = with_forms(alloc, command, &STORE)?;
+    let command = with_forms(alloc, command, &SHAPE)?;
+    with_forms(alloc, command, &CACHE)
+}
