@@ -1,24 +1,25 @@
 // Failures of the program, with their messages and exit status.
 use crate::drawing::DrawingFault;
 use crate::serve::ServeFault;
-use ar_cli::{CommandLineFault, ExitStatus};
+use crate::stored::StoreFault;
+use ar_cli::ExitStatus;
 use ar_language::Fault;
 use thiserror::Error;
 
-/// Why the program exits with a status other than 0.
+/// Why the program exits with a status other than 0. A refused command line has a fault of its own.
 #[derive(Debug, Drop, Error)]
 pub enum Failure {
-    #[error(transparent)]
-    CommandLine(#[from] CommandLineFault),
-    /// This word of the command line names no unit.
-    #[error("bad unit {0}")]
-    BadUnit(String),
+    /// Standard output can't be written.
+    #[error("write fault")]
+    Write,
     #[error(transparent)]
     Script(Fault),
     #[error(transparent)]
     Drawing(DrawingFault),
     #[error(transparent)]
     Serve(ServeFault),
+    #[error(transparent)]
+    Store(StoreFault),
 }
 
 impl ExitStatus for Failure {
@@ -28,8 +29,7 @@ impl ExitStatus for Failure {
 
     fn status(&self) -> u8 {
         match self {
-            Failure::CommandLine(fault) => fault.status(),
-            Failure::BadUnit(_) => 2,
+            Failure::Serve(ServeFault::Store) => 4,
             _ => 1,
         }
     }

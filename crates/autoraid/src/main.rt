@@ -1,15 +1,18 @@
-//! The array as a program: `autoraid run` executes a script on standard input and may draw the array, `autoraid serve`
-//! serves hosts over TCP.
+//! The array as a program: `autoraid run` executes a script on standard input and may draw the array, `autoraid create`
+//! creates a store for an array, `autoraid check` checks one, and `autoraid serve` serves an array to hosts over TCP.
 #![tactic(auto)]
 
 mod command_line;
 mod drawing;
 mod failure;
 mod serve;
+mod stored;
 
-use ar_cli::{end_with, words_of};
+use ar_cli::{end_with, fail, words_of};
+use ar_command_line::{CreateOptions, Order, ServeOptions, UsageFault, order_in};
 use ar_script::{Runner, Setup, run_on, run_script};
-use command_line::{Order, RandomNumbers, Service, order_in};
+use ar_service::ServiceRuntime;
+use command_line::{RandomNumbers, Service, setup_of};
 use drawing::draw;
 use failure::Failure;
 use log::sink::Console;
@@ -25,25 +28,36 @@ use std::thread::Threads;
 use std::time::Clock;
 
 fn main(rt: HostRuntime) -> ExitCode {
+    let alloc = rt.alloc();
     let done = match order(&rt) {
-        Ok(Order::Run(setup, file)) => run(&rt, setup, &file),
-        Ok(Order::Serve(service)) => serve_logging(&rt, rt.alloc(), &service).map_err(
-            Failure::Serve,
-        ),
-        Err(failure) => Err(failure),
+        Ok(Order::Shown(text)) => print!(rt; "{text}").map_err(|_| Failure::Write),
+        Ok(Order::Run(array, file)) => run(&rt, setup_of(array), &file),
+        Ok(Order::Create(options)) => create(&rt, alloc, &options),
+        Ok(Order::Check(folder)) => check(&rt, alloc, folder.as_str()),
+        Ok(Order::Serve(options)) => serve_hosts(&rt, &rt, alloc, options),
+        Err(fault) => return fail(&rt, &fault),
     };
     end_with(&rt, done)
 }
 
 // Reads the command line.
-fn order(rt: &HostRuntime) -> Result<Order, Failure> {
+fn order(rt: &HostRuntime) -> Result<Order, UsageFault> {
     let alloc = rt.alloc();
     let words = words_of(rt, alloc)?;
     order_in(alloc, words.as_slice())
 }
 
-// Serves hosts, and logs what failed and, if that is asked for, the start and the end of each session.
-fn serve_logging<
+fn create(rt: &HostRuntime, alloc: Global, options: &CreateOptions) -> Result<(), Failure> {
+    stored::create(rt, alloc, options).map_err(Failure::Store)
+}
+
+fn check(rt: &HostRuntime, alloc: Global, folder: &str) -> Result<(), Failure> {
+    stored::check(rt, alloc, folder).map_err(Failure::Store)
+}
+
+// Serves hosts. `files` is `rt` once more: a store's files are opened by the runtime's own type, which starts no
+// threads outside of `main`.
+fn serve_hosts<
     R: Threads
         + Wait
         + Clock
@@ -52,25 +66,49 @@ fn serve_logging<
         + Eprint
         + RandomSource
         + Sync,
->(rt: &R, alloc: Global, service: &Service) -> Result<(), ServeFault> {
-    let random = random_for(rt, service)?;
-    let level = if service.log {
+>(rt: &R, files: &HostRuntime, alloc: Global, options: ServeOptions) -> Result<(), Failure> {
+    let Ok(service) = Service::new(alloc, options) else {
+        return Err(Failure::Serve(ServeFault::NoMemory));
+    };
+    let random = random_for(rt, &service).map_err(Failure::Serve)?;
+    let level = if service.options.log {
         Level::Info
     } else {
         Level::Warn
     };
     let logged = Logged::new(rt, level, Console(rt));
-    run_server(&logged.with_target("autoraid"), alloc, service, random)
+    serve_array(
+        &logged.with_target("autoraid"),
+        files,
+        alloc,
+        &service,
+        random,
+    )
+}
+
+// Serves the array of a store, or a new one. The log has what failed and, if that is asked for, the start and the end
+// of each session.
+fn serve_array<R: ServiceRuntime + Sync>(
+    rt: &R,
+    files: &HostRuntime,
+    alloc: Global,
+    service: &Service,
+    random: RandomNumbers,
+) -> Result<(), Failure> {
+    match &service.options.store {
+        Some(options) => stored::serve(rt, files, alloc, service, options, random),
+        None => run_server(rt, alloc, service, random).map_err(Failure::Serve),
+    }
 }
 
 // The random numbers that a service needs.
 fn random_for(rt: &impl RandomSource, service: &Service) -> Result<RandomNumbers, ServeFault> {
-    let keys = match service.http {
+    let keys = match service.options.http {
         Some(_) => Some(RandomState::new(rt).map_err(|_| ServeFault::Listen)?),
         None => None,
     };
     let mut array = [0; 4];
-    if service.iscsi.is_some() {
+    if service.options.iscsi.is_some() {
         rt.fill_bytes(&mut array).map_err(|_| ServeFault::Listen)?;
     }
     Ok(RandomNumbers {

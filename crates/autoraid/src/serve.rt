@@ -1,10 +1,11 @@
 // Serves an array to hosts and operators, and prints what came of it.
-use crate::command_line::{Audit, RandomNumbers, Service};
+use crate::command_line::{RandomNumbers, Service};
+use ar_command_line::Audit;
 use ar_core::Refusal;
 use ar_history::Mismatch;
 use ar_operator::{Fuse, FusedDisk, FusedMaker, start_fused};
 use ar_service::{ServiceFault, ServiceRuntime, TcpStops, serve};
-use std::alloc::Global;
+use std::alloc::{AllocError, Global};
 use std::io;
 use std::marker::Brand;
 use std::sync::atomic::AtomicBool;
@@ -35,6 +36,12 @@ pub enum ServeFault {
     /// An allocation failed.
     #[error("no memory")]
     NoMemory,
+    /// A unit is in the store with another length.
+    #[error("unit {word} has {sectors} sectors in the store")]
+    OtherSize { word: String, sectors: u32 },
+    /// What was done can't be kept.
+    #[error("store failed")]
+    Store,
 }
 
 /// Creates the array and its units, listens, and serves hosts, operators, initiators and HTTP clients. Then it compares
@@ -48,7 +55,8 @@ pub fn run_server<R: ServiceRuntime + Sync>(
 ) -> Result<(), ServeFault> {
     let fuses = Fuse::twelve();
     let stop = AtomicBool::new(false);
-    let Ok(array) = start_fused(alloc, service.setup, &fuses) else {
+    let setup = service.setup();
+    let Ok(array) = start_fused(alloc, setup, &fuses) else {
         return Err(ServeFault::Start);
     };
     let (stops, served) = serve::<FusedDisk<'_>, Brand, FusedMaker<'_>, R>(
@@ -58,14 +66,14 @@ pub fn run_server<R: ServiceRuntime + Sync>(
         array,
         (&fuses, FusedMaker::new(&fuses)),
         &stop,
-        service.plan(random),
-        service.audit == Audit::Full,
+        service.plan(setup, random),
+        service.options.audit == Audit::Full,
     );
     conclude(rt, alloc, service, stops, served)
 }
 
-// Prints what came of the service, and answers the operators that wait for it.
-fn conclude<R: ServiceRuntime>(
+/// Prints what came of a service, and answers the operators that wait for its end.
+pub fn conclude<R: ServiceRuntime>(
     rt: &R,
     alloc: Global,
     service: &Service,
@@ -84,6 +92,7 @@ fn answer_after(done: &Result<(), ServeFault>) -> &'static [u8] {
         Err(ServeFault::Mismatch) => b"fault: mismatch\n",
         Err(ServeFault::SeatOut) => b"fault: seat out\n",
         Err(ServeFault::NoMemory) => b"fault: no memory\n",
+        Err(ServeFault::Store) => b"fault: store failed\n",
         Err(_) => b"fault: write fault\n",
     }
 }
@@ -96,13 +105,19 @@ fn tell(
     served: Result<[u64; 4], ServiceFault>,
 ) -> Result<(), ServeFault> {
     match served {
-        Ok(commands) => tell_commands(rt, service.audit, commands).map_err(|_| ServeFault::Write),
+        Ok(commands) => tell_commands(rt, service.options.audit, commands).map_err(
+            |_| ServeFault::Write,
+        ),
         Err(ServiceFault::Mismatch(mismatch)) => Err(tell_mismatch(rt, mismatch)),
         Err(ServiceFault::Unit(number, refusal)) => Err(refused(alloc, service, number, refusal)),
         Err(ServiceFault::Listen) => Err(ServeFault::Listen),
         Err(ServiceFault::Write) => Err(ServeFault::Write),
         Err(ServiceFault::NoMemory) => Err(ServeFault::NoMemory),
         Err(ServiceFault::SeatOut) => Err(ServeFault::SeatOut),
+        Err(ServiceFault::OtherSize(number, sectors)) => {
+            Err(other_size(alloc, service, number, sectors))
+        }
+        Err(ServiceFault::Store) => Err(ServeFault::Store),
     }
 }
 
@@ -129,12 +144,25 @@ fn tell_mismatch(rt: &impl Print, mismatch: Mismatch) -> ServeFault {
 
 // The failure of a unit that can't be created, by its number on the command line.
 fn refused(alloc: Global, service: &Service, number: usize, refusal: Refusal) -> ServeFault {
-    let word = match service.words.get(number) {
-        Some(word) => word.as_str(),
-        None => "",
-    };
-    match String::from_str(alloc, word) {
+    match word_of(alloc, service, number) {
         Ok(word) => ServeFault::Unit { word, refusal },
         Err(_) => ServeFault::NoMemory,
     }
+}
+
+// That of a unit that is there with another length.
+fn other_size(alloc: Global, service: &Service, number: usize, sectors: u32) -> ServeFault {
+    match word_of(alloc, service, number) {
+        Ok(word) => ServeFault::OtherSize { word, sectors },
+        Err(_) => ServeFault::NoMemory,
+    }
+}
+
+// The word of the command line for the unit of this number.
+fn word_of(alloc: Global, service: &Service, number: usize) -> Result<String, AllocError> {
+    let word = match service.options.words.get(number) {
+        Some(word) => word.as_str(),
+        None => "",
+    };
+    String::from_str(alloc, word)
 }
