@@ -122,7 +122,7 @@ class Output:
             self.came.notify_all()
 
     def line(self, seconds):
-        """The next line; '' at the end, or once so many seconds have passed."""
+        """The next line; '' at the end, or once this many seconds have passed."""
         with self.came:
             self.came.wait_for(lambda: self.lines or self.is_over, seconds)
             return self.lines.pop(0) if self.lines else ""
@@ -192,7 +192,7 @@ def connected(port):
 
 
 def exactly(link, count):
-    """So many bytes, or fewer where the other side has closed."""
+    """This many bytes, or fewer where the other side has closed."""
     found = b""
     while len(found) < count and (part := link.recv(count - len(found))):
         found += part
@@ -218,7 +218,7 @@ def answered(port, sent):
 
 
 def reset(link):
-    """Closes a connection without its end being told first."""
+    """Closes a connection without announcing its end first."""
     link.setsockopt(socket.SOL_SOCKET, socket.SO_LINGER, struct.pack("ii", 1, 0))
     link.close()
 
@@ -312,7 +312,7 @@ class Operator:
             answer.append(said.rstrip("\n"))
         return answer
 
-    def tells(self, sent):
+    def answer_to(self, sent):
         """The one line that answers these bytes."""
         self.link.sendall(sent)
         return self.lines.readline()
@@ -441,19 +441,29 @@ def get(port, path, method="GET"):
 
 
 class Server(Running):
-    """`autoraid serve` with these words, at free ports: that of hosts, and by name those of `doors`."""
+    """`autoraid serve` with these words, at free ports: that of hosts, and by name those of `doors`.
+
+    It compares transcripts with the history, unless `audit` is "off". With None the option is left out: `ending` is
+    then the last line of the report that is wanted.
+    """
 
     DOORS = {"operator": "--operator", "http": "--http", "iscsi": "--iscsi"}
     # None: the built program.
     PROGRAM = None
 
-    def __init__(self, *words, doors=("operator",), audit="full", before=(), **how):
-        self.ending = "closed ok" if audit == "full" else "closed"
+    def __init__(self, *words, doors=("operator",), audit="full", ending=None, before=(), **how):
+        self.ending = ending or ("closed ok" if audit == "full" else "closed")
         self.port, self.doors = free_port(), {door: free_port() for door in doors}
         options = [word for door in doors for word in (self.DOORS[door], self.doors[door])]
-        line = [self.PROGRAM or program("autoraid"), "serve", "--port", self.port, *options, "--audit", audit]
+        options += ["--audit", audit] if audit else []
+        line = [self.PROGRAM or program("autoraid"), "serve", "--port", self.port, *options]
         super().__init__(*before, *line, *words, **how)
-        if how.get("stdout") is None and (first := self.line()) != f"listening {self.port}\n":
+        # What a start from a store says that it has done.
+        self.recovered = ""
+        first = self.line() if how.get("stdout") is None else f"listening {self.port}\n"
+        if first.startswith("recovered "):
+            self.recovered, first = first, self.line()
+        if first != f"listening {self.port}\n":
             self.kill()
             raise ConnectionError(f"the server began with {first!r} and {self.ended()}")
 
@@ -480,7 +490,7 @@ class Server(Running):
     def operator(self):
         return Operator(self.operator_port)
 
-    def told(self, lines):
+    def answers_to(self, lines):
         """What an operator is answered to these lines, until the connection ends."""
         return answered(self.operator_port, lines.encode()).decode()
 
@@ -509,7 +519,7 @@ class Server(Running):
 
     def wait_for_none(self):
         """Waits until all sessions have ended, and returns those that are left."""
-        return waited(lambda: self.told("sessions\n"), "")
+        return waited(lambda: self.answers_to("sessions\n"), "")
 
     def report(self, commands):
         """What it prints at its end: how many commands of each host it has served, and that each transcript agrees."""
@@ -593,8 +603,8 @@ class Case(unittest.TestCase):
         return thing
 
     def stops(self, server, commands=None, error="", seconds=PATIENCE):
-        """Looks that an operator's stop ends a server well, with so many commands of each host in its report."""
-        self.wants(server.told("stop\n"), "stopped\n", "an operator's stop")
+        """Looks that an operator's stop ends a server well, with this many commands of each host in its report."""
+        self.wants(server.answers_to("stop\n"), "stopped\n", "an operator's stop")
         self.ends(server, commands, error, seconds)
 
     def ends(self, server, commands=None, error="", seconds=PATIENCE):

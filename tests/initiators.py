@@ -67,7 +67,7 @@ class InitiatorCase(Case):
         return said
 
     def is_whole_again(self, server):
-        said = waited(lambda: server.told("health\n"), "whole\n")
+        said = waited(lambda: server.answers_to("health\n"), "whole\n")
         self.wants(said, "whole\n", "the health once a disk is rebuilt")
 
     def room(self):

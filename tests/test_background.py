@@ -20,7 +20,7 @@ class Background(Case):
         server = self.watched("--extents", "64", "0:0:200")
         host = self.kept(server.log_in(0))
         self.wants(host.writes(0, b"r" * 512 * 200).status, GOOD, "a WRITE")
-        self.wants(server.told("out 2\nreplace 2\n"), "ok\nok\n", "a disk that is taken out and replaced")
+        self.wants(server.answers_to("out 2\nreplace 2\n"), "ok\nok\n", "a disk that is taken out and replaced")
         seen, wrong, begun = set(), 0, time.monotonic()
         while (health := server.get("/healthz/whole")[2]) != "whole\n":
             seen.add(health[:12])
@@ -29,7 +29,7 @@ class Background(Case):
         self.wants(wrong, 0, "READs that differ meanwhile")
         passed = time.monotonic() - begun
         self.holds(passed < 30, "64 extents are rebuilt within 30 s", f"{passed:.1f} s")
-        self.wants(host.reads(0, 200).data, b"r" * 512 * 200, "a READ behind it")
+        self.wants(host.reads(0, 200).data, b"r" * 512 * 200, "a READ after it")
 
     def test_destaging_without_an_order(self):
         """A hundred cached blocks are destaged with no order of an operator."""
@@ -42,7 +42,7 @@ class Background(Case):
         self.wants(host.reads(0, 200).data, b"c" * 512 * 200, "a READ of destaged blocks")
 
     def test_blocks_wait_in_the_cache(self):
-        """Right behind a long WRITE blocks are cached, if there is a cache."""
+        """Right after a long WRITE blocks are cached, if there is a cache."""
         for cache in 1024, 0:
             server = self.watched("--cache", cache, "--extents", "512", "0:0:2000")
             host, most = self.kept(server.log_in(0)), 0
@@ -85,7 +85,7 @@ class Background(Case):
 
         looking = threading.Thread(target=look)
         looking.start()
-        said = server.told("flush\n" * 200).splitlines()
+        said = server.answers_to("flush\n" * 200).splitlines()
         looking.join(60)
         self.wants((len(said), looks), (200, [200] * 200), "answers to orders, and the status of looks")
         self.stops(server, [0, 0, 0, 0])
@@ -109,7 +109,7 @@ class Background(Case):
             said = [host.receives() for host in hosts]
             self.wants([(reply.status, len(reply.data)) for reply in said], [(GOOD, 65535 * 512)] * 4, "long READs")
             after.append(server.resident())
-        self.holds(after[-1] - after[0] < 40 * 1024, "no more memory behind later rounds, in KiB", after)
+        self.holds(after[-1] - after[0] < 40 * 1024, "no more memory after later rounds, in KiB", after)
 
 
 class Names(Case):

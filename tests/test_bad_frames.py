@@ -195,7 +195,7 @@ class BadFrames(Case):
         turns = self.beside.ends(self)
         self.holds(turns >= TURNS, f"at least {TURNS} commands of host 0", turns)
         self.wants(self.server.wait_for_none(), "", "sessions once all have left")
-        self.wants(self.server.told("stop\n"), "stopped\n", "a stop")
+        self.wants(self.server.answers_to("stop\n"), "stopped\n", "a stop")
         report = self.ends(self.server).out.splitlines()
         # (of the commands of host 2 some were answered)
         wanted = [f"host 0 commands {turns}", "host 1 commands 0", "host 3 commands 0", "closed ok"]

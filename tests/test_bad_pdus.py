@@ -71,7 +71,7 @@ class BadPdus(Case):
             initiator.send(opcode, 0x80)
             said = initiator.receive()
             self.wants((said.opcode, said.response, said.data[0]), (0x3F, 0x05, opcode), f"opcode {opcode:02X}h")
-        self.wants(initiator.ping(b"and on").data, b"and on", "NOP-In behind them")
+        self.wants(initiator.ping(b"and on").data, b"and on", "NOP-In after them")
         initiator.close()
         self.finish()
 

@@ -85,7 +85,7 @@ class Client(Case):
         self.wants(said, Ended(1, "whole\nfault: unknown word\n", "faulty line\n"), "a line that is none")
         self.wants(ran(*words, text="stop\n"), Ended(0, "stopped\n", ""), "a stop")
         host.link.settimeout(5)
-        self.wants(rest_of(host.link), b"", "what an idle session is told by a stop")
+        self.wants(rest_of(host.link), b"", "what an idle session receives at a stop")
         self.ends(server, [0, 0, 0, 0])
 
     def test_connections_to_a_closed_port(self):

@@ -11,7 +11,7 @@ import xml.etree.ElementTree
 
 from tests.harness import Case, free_port, program, ran, shown, text_of
 
-# A run that is told this file has to write a picture to it.
+# A run that is given this file has to write a picture to it.
 PICTURE = "picture.svg"
 PORTS = "7117", "7118", "7119"
 
@@ -60,9 +60,13 @@ class CommandLines(Case):
 
 
 class Documents(Case):
-    """The array of examples/life.script is drawn in docs/array.svg, and its map is shown in docs/SCRIPT.md."""
+    def test_examples_full_array(self):
+        """A script that fills an array is answered by examples/full_array.answers."""
+        said = ran(program("autoraid"), "run", "--extents", "3", text=text_of("examples", "full_array.script"))
+        self.wants((said.status, said.out), (0, text_of("examples", "full_array.answers")), "the answers")
 
     def test_documents_picture(self):
+        """The array of examples/life.script is drawn in docs/array.svg, and its map is shown in docs/SCRIPT.md."""
         with tempfile.TemporaryDirectory() as room:
             script = text_of("examples", "life.script")
             said = ran(program("autoraid"), "run", "--picture", PICTURE, text=script, cwd=room)

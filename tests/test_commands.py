@@ -30,11 +30,11 @@ VALID = [
     ("READ (16) of one sector", "88 00 0000000000000304 00000001 00 00", SECTOR),
     ("READ (16) of 506h sectors", "88 00 0000000000000304 00000506 FF FB", SECTOR + bytes(0x505 * 512)),
     ("READ (16) with DPO, FUA, FUA_NV", "88 1A 0000000000010002 00000001 00 00", b"\xBB" * 512),
-    ("READ of nothing behind the last sector", "28 00 00011170 00 0000 00", b""),
+    ("READ of nothing after the last sector", "28 00 00011170 00 0000 00", b""),
 ]
 # What is refused: LOGICAL BLOCK ADDRESS OUT OF RANGE, INVALID COMMAND OPERATION CODE, INVALID FIELD IN CDB.
 OUT_OF_RANGE = [
-    ("the sector behind the last", "28 00 00011170 00 0001 00"),
+    ("the sector after the last", "28 00 00011170 00 0001 00"),
     ("nothing of the next", "28 00 00011171 00 0000 00"),
     ("the highest byte of the address", "28 00 01000000 00 0001 00"),
     ("the second byte of the address", "28 00 00100000 00 0001 00"),
@@ -136,7 +136,7 @@ class Blocks(Case):
     def test_broken_array(self):
         """INTERNAL TARGET FAILURE, for what needs the disks alone."""
         self.asks(write_10(0, 1), DONE, "a WRITE", SECTOR)
-        self.wants(self.server.told("out 0\nout 1\n"), "ok\nok\n", "two disks that are taken out")
+        self.wants(self.server.answers_to("out 0\nout 1\n"), "ok\nok\n", "two disks that are taken out")
         self.asks(read_10(0, 1), check(4, 0x44, 0), "a READ of lost data")
         self.asks(READY, check(4, 0x44, 0), "TEST UNIT READY of a broken array")
 
@@ -148,7 +148,7 @@ class Units(Case):
         self.host = self.kept(self.server.log_in(0))
 
     def operate(self, *lines):
-        self.wants(self.server.told("\n".join(lines) + "\n"), "ok\n" * len(lines), f"an operator's {lines}")
+        self.wants(self.server.answers_to("\n".join(lines) + "\n"), "ok\n" * len(lines), f"an operator's {lines}")
 
     def asks(self, block, wanted, what, data=b""):
         self.wants(tuple(self.host.asks(block, data)[1:]), wanted, what)
@@ -171,14 +171,14 @@ class Units(Case):
         self.operate("make 0 0 3")
         self.asks(write_10(2, 1), DONE, "a WRITE", SECTOR)
         self.operate("grow 0 0 6")
-        self.asks(inquiry(1), (GOOD, b"", b"\x00"), "INQUIRY behind a growth")
-        self.asks(read_10(0, 6), check(6, 0x2A, 9), "the first READ behind a growth")
+        self.asks(inquiry(1), (GOOD, b"", b"\x00"), "INQUIRY after a growth")
+        self.asks(read_10(0, 6), check(6, 0x2A, 9), "the first READ after a growth")
         self.asks(read_10(0, 6), (GOOD, b"", bytes(1024) + SECTOR + bytes(1536)), "the second")
         self.asks(CAPACITY, (GOOD, b"", bytes.fromhex("00000005 00000200")), "READ CAPACITY")
 
     def test_two_growths_are_told_once(self):
         self.operate("make 0 0 6", "grow 0 0 30", "grow 0 0 36")
-        self.asks(UNKNOWN, check(6, 0x2A, 9), "an unknown command behind two growths")
+        self.asks(UNKNOWN, check(6, 0x2A, 9), "an unknown command after two growths")
         self.asks(UNKNOWN, check(5, 0x20, 0), "a second one")
 
     def test_a_growth_is_forgotten_with_its_unit(self):

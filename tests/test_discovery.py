@@ -60,9 +60,9 @@ class Seats(InitiatorCase):
 
     def test_seat_of_an_initiator_that_has_left(self):
         self.succeeds("iscsi-inq", self.url(self.server, 0))
-        said = waited(lambda: self.server.told("sessions\n"), "")
+        said = waited(lambda: self.server.answers_to("sessions\n"), "")
         self.wants(said, "", "sessions once an initiator has left")
         host = self.kept(self.server.log_in(0))
-        self.wants((host.greeting, host.is_ready()), (ACCEPTED, True), "a host behind an initiator")
+        self.wants((host.greeting, host.is_ready()), (ACCEPTED, True), "a host after an initiator")
         host.close()
         self.stops(self.server)

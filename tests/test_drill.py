@@ -1,12 +1,12 @@
 """A served array is operated while four hosts compare all that they read with what they wrote.
 
 Disks fail in the middle of an access, are replaced and rebuilt, disks are added and balanced, units grow, and others
-are created and deleted beside them. No host may read a wrong byte, and with one disk missing at a time none may be told
-of a failure. Then two disks fail at once: each reply is right, or says that the data are lost.
+are created and deleted beside them. No host may read a wrong byte, and with one disk missing at a time none may see a
+failure. Then two disks fail at once: each reply is right, or says that the data are lost.
 
     DRILL_SEED=7 DRILL_MINUTES=60 python3 -m unittest -k drill
 
-repeats the drill with one seed after another until so many minutes have passed, with a line for each.
+repeats the drill with one seed after another until this many minutes have passed, with a line for each.
 """
 import os
 import random
@@ -66,7 +66,7 @@ class Drill(Case):
         units = [f"{host}:{lun}:{SECTORS}" for host in range(HOSTS) for lun in range(UNITS)]
         return self.serve(*options, *units, audit=audit)
 
-    def told(self, operator, line, *wanted):
+    def orders(self, operator, line, *wanted):
         self.wants(operator.asks(line), list(wanted or ["ok"]), line)
 
     def waits(self, operator, line, wanted):
@@ -85,26 +85,26 @@ class Drill(Case):
         """Extends a unit of a host by a few sectors."""
         lun = drawn.randrange(UNITS)
         sectors[host, lun] += drawn.randrange(1, 200)
-        self.told(operator, f"grow {host} {lun} {sectors[host, lun]}")
+        self.orders(operator, f"grow {host} {lun} {sectors[host, lun]}")
 
     def make_beside(self, operator, drawn):
         """Creates a unit that no host uses, and deletes it."""
         host, lun = drawn.randrange(HOSTS), drawn.randrange(UNITS, 8)
         sectors = drawn.randrange(1, 40)
-        self.told(operator, f"make {host} {lun} {sectors}")
-        self.told(operator, f"make {host} {lun} {sectors}", "refused M1 Exists")
-        self.told(operator, f"levels {host} {lun}", "-" * ((sectors + 1) // 2))
-        self.told(operator, f"drop {host} {lun}")
-        self.told(operator, f"drop {host} {lun}", "refused M5 Absent")
+        self.orders(operator, f"make {host} {lun} {sectors}")
+        self.orders(operator, f"make {host} {lun} {sectors}", "refused M1 Exists")
+        self.orders(operator, f"levels {host} {lun}", "-" * ((sectors + 1) // 2))
+        self.orders(operator, f"drop {host} {lun}")
+        self.orders(operator, f"drop {host} {lun}", "refused M5 Absent")
 
     def lose(self, operator, disk, accesses):
         """Has a disk fail in the middle of an access."""
-        self.told(operator, f"fail {disk} {accesses}")
+        self.orders(operator, f"fail {disk} {accesses}")
         self.waits(operator, "health", f"out {disk}")
 
     def rebuild(self, operator, disk):
         """Puts a new disk in the place of one that is out, and waits until it is rebuilt."""
-        self.told(operator, f"replace {disk}")
+        self.orders(operator, f"replace {disk}")
         self.waits(operator, "health", "whole")
 
     def is_balanced(self, operator, disks):
@@ -129,11 +129,11 @@ class Drill(Case):
         self.rebuild(operator, first)
         self.lose(operator, second, drawn.randrange(2000))
         # (a new disk fails while it is rebuilt)
-        self.told(operator, f"replace {second}")
+        self.orders(operator, f"replace {second}")
         self.lose(operator, second, drawn.randrange(EXTENTS))
         self.rebuild(operator, second)
         for _ in range(2):
-            self.told(operator, "add")
+            self.orders(operator, "add")
         for host in range(2):
             self.grow(operator, sectors, drawn, host)
         self.make_beside(operator, drawn)
@@ -141,11 +141,11 @@ class Drill(Case):
         self.wants(len(operator.asks("sessions")), HOSTS, "sessions")
         while operator.commands() < REQUESTS and load.is_running():
             self.make_beside(operator, drawn)
-            self.told(operator, f"out {first}")
+            self.orders(operator, f"out {first}")
             self.rebuild(operator, first)
-        self.told(operator, "health", "whole")
+        self.orders(operator, "health", "whole")
         self.wants(load.is_running(), True, "whether the hosts go on until the operator ends")
-        self.wants(server.told("stop\n"), "stopped\n", "a stop")
+        self.wants(server.answers_to("stop\n"), "stopped\n", "a stop")
         counts = load.ends()
         said = counts.get("attentions"), counts.get("broken")
         self.wants(said, (HOSTS + 2, 0), "replies UNIT ATTENTION, and 04/44/00")
@@ -161,13 +161,13 @@ class Drill(Case):
         operator = self.kept(server.operator())
         load = Load(self, server, seed, "--requests", REQUESTS_LOST, "--may-break")
         for disk in drawn.sample(range(DISKS), 2):
-            self.told(operator, f"fail {disk} {drawn.randrange(3000)}")
+            self.orders(operator, f"fail {disk} {drawn.randrange(3000)}")
         self.waits(operator, "health", "broken")
         counts = load.ends()
         self.holds(counts["broken"] > 0, "replies 04/44/00 once two disks have failed", counts)
-        self.told(operator, "add", "refused E6 Broken")
-        self.told(operator, "make 0 7 8", "refused M6 Broken")
-        self.wants(server.told("stop\n"), "stopped\n", "a stop")
+        self.orders(operator, "add", "refused E6 Broken")
+        self.orders(operator, "make 0 7 8", "refused M6 Broken")
+        self.wants(server.answers_to("stop\n"), "stopped\n", "a stop")
         self.ends_with(server, range(counts["requests"] + 1))
         return counts["requests"]
 
@@ -177,7 +177,7 @@ class Drill(Case):
         load = Load(self, server, seed, "--until-closed")
         time.sleep(1)
         begun = time.monotonic()
-        self.wants(server.told("stop\n"), "stopped\n", "a stop")
+        self.wants(server.answers_to("stop\n"), "stopped\n", "a stop")
         self.holds(time.monotonic() - begun < PATIENCE / 2, "a stop takes less than 30 s", time.monotonic() - begun)
         requests = load.ends()["requests"]
         # (what a host sent last may have been read no more)

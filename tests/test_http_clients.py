@@ -51,10 +51,10 @@ class Clients(Case):
         begun = time.monotonic()
         silent = [self.kept(connected(server.http_port)) for _ in range(10)]
         for client in silent[:8]:
-            self.wants(rest_of(client), b"", "what a silent client is told")
+            self.wants(rest_of(client), b"", "what a silent client receives")
         passed = time.monotonic() - begun
         self.holds(LONGEST - 1 <= passed < LONGEST + SLACK, "silent clients are closed after 10 s", f"{passed:.1f} s")
-        self.wants((host.is_ready(), server.get("/healthz")[0]), (True, 200), "a host and a client behind them")
+        self.wants((host.is_ready(), server.get("/healthz")[0]), (True, 200), "a host and a client after them")
         host.close()
         self.stops(server, [1, 0, 0, 0])
 

@@ -23,9 +23,9 @@ class FileSystems(InitiatorCase):
             file.truncate(sectors * 512)
         self.succeeds("mkfs.ext4", "-q", "-d", os.path.join(ROOT, "docs"), image)
         self.succeeds("qemu-img", "convert", "-n", "-f", "raw", "-O", "raw", image, at)
-        self.wants(server.told(f"out {host}\n"), "ok\n", "an operator's `out`")
+        self.wants(server.answers_to(f"out {host}\n"), "ok\n", "an operator's `out`")
         self.succeeds("qemu-img", "compare", "-f", "raw", "-F", "raw", image, at)
-        self.wants(server.told(f"replace {host}\n"), "ok\n", "an operator's `replace`")
+        self.wants(server.answers_to(f"replace {host}\n"), "ok\n", "an operator's `replace`")
         self.succeeds("qemu-img", "convert", "-f", "raw", "-O", "raw", at, back)
         self.succeeds("e2fsck", "-fn", back)
         self.is_whole_again(server)
@@ -46,7 +46,7 @@ class Verified(InitiatorCase):
         """Has one disk after another fail and be rebuilt while a program runs, and answers how often."""
         rebuilt = 0
         while busy.is_running():
-            said = server.told(f"out {rebuilt % 4}\nreplace {rebuilt % 4}\n")
+            said = server.answers_to(f"out {rebuilt % 4}\nreplace {rebuilt % 4}\n")
             self.wants(said, "ok\nok\n", "an operator's `out` and `replace`")
             self.is_whole_again(server)
             rebuilt += 1

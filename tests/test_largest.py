@@ -159,14 +159,14 @@ class Largest(Case):
         wanted += [*map_of(["   0..1023" + "   --" * 12], units), "ok", "ok", "ok"]
         server = self.serve("--disks", "11", "--extents", "1024", *words)
         # The service balances as well.
-        found = server.told("add\n" + "balance\n" * 1030).splitlines()
+        found = server.answers_to("add\n" + "balance\n" * 1030).splitlines()
         self.wants((found[:1], found[-1:]), (["ok"], ["idle"]), "a twelfth disk")
-        self.shows(server.told("\n".join(asked) + "\n").splitlines(), wanted, "what an operator was told")
+        self.shows(server.answers_to("\n".join(asked) + "\n").splitlines(), wanted, "what an operator was answered")
         self.wants(self.change_units(server, 33_300), {"ok\n": 99_900}, "99,900 changes of a unit that is served")
         self.stops(server, [0, 0, 0, 0])
 
     def change_units(self, server, times):
-        """How an operator is answered who changes a unit so many times, a thousand lines at a time."""
+        """How an operator is answered who changes a unit this many times, a thousand lines at a time."""
         said = Counter()
         with connected(server.operator_port) as link, link.makefile("r", encoding="ascii", newline="\n") as answered:
             for _ in range(times // 333):

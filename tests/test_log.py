@@ -1,5 +1,5 @@
 #!/usr/bin/env python3
-"""Kills a program that appends to a log on a regular file, and looks that each record which it was told of is there.
+"""Kills a program that appends to a log on a regular file, and looks that each record that it acknowledged is there.
 
 The program is `bench_log`, built by `rt ci` or `rt run`; another one may be named by BENCH_LOG, and the rounds by ROUNDS.
 A kill leaves what was written, so this tests the program and the system's calls, and no loss of power.
@@ -16,7 +16,7 @@ ROUNDS = int(os.environ.get("ROUNDS", "200"))
 
 
 def kill_after(path, lines):
-    """Starts a writer, kills it once it has printed so many numbers, and returns how many it printed in all."""
+    """Starts a writer, kills it once it has printed this many numbers, and returns how many it printed in all."""
     writer = subprocess.Popen([PROGRAM, "write", path], stdout=subprocess.PIPE)
     for _ in range(lines):
         writer.stdout.readline()
@@ -40,9 +40,9 @@ class Killed(unittest.TestCase):
         with tempfile.TemporaryDirectory() as folder:
             for number in range(ROUNDS):
                 path = os.path.join(folder, "log%d" % number)
-                told = kill_after(path, drawn.randrange(1, 40))
+                printed = kill_after(path, drawn.randrange(1, 40))
                 found = count_in(path)
-                self.assertIn(found, (told, told + 1), "round %d" % number)
+                self.assertIn(found, (printed, printed + 1), "round %d" % number)
                 os.remove(path)
 
     def test_two_writers_are_refused(self):

@@ -27,7 +27,7 @@ def words_of(geometry, disks, extents, cache):
 
 
 def filling(sectors):
-    """The lines that make units of so many sectors together, and write them all."""
+    """The lines that make units of this many sectors together, and write them all."""
     for number, first in enumerate(range(0, sectors, UNIT)):
         unit, length = f"{number // 8} {number % 8}", min(UNIT, sectors - first)
         yield f"make {unit} {length}"
@@ -102,7 +102,7 @@ class Memory(Case):
         self.wants(said.out.splitlines(), wanted, "READs with 4 MiB beside the smallest array")
 
     def taken_by(self, commands, sectors, audit):
-        """What a served array takes besides once a host has written so many sectors so many times."""
+        """What a served array takes besides once a host has written some sectors a number of times."""
         server = self.serve("--sessions", "1", "--extents", "64", "0:0:128", doors=(), audit=audit)
         host = server.log_in(0)
         self.wants(host.greeting, ACCEPTED, "a login")
@@ -118,7 +118,7 @@ class Memory(Case):
         return (after - before) * KIB
 
     def keeps(self, commands, sectors):
-        """The history of so many commands takes no more than it may."""
+        """The history of this many commands takes no more than it may."""
         # (the places of its lists that aren't used yet are addresses, and not resident)
         taken, needed = self.taken_by(commands, sectors, "full"), commands * (ENTRY + sectors * SECTOR)
         self.is_within(f"the history of {commands:,} commands with {sectors} sectors each", taken, needed)
@@ -131,7 +131,7 @@ class Memory(Case):
 
     def keeps_nothing(self, commands, sectors):
         taken = self.taken_by(commands, sectors, "off")
-        wanted = f"without an audit {commands:,} commands take at most 4 MiB for good"
+        wanted = f"without an audit {commands:,} commands take at most 4 MiB permanently"
         self.holds(taken <= 4 * MIB, wanted, f"{taken / MIB:.1f} MiB")
 
     def test_no_history_of_writes(self):

@@ -64,7 +64,7 @@ class Metrics(Case):
         """A block is written, demoted, and promoted as it is written again."""
         server = self.watched("--extents", "16", "0:0:8")
         server.client(0, WRITE.format(2))
-        moved = server.told("demote\n")
+        moved = server.answers_to("demote\n")
         self.wants(self.counters(server), [0, 0, 0, 0, 0], f"counters once demoted ({moved})")
         server.client(0, 2 * WRITE.format(2))
         self.wants(self.counters(server), [1, 0, 0, 0, 0], "counters once promoted")

@@ -50,6 +50,7 @@ SAID = [
     ("read x", "fault: not an operator's word"),
     ("write 0 0 0 1 AA", "fault: not an operator's word"),
     ("cdb 0 0 00", "fault: not an operator's word"),
+    ("unmap 0 0 0 1", "fault: not an operator's word"),
     ("out 200", "refused E4 NoSuchDisk"),
     ("fail 200 1", "refused E4 NoSuchDisk"),
     ("fail 0 off", "ok"),
@@ -61,6 +62,7 @@ FAULTY = {
     "bad argument": ["make 0 0", "health ", " health", "make  0 0 4", "stop now", "help 1", "counts 0", "sessions 0"],
     "not an operator's word": ["read", "write", "cdb", "inquiry", "capacity", "read16", "write16", "tur", "block"],
 }
+FAULTY["not an operator's word"] += ["unmap"]
 FAULTY["bad argument"] += ["fail", "fail 0", "fail 0 x", "fail 256 1", "fail 0 off off", "fail 0 12345678901"]
 FAULTY["bad argument"] += ["fail 0 1 1 1 1 1 1 1 1"]
 
@@ -99,7 +101,7 @@ M mirrored, P with parity; 0 to 9: how full, in ninths of its slots
 -- in a free group, .. in no group, ! can't be used
 all disks are sound"""
 
-# What ends the connection, and its answer; a line behind it is not executed.
+# What ends the connection, and its answer; a line after it is not executed.
 NO_TEXT = [
     ("a tab", b"\t\nout 2\n", "fault: bad character\n"),
     ("a delete in a comment", b"#\x7F\nout 2\n", "fault: bad character\n"),
@@ -109,7 +111,7 @@ NO_TEXT = [
     ("a comment of 4,097", b"#" * 4097 + b"\nout 2\n", "fault: line too long\n"),
     # (a bad character is reported among the first 4,096 bytes alone)
     ("a carriage return at 4,096", b"#" * 4095 + b"\r\nout 2\n", "fault: bad character\n"),
-    ("a carriage return behind them", b"#" * 4096 + b"\r\nout 2\n", "fault: line too long\n"),
+    ("a carriage return after them", b"#" * 4096 + b"\r\nout 2\n", "fault: line too long\n"),
     ("100,000 carriage returns", b"\r" * 100_000 + b"\nout 2\n", "fault: bad character\n"),
     ("a control character", b"heal\x07th\nout 2\n", "fault: bad character\n"),
     ("a carriage return", b"health\r\nout 0\n", "fault: bad character\n"),
@@ -126,7 +128,7 @@ class Operators(Case):
         server = self.serve("--disks", "5", "--extents", "16", "0:0:24")
         operator = self.kept(server.operator())
         for line, wanted in SAID:
-            self.wants(operator.tells(f"{line}\n".encode()), f"{wanted}\n", line)
+            self.wants(operator.answer_to(f"{line}\n".encode()), f"{wanted}\n", line)
         self.wants(operator.asks("help"), WORDS, "help")
         self.stops(server, [0, 0, 0, 0])
 
@@ -136,8 +138,8 @@ class Operators(Case):
         operator = self.kept(server.operator())
         for fault, lines in FAULTY.items():
             for line in lines:
-                self.wants(operator.tells(f"{line}\n".encode()), f"fault: {fault}\n", repr(line))
-        self.wants(operator.asks("health"), ["whole"], "health behind them")
+                self.wants(operator.answer_to(f"{line}\n".encode()), f"fault: {fault}\n", repr(line))
+        self.wants(operator.asks("health"), ["whole"], "health after them")
         self.stops(server, [0, 0, 0, 0])
 
     def test_units_and_views(self):
@@ -163,7 +165,7 @@ class Operators(Case):
 
     def test_no_answer_to_comments(self):
         server = self.serve("0:0:8")
-        said = server.told("sessions\n# nothing\n\nroom")
+        said = server.answers_to("sessions\n# nothing\n\nroom")
         self.wants(said, "room 14\n", "comments, and a last line that doesn't end")
         self.stops(server, [0, 0, 0, 0])
 
@@ -172,7 +174,7 @@ class Operators(Case):
         for name, sent, wanted in NO_TEXT:
             with self.subTest(name):
                 self.wants(answered(server.operator_port, sent).decode(), wanted, "an operator")
-                self.wants(server.told("health\n"), "whole\n", "the health behind it")
+                self.wants(server.answers_to("health\n"), "whole\n", "the health after it")
         self.stops(server, [0, 0, 0, 0])
 
     def test_garbage_on_other_connections(self):
@@ -191,15 +193,15 @@ class Operators(Case):
         host = server.log_in(0)
         self.wants(host.writes(0, b"w" * 1024), Reply(1, 0, b"", b""), "a WRITE of two sectors")
         self.wants(host.reads(0, 3), Reply(2, 0, b"", b"w" * 1024 + bytes(512)), "a READ of three sectors")
-        self.wants(server.told("sessions\n"), "host 0 frames 2 read 1536 written 1024\n", "sessions")
+        self.wants(server.answers_to("sessions\n"), "host 0 frames 2 read 1536 written 1024\n", "sessions")
         wanted = ["host 0 commands 2 read 1536 written 1024"]
         wanted += [f"host {host} commands 0 read 0 written 0" for host in (1, 2, 3)]
-        self.wants(server.told("counts\n").splitlines()[:4], wanted, "counts")
-        self.wants(server.told("health\n"), "whole\n", "health after looks")
+        self.wants(server.answers_to("counts\n").splitlines()[:4], wanted, "counts")
+        self.wants(server.answers_to("health\n"), "whole\n", "health after looks")
         host.close()
         self.wants(server.wait_for_none(), "", "sessions once the host has left")
         again = server.log_in_again(0)
-        self.wants(server.told("sessions\n"), "host 0 frames 0 read 0 written 0\n", "a second session of a host")
+        self.wants(server.answers_to("sessions\n"), "host 0 frames 0 read 0 written 0\n", "a second session of a host")
         again.close()
         self.stops(server, [2, 0, 0, 0])
 
@@ -210,18 +212,18 @@ class Operators(Case):
 
         def health_after_a_write():
             host.writes(0, b"w" * 1024)
-            return server.told("health\n")
+            return server.answers_to("health\n")
 
         health_after_a_write()
         for disk in range(4):
-            server.told(f"fail {disk} 0\n")
+            server.answers_to(f"fail {disk} 0\n")
             if health_after_a_write() == f"out {disk}\n":
                 break
-            server.told(f"fail {disk} off\n")
-        server.told(f"replace {disk}\n")
+            server.answers_to(f"fail {disk} off\n")
+        server.answers_to(f"replace {disk}\n")
         operator = self.kept(server.operator())
         self.wants(operator.waits("health", ["whole"]), ["whole"], "health once the disk is replaced")
-        server.told(f"fail {disk} 3\n")
+        server.answers_to(f"fail {disk} 3\n")
         said = [health_after_a_write() for _ in range(4)]
         self.wants(said, ["whole\n"] * 3 + [f"out {disk}\n"], "a disk that passes three accesses")
 
@@ -229,14 +231,14 @@ class Operators(Case):
         server = self.serve()
         operators = [self.kept(server.operator()) for _ in range(4)]
         for operator in operators:
-            self.wants(operator.tells(b"health\n"), "whole\n", "one of four operators")
+            self.wants(operator.answer_to(b"health\n"), "whole\n", "one of four operators")
         fifth = self.kept(server.operator())
         self.wants(rest_of(fifth.link), b"fault: too many operators\n", "a fifth operator")
-        self.wants(server.told("health\n"), "fault: too many operators\n", "a fifth operator who asks")
+        self.wants(server.answers_to("health\n"), "fault: too many operators\n", "a fifth operator who asks")
         operators.pop().close()
         # (the end of a connection is seen a little later)
         begun = time.monotonic()
-        while (said := server.told("stop\n")) != "stopped\n" and time.monotonic() - begun < 20:
+        while (said := server.answers_to("stop\n")) != "stopped\n" and time.monotonic() - begun < 20:
             time.sleep(0.05)
         self.wants(said, "stopped\n", "a stop once an operator has left")
         self.ends(server, [0, 0, 0, 0])

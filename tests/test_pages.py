@@ -50,7 +50,7 @@ class Pages(Case):
         self.wants(said, (200, TYPES[path], "no-store", str(len(body.encode()))), path)
         head_code, head, nothing = self.server.get(path, "HEAD")
         self.wants((head_code, nothing), (200, ""), f"HEAD {path}")
-        # (a body that tells the time or what was counted may be longer a moment later)
+        # (a body that shows the time or what was counted may be longer a moment later)
         if path not in ("/metrics", "/status.json"):
             self.wants(head, fields, f"the header fields of HEAD {path}")
         self.stops(self.server, [0, 0, 0, 0])
@@ -74,7 +74,7 @@ class Pages(Case):
         self.path("/healthz/whole")
 
     def test_guards(self):
-        """What tells browsers to give a response to no page of another site."""
+        """What makes browsers give a response to no page of another site."""
         fields = self.server.get("/")[1]
         wanted = {
             "x-content-type-options": "nosniff",
@@ -100,12 +100,12 @@ class Pages(Case):
 
     def test_picture_is_that_of_a_run(self):
         self.wants(self.server.get("/picture.svg")[2], drawn("make 0 0 24"), "the picture of a whole array")
-        self.server.told("out 1\n")
+        self.server.answers_to("out 1\n")
         self.wants(self.server.get("/picture.svg")[2], drawn("make 0 0 24", "out 1"), "the picture of a lost disk")
 
     def test_health_of_a_lost_disk(self):
         self.wants(self.health(), (200, "whole\n"), "the health of a whole array")
-        self.server.told("out 1\n")
+        self.server.answers_to("out 1\n")
         self.wants(self.health(), (503, "out 1\n"), "the health with a disk out")
         said = [self.server.sample(f'autoraid_{name}') for name in ('disk_healthy{disk="1"}', 'state{state="out"}')]
         self.wants(said, ["0", "1"], "the metrics of a lost disk")
@@ -113,7 +113,7 @@ class Pages(Case):
 
     def test_events_of_a_rebuild(self):
         """A disk fails, is replaced and rebuilt; units are made, grown and dropped."""
-        self.server.told("out 1\nreplace 1\nmake 3 7 8\nmake 3 7 8\ngrow 3 7 12\ndrop 3 7\n")
+        self.server.answers_to("out 1\nreplace 1\nmake 3 7 8\nmake 3 7 8\ngrow 3 7 12\ndrop 3 7\n")
         self.wants(waited(self.health, (200, "whole\n")), (200, "whole\n"), "the health once the disk is rebuilt")
         said, disks = self.events(), [("disk_failed", 1), ("disk_replaced", 1), ("disk_rebuilt", 1)]
         units = [("unit_made", 3, 7), ("unit_grown", 3, 7), ("unit_dropped", 3, 7)]
@@ -123,7 +123,7 @@ class Pages(Case):
         self.stops(self.server, [0, 0, 0, 0])
 
     def test_events_of_two_lost_disks(self):
-        self.server.told("add\nout 0\nout 2\n")
+        self.server.answers_to("add\nout 0\nout 2\n")
         self.wants(self.health(), (503, "broken\n"), "the health with two disks out")
         wanted = [("array_failed",), ("disk_failed", 0), ("disk_added", 5)]
         self.wants(self.events()[:3], wanted, "the newest events")
@@ -131,7 +131,7 @@ class Pages(Case):
 
     def test_a_failure_while_nobody_watches(self):
         """A disk that fails by itself is seen, with its time, while nobody watches."""
-        self.server.told("".join(f"fail {disk} 0\n" for disk in range(5)))
+        self.server.answers_to("".join(f"fail {disk} 0\n" for disk in range(5)))
         host = self.kept(self.server.log_in(0))
         host.writes(0, b"w" * 1024)
         time.sleep(3)

@@ -101,10 +101,10 @@ class Pictures(Case):
 
 
 class FullFiles(Case):
-    """A file that takes no more: each byte that isn't taken is told."""
+    """A file that takes no more: each byte that isn't taken is reported."""
 
     def run_with(self, most, words, **how):
-        """Runs a program whose files may have so many bytes. (A signal that would end it is ignored.)"""
+        """Runs a program whose files may have this many bytes. (A signal that would end it is ignored.)"""
         how["limits"] = {resource.RLIMIT_FSIZE: most}
         return ran(program("autoraid"), "run", *words, restore_signals=False, **how)
 

@@ -46,7 +46,7 @@ def changed(data, at):
     return data[:at] + bytes([data[at] ^ 1]) + data[at + 1 :]
 
 
-# Each error answers a request by its number, with the array behind it.
+# Each error answers a request, given its number and the array.
 
 
 def nothing(_number, request, far):

@@ -67,8 +67,8 @@ class Script:
                 self.lines.append(line)
                 self.wanted.append([answer] if equals else [])
 
-    def told(self, status, out, error):
-        """What is wrong with a run, or None; and how the refusal was told."""
+    def judged(self, status, out, error):
+        """What is wrong with a run, or None; and how the refusal was reported."""
         shown, at = out.splitlines(), 0
         for number, (line, wanted) in enumerate(zip(self.lines, self.wanted), 1):
             met = shown[at : at + len(wanted)]
@@ -119,7 +119,7 @@ class Scripts(Refused):
         script, seen = Script(file, name, list(options)), set()
         self.text = "\n".join(script.lines) + "\n"
         for number, said in self.runs(lambda: [program("autoraid"), "run", *options]):
-            fault, how = script.told(*said)
+            fault, how = script.judged(*said)
             self.wants(fault, None, f"what is wrong with allocation {number} refused")
             seen.add(how)
         self.holds({"nothing", "start fault", "no memory"} <= seen, "a start fault, and no memory", seen)
@@ -242,7 +242,7 @@ class Servers(Refused):
         """Of eight units each is there exactly if its `make` was answered `ok`, whatever allocation was refused."""
         seen = set()
         for number, server in self.servers(audit):
-            made = self.told(server, "".join(f"make 0 {lun} 8\n" for lun in range(8))).splitlines()
+            made = self.answers_to(server, "".join(f"make 0 {lun} 8\n" for lun in range(8))).splitlines()
             dropped = [self.dropped(server, lun) for lun in range(8)]
             if "" in dropped:
                 ended = server.ended()
@@ -253,17 +253,17 @@ class Servers(Refused):
             seen.update(made)
         self.holds({"ok"} < seen, "units that were made, and one that wasn't", seen)
 
-    def told(self, server, lines):
+    def answers_to(self, server, lines):
         try:
-            return server.told(lines)
+            return server.answers_to(lines)
         except OSError:
             return ""
 
     def dropped(self, server, lun):
         """The answer to a `drop`. (The one refusal may meet it, and then it isn't done.)"""
-        said = self.told(server, f"drop 0 {lun}\n")
+        said = self.answers_to(server, f"drop 0 {lun}\n")
         is_met = said in ("", "fault: no memory\n", "refused M4 NoMemory\n")
-        return self.told(server, f"drop 0 {lun}\n") if is_met else said
+        return self.answers_to(server, f"drop 0 {lun}\n") if is_met else said
 
     def servers(self, audit):
         """For each allocation that is refused a server, if it begins to listen."""

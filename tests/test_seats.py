@@ -31,9 +31,9 @@ class Seats(Case):
         """Frames, then iSCSI, then frames: each gives the seat back."""
         for _ in range(3):
             self.uses(0)
-            self.wants(self.server.wait_for_none(), "", "sessions behind one over frames")
+            self.wants(self.server.wait_for_none(), "", "sessions after one over frames")
             self.attends(0)
-            self.wants(self.server.wait_for_none(), "", "sessions behind one over iSCSI")
+            self.wants(self.server.wait_for_none(), "", "sessions after one over iSCSI")
         self.stops(self.server)
 
     def test_two_sessions_at_once(self):
@@ -50,7 +50,7 @@ class OperatorsInTurn(Case):
         """Twenty in turn are all answered: none is counted once it has left."""
         server = self.serve()
         for number in range(20):
-            said = waited(lambda: server.told("health\n"), "whole\n", seconds=10)
+            said = waited(lambda: server.answers_to("health\n"), "whole\n", seconds=10)
             self.wants(said, "whole\n", f"operator {number}")
         self.stops(server, [0, 0, 0, 0])
 
@@ -58,13 +58,13 @@ class OperatorsInTurn(Case):
         server = self.serve()
         operators = [self.kept(server.operator()) for _ in range(4)]
         for operator in operators:
-            self.wants(operator.tells(b"health\n"), "whole\n", "one of four")
+            self.wants(operator.answer_to(b"health\n"), "whole\n", "one of four")
         fifth = self.kept(server.operator())
         self.wants(rest_of(fifth.link), b"fault: too many operators\n", "a fifth")
         operators.pop().close()
-        said = waited(lambda: server.told("health\n"), "whole\n", seconds=10)
+        said = waited(lambda: server.answers_to("health\n"), "whole\n", seconds=10)
         self.wants(said, "whole\n", "the next, once one has left")
-        said = [operator.tells(b"health\n") for operator in operators]
+        said = [operator.answer_to(b"health\n") for operator in operators]
         self.wants(said, ["whole\n"] * 3, "the others, all the while")
         self.stops(server, [0, 0, 0, 0])
 
@@ -74,9 +74,9 @@ class Orders(Case):
 
     def test_refused_order_is_no_event(self):
         server = self.serve("--extents", "16", doors=("operator", "http"))
-        self.wants(server.told("make 0 0 99999999\n")[:10], "refused M2", "a unit that is too large")
+        self.wants(server.answers_to("make 0 0 99999999\n")[:10], "refused M2", "a unit that is too large")
         self.wants(server.status_json()["events"], [], "what has happened")
-        self.wants(server.told("make 0 0 8\n"), "ok\n", "a unit that fits")
+        self.wants(server.answers_to("make 0 0 8\n"), "ok\n", "a unit that fits")
         self.wants([event["kind"] for event in server.status_json()["events"]], ["unit_made"], "what has happened then")
         self.stops(server, [0, 0, 0, 0])
 
@@ -85,22 +85,22 @@ class Orders(Case):
         host = self.kept(server.log_in(0))
         for block in range(16):
             host.writes(2 * block, b"f" * 1024)
-        self.wants(server.told("health\n"), f"out {disk}\n", "health behind WRITEs to all disks")
+        self.wants(server.answers_to("health\n"), f"out {disk}\n", "health after WRITEs to all disks")
 
     def test_refused_replacement_leaves_the_fuse(self):
         server = self.serve("0:0:32")
-        self.wants(server.told("fail 3 0\nreplace 3\n"), "ok\nrefused E3 NotOut\n", "a disk that isn't out")
+        self.wants(server.answers_to("fail 3 0\nreplace 3\n"), "ok\nrefused E3 NotOut\n", "a disk that isn't out")
         self.fails_alone(server, 3)
 
     def test_refused_disk_leaves_the_fuse(self):
         server = self.serve("--disks", "12", "--extents", "2", "0:0:32")
-        said = server.told("fail 3 0\nadd\n")
+        said = server.answers_to("fail 3 0\nadd\n")
         self.holds(said.startswith("ok\nrefused E"), "a thirteenth disk is refused", said)
         self.fails_alone(server, 3)
 
     def test_new_disk_begins_without_a_fuse(self):
         server = self.serve("0:0:32")
-        self.wants(server.told("out 1\nfail 1 0\nreplace 1\n"), "ok\nok\nok\n", "a disk that is replaced")
-        said = waited(lambda: server.told("health\n"), "whole\n")
+        self.wants(server.answers_to("out 1\nfail 1 0\nreplace 1\n"), "ok\nok\nok\n", "a disk that is replaced")
+        said = waited(lambda: server.answers_to("health\n"), "whole\n")
         self.wants(said, "whole\n", "health once it is rebuilt")
         self.stops(server, [0, 0, 0, 0])

@@ -31,6 +31,15 @@ LONGEST = (
     ],
     [0, 0, 0, 6],
 )
+# The doors beside that of hosts, what ends the service, and the last line of its report: `closed ok` where transcripts
+# were compared with the history.
+DEFAULTS = (
+    ((), ("--sessions", "1"), "closed ok"),
+    (("operator", "http"), ("--sessions", "1"), "closed ok"),
+    (("operator",), (), "closed"),
+    (("iscsi",), ("--sessions", "1"), "closed"),
+    (("operator", "iscsi"), (), "closed"),
+)
 
 
 class Serving(Case):
@@ -41,7 +50,7 @@ class Serving(Case):
             if number:
                 self.wants(server.wait_for_none(), "", "sessions once a client has left")
             said = server.client(host, lines)
-            self.wants(said.out + said.error, wanted, f"what a client of host {host} was told")
+            self.wants(said.out + said.error, wanted, f"what a client of host {host} received")
         self.ends(server, commands)
 
     def test_clients_in_turn(self):
@@ -61,12 +70,34 @@ class Serving(Case):
         server = self.serve("--disks", "5", "--extents", "16", "0:0:24", audit="off")
         said = server.client(0, "write 0 0 3 2 C3\ntur 0 1\n")
         self.wants(said, Ended(0, "good\ncheck 05/25/00\n", ""), "a client")
-        self.wants(server.told("out 1\nmake 1 0 8\n"), "ok\nok\n", "an operator")
+        self.wants(server.answers_to("out 1\nmake 1 0 8\n"), "ok\nok\n", "an operator")
         self.wants(server.client(0, "read 0 0 2 4\n"), Ended(0, "good 512x00 1024xC3 512x00\n", ""), "with a disk lost")
-        said = server.told("replace 1\ndrop 1 0\ncounts\n").splitlines()[:3]
+        said = server.answers_to("replace 1\ndrop 1 0\ncounts\n").splitlines()[:3]
         self.wants(said, ["ok", "ok", "host 0 commands 3 read 2048 written 1024"], "an operator's counts")
         self.wants(server.client(0, "read 0 0 3 2\n"), Ended(0, "good 1024xC3\n", ""), "with the disk replaced")
         self.stops(server, [4, 0, 0, 0])
+
+    def test_words_that_no_client_has(self):
+        """A word of the array ends a client's script, also one that changes what a unit holds."""
+        words = "unmap 0 0 0 8", "make 0 1 8", "flush", "room"
+        server = self.serve("--sessions", str(len(words)), "0:0:8")
+        for number, word in enumerate(words):
+            if number:
+                self.wants(server.wait_for_none(), "", "sessions once a client has left")
+            said = server.client(0, f"read 0 0 0 8\n{word}\nwrite 0 0 0 8 AA\n")
+            self.wants(said, Ended(1, "good 4096x00\n", "line 2: unknown word\n"), f"a client's script with {word}")
+        self.ends(server, [len(words), 0, 0, 0])
+
+    def test_default_of_the_audit(self):
+        """Without `--audit` the history is kept where a number of sessions ends the service, but not with iSCSI."""
+        for doors, sessions, ending in DEFAULTS:
+            with self.subTest(doors=doors, sessions=sessions):
+                server = self.serve(*sessions, "0:0:8", doors=doors, audit=None, ending=ending)
+                self.wants(server.client(0, "tur 0 0\n"), Ended(0, "good\n", ""), "a client")
+                if sessions:
+                    self.ends(server, [1, 0, 0, 0])
+                else:
+                    self.stops(server, [1, 0, 0, 0])
 
     def test_a_host_in_use(self):
         """A second session of a host is refused while the first is open."""
@@ -118,7 +149,7 @@ class Connections(Case):
     """Many connections, more than there are descriptors, and as many as there may be."""
 
     def test_a_refused_login(self):
-        """The answer to a login that is refused arrives, whatever the client has sent behind it."""
+        """The answer to a login that is refused arrives, whatever the client has sent after it."""
         server = self.serve()
         for number in range(50):
             with connected(server.port) as link:
@@ -142,7 +173,7 @@ class Connections(Case):
             if number == 1000:
                 early = server.resident()
         grown = server.resident() - early
-        self.holds(grown < 4096, "9,000 connections take less than 4 MiB for good", f"{grown} KiB")
+        self.holds(grown < 4096, "9,000 connections take less than 4 MiB permanently", f"{grown} KiB")
         self.wants(server.wait_for_none(), "", "sessions once all have left")
         self.stops(server, [0, 0, 0, 0])
 
@@ -156,7 +187,7 @@ class Connections(Case):
         """More connections than descriptors: none is consumed, and those that wait are served in their turn."""
         server = self.serve("--login-timeout", timeout, "0:0:8", before=["sh", "-c", 'ulimit -n 20; exec "$@"', "sh"])
         links = [connected(server.port) for _ in range(count)]
-        server.told("health\n")
+        server.answers_to("health\n")
         # (until there is something to say of them)
         said = server.outputs[1].line(20)
         for link in links:
@@ -173,7 +204,7 @@ class Connections(Case):
         self.wants([line for line in lines if "no connection can be accepted" not in line], [], "other lines")
 
     def stopped_with_errors(self, server, commands):
-        self.wants(server.told("stop\n"), "stopped\n", "an operator's stop")
+        self.wants(server.answers_to("stop\n"), "stopped\n", "an operator's stop")
         return self.ends(server, commands, error=None).error
 
     def test_few_descriptors(self):
@@ -186,13 +217,13 @@ class Connections(Case):
         """With `--sessions` the last session ends the service, and an operator's connection with it."""
         server = self.serve("--sessions", "1")
         operator = self.kept(server.operator())
-        self.wants(operator.tells(b"health\n"), "whole\n", "an operator beside counted sessions")
+        self.wants(operator.answer_to(b"health\n"), "whole\n", "an operator beside counted sessions")
         host = server.log_in(0)
         with self.assertRaises(ConnectionRefusedError):
             connected(server.port).close()
         host.close()
         self.ends(server, [0, 0, 0, 0])
-        self.wants(operator.lines.read(), "", "what an operator is told at the end")
+        self.wants(operator.lines.read(), "", "what an operator receives at the end")
 
     def largest_crowd(self, *sessions):
         """64 connections at once, the most: the last one is served beside 63 that say nothing."""

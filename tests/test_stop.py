@@ -25,7 +25,7 @@ class Stop(Case):
         for thread in threads:
             thread.start()
         time.sleep(1)
-        said = server.told("stop\n")
+        said = server.answers_to("stop\n")
         for thread in threads:
             thread.join(30)
         self.wants(said, "stopped\n", "a stop under load")
@@ -61,7 +61,7 @@ class Stop(Case):
         self.wants(host.is_ready(), True, "TEST UNIT READY")
         begun = time.monotonic()
         self.stops(server, [1, 0, 0, 0])
-        self.wants(exactly(host.link, 1), b"", "what an idle host is told")
+        self.wants(exactly(host.link, 1), b"", "what an idle host receives")
         self.holds(time.monotonic() - begun < 5, "an idle session ends within 5 s", time.monotonic() - begun)
 
     def test_without_output(self):
@@ -71,7 +71,7 @@ class Stop(Case):
         os.close(write_end)
         os.read(read_end, 64)
         os.close(read_end)
-        self.wants(server.told("stop\n"), "fault: write fault\n", "a stop")
+        self.wants(server.answers_to("stop\n"), "fault: write fault\n", "a stop")
         self.wants(server.ended(), Ended(1, "", "write fault\n"), "the server")
 
 

@@ -12,8 +12,8 @@ class TaskManagement(Case):
         self.server = self.serve("--extents", "16", "0:0:24", doors=("operator", "iscsi"))
         self.initiator = self.kept(self.server.initiator(0))
 
-    def told(self, count):
-        """Of so many next answers opcode, response, status, sense."""
+    def next_answers(self, count):
+        """Of this many next answers opcode, response, status, sense."""
         pdus = [self.initiator.receive() for _ in range(count)]
         return [(pdu.opcode, pdu.response, pdu.status, pdu.code) for pdu in pdus]
 
@@ -21,7 +21,7 @@ class TaskManagement(Case):
         """TEST UNIT READY reports a reset, and then no more."""
         for wanted in ATTENTION, READY:
             self.initiator.sends(TEST_UNIT_READY)
-            self.wants(self.told(1), [wanted], f"TEST UNIT READY {what}")
+            self.wants(self.next_answers(1), [wanted], f"TEST UNIT READY {what}")
 
     def finish(self):
         self.initiator.close()
@@ -42,13 +42,13 @@ class TaskManagement(Case):
         wanted = [(0x31, 0, 0), (0x22, 0, 0)] + [(0x20, 0, 0)] * 16
         found = [(pdu.opcode, pdu.response, pdu.status) for pdu in said]
         self.wants(found, wanted, "LOGICAL UNIT RESET of a full window")
-        self.wants(said[-1].max_cmd_sn, self.initiator.cmd_sn + 15, "MaxCmdSN behind it")
-        self.is_reported_once("behind a reset")
+        self.wants(said[-1].max_cmd_sn, self.initiator.cmd_sn + 15, "MaxCmdSN after it")
+        self.is_reported_once("after a reset")
         self.finish()
 
     def test_reset_of_no_unit(self):
         self.initiator.manages(5, lun=5)
-        self.wants(self.told(1)[0][:2], (0x22, 2), "LOGICAL UNIT RESET of a LUN without a unit")
+        self.wants(self.next_answers(1)[0][:2], (0x22, 2), "LOGICAL UNIT RESET of a LUN without a unit")
         self.finish()
 
     def test_abort_before_the_data(self):
@@ -56,5 +56,5 @@ class TaskManagement(Case):
         self.is_reported_once("in a new session")
         tag = self.initiator.sends(write_10(0, 2), flags=0xA1, expected=1024)
         self.initiator.manages(1, tag=tag, opcode=0x02)
-        self.wants([one[:2] for one in self.told(2)], [(0x31, 0), (0x22, 0)], "ABORT TASK in CmdSN's order")
+        self.wants([one[:2] for one in self.next_answers(2)], [(0x31, 0), (0x22, 0)], "ABORT TASK in CmdSN's order")
         self.finish()

@@ -1,4 +1,4 @@
-"""Who logs in too late or says nothing is let go, and keeps nobody out."""
+"""Who logs in too late or says nothing is disconnected, and keeps nobody out."""
 import contextlib
 import socket
 import struct
@@ -34,15 +34,15 @@ class Timeouts(Case):
         silent, slow = connected(server.port), connected(server.port)
         host = server.log_in(3)
         sends_slowly(slow, LOGIN)
-        self.wants(rest_of(silent), b"", "what a silent connection is told")
+        self.wants(rest_of(silent), b"", "what a silent connection receives")
         self.passes(begun, 1, 5, "a silent connection ends")
-        self.wants(rest_of(slow), b"", "what a slow login is told")
+        self.wants(rest_of(slow), b"", "what a slow login receives")
         self.passes(begun, 1, 5, "a slow login ends")
-        self.wants(rest_of(host.link), b"", "what a silent session is told")
+        self.wants(rest_of(host.link), b"", "what a silent session receives")
         self.passes(begun, 2, 6, "a silent session ends")
         for link in silent, slow, host:
             link.close()
-        self.wants(server.told("stop\n"), "stopped\n", "a stop")
+        self.wants(server.answers_to("stop\n"), "stopped\n", "a stop")
         error = self.ends(server, [0, 0, 0, 0], error=None).error
         said = sorted(line.split("] ")[-1].split(", ")[0] for line in error.splitlines())
         wanted = ["session 1 ended: Read", "session 1 started", "session 2 ended: Read", "session 2 started"]
@@ -60,8 +60,8 @@ class Timeouts(Case):
         self.wants([host.greeting for host in seated], [ACCEPTED] * 4, "logins beside clients that don't")
         seated[0].link.sendall(bytes.fromhex("0000001900"))
         said = [closes(link) for link in [*idle, *(host.link for host in seated)]]
-        self.wants(said, [True] * 12, "whether each is let go without a word")
-        self.passes(begun, 0.9, 20, "silent clients are let go")
+        self.wants(said, [True] * 12, "whether each is disconnected without a word")
+        self.passes(begun, 0.9, 20, "silent clients are disconnected")
         again = server.log_in(0)
         self.wants(again.greeting, ACCEPTED, "a login after a silent session of its host")
         again.close()
@@ -78,7 +78,7 @@ class Timeouts(Case):
         # (a Login Request, with the first ten bytes of 100 that it announces)
         slow.sendall(struct.pack(">BBHI", 0x43, 0x87, 0, 100) + bytes(40))
         sends_slowly(slow, b"InitiatorN")
-        self.wants(rest_of(slow), b"", "what a slow initiator is told")
+        self.wants(rest_of(slow), b"", "what a slow initiator receives")
         self.passes(begun, 1, 5, "a slow login ends")
         self.wants(quick.ping().opcode, 0x20, "the answer to a NOP-Out of an initiator that is logged in")
         quick.close()
@@ -90,6 +90,6 @@ class Timeouts(Case):
         with connected(server.port) as link:
             link.sendall(LOGIN[:5])
             link.shutdown(socket.SHUT_WR)
-            self.wants(rest_of(link), b"", "what half a login is told")
+            self.wants(rest_of(link), b"", "what half a login receives")
         self.passes(begun, 0, 10, "half a login ends")
         self.stops(server, [0, 0, 0, 0])

@@ -5,7 +5,7 @@ None.
 """
 
 
-def told(name, looks):
+def report(name, looks):
     """Prints what is wrong, and answers whether anything is, or nothing was looked at."""
     found = list(looks)
     faults = [(what, fault) for what, fault in found if fault]

@@ -5,20 +5,22 @@ In docs/PROVED.md, docs/GLOSSARY.md, docs/DECISIONS.md and crates/*/README.md, a
     [`Type::function: clause, clause`](file.rt)    clauses of the contract of that function in that file
     [`Word: field, field`](file.antt)              a word that is defined in that file, and fields of its record
 
-and without a colon the function or the word alone; the target may be a label of the document (`[label]: file`). A
-fenced block that begins with `// Type::function (file.rt)` or `-- Word (file.antt)`, a path from the root, quotes
-clauses of that contract or fields of that definition. Every other link to a file has to lead to one.
+and without a colon the function or the word alone; several spans, with commas between them, name as many. The target
+may be a label of the document (`[label]: file`). A fenced block that begins with `// Type::function (file.rt)` or
+`-- Word (file.antt)`, a path from the root, quotes clauses of that contract or fields of that definition. Every other
+link to a file has to lead to one.
 """
 import glob
 import os
 import re
 
 from tests.harness import ROOT
-from tests.texts import told
+from tests.texts import report
 
 DOCUMENTS = ["docs/PROVED.md", "docs/GLOSSARY.md", "docs/DECISIONS.md"]
 
-LINK = re.compile(r"\[(`?)([^][`]+)\1\](?:\(([^)\s]+)\)|\[([^]]+)\])")
+LINK = re.compile(r"\[([^][]+)\](?:\(([^)\s]+)\)|\[([^]]+)\])")
+SPANS = re.compile(r"`[^`]+`(?:,\s+`[^`]+`)*")
 LABEL = re.compile(r"^\[([^]]+)\]: (\S+)$", re.M)
 # A clause that is named without a file: nothing could say whether it is there.
 LOOSE = re.compile(r"(?<!\[)`[A-Za-z_]\w*(?:::\w+)*: [a-z_]\w*(?:, [a-z_]\w*)*`")
@@ -108,15 +110,15 @@ def looks_of(document):
     found = [wrong for block in FENCE.findall(text) if (wrong := misquoted(block)) is not None]
     prose = FENCE.sub("", text)
     found += [[f"{span} has no file"] for span in LOOSE.findall(prose)]
-    for code, named, target, label in LINK.findall(prose):
+    for named, target, label in LINK.findall(prose):
         target = (target or labels.get(label, f"[{label}]")).split("#")[0]
         if target.startswith("http") or not target:
             continue
         file = os.path.normpath(os.path.join(os.path.dirname(path), target))
         if not os.path.exists(file):
             found.append([f"no file {target}"])
-        elif code and file.endswith((".rt", ".antt")):
-            found.append(lacking(named, file))
+        elif SPANS.fullmatch(named) and file.endswith((".rt", ".antt")):
+            found += [lacking(span, file) for span in re.findall(r"`([^`]+)`", named)]
         else:
             found.append([])
     return found
@@ -130,4 +132,4 @@ def looks():
 
 
 def main(_words):
-    return told("clauses", looks())
+    return report("clauses", looks())

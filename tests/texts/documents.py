@@ -2,14 +2,14 @@
 print.
 
 A line has at most 120 columns, outside of tables, code and URLs. A relative link leads to a file or folder, and its
-#anchor to a heading of a document. A fenced block of code is run by the word behind its fence, unless `not-run`
-follows:
+#anchor to a heading of a document. The figures of a row of README's table of speed are those of a row of
+docs/PERFORMANCE.md. A fenced block of code is run by the word after its fence, unless `not-run` follows:
 
     console     A line that begins with '$ ' is run by bash, and prints the lines below it. One that ends with ' &' goes
                 on beside the next ones once it has printed the lines below it; '$ wait' shows what it prints from then
                 on to its end.
     sh          The block is run by bash, and exits with 0.
-    text FILE   Some lines of this script in its order, each with an answer to it behind two spaces or more.
+    text FILE   Some lines of this script in its order, each with an answer to it after two spaces or more.
 
 Commands run in a new folder with links to the start scripts, which run the built programs. 7117, 7118 and 7119 stand
 for ports that are free.
@@ -21,7 +21,7 @@ import subprocess
 import tempfile
 
 from tests.harness import ROOT, end_group, free_port, popen, program, text_of
-from tests.texts import told
+from tests.texts import report
 
 DOCUMENTS = ["README.md", "CHANGELOG.md", "docs/*.md", "crates/*/README.md"]
 PROGRAMS = ["autoraid", "ar_client"]
@@ -32,7 +32,7 @@ SECONDS = 60
 
 
 def parts_of(text):
-    """A document's lines that are no code, with their numbers; its blocks: number, words behind the fence, lines."""
+    """A document's lines that are no code, with their numbers; its blocks: number, words after the fence, lines."""
     prose, blocks, block = [], [], None
     for number, line in enumerate(text.splitlines(), 1):
         if line.lstrip().startswith("```"):
@@ -78,6 +78,17 @@ def flaws_of_links(path, prose):
                 yield None
 
 
+def flaws_of_figures(path, prose):
+    """For each row of README's table of speed, that no row of PERFORMANCE has its figures, or None."""
+    if path == "README.md":
+        known = [set(re.findall(r"\d[\d,.]*", line)) for line in text_of("docs", "PERFORMANCE.md").splitlines()]
+        for number, line in prose:
+            figures = [cell.strip() for cell in line.split("|")[2:-1]]
+            if line.startswith("|") and all(re.fullmatch(r"\d[\d,.]*", figure) for figure in figures):
+                is_known = any(set(figures) <= row for row in known)
+                yield None if is_known else f"{number}: docs/PERFORMANCE.md has no row with {figures}"
+
+
 def flaw_of_console(start, lines):
     """What a command prints that isn't shown below it, or None."""
     beside = None
@@ -95,7 +106,7 @@ def flaw_of_console(start, lines):
 
 
 def flaw_of_excerpt(start, file, rows):
-    """What is answered to a line of a script that isn't shown behind it, or None."""
+    """What is answered to a line of a script that isn't shown after it, or None."""
     script, at = [line for line in text_of(file).splitlines() if line and not line.startswith("#")], 0
 
     def run(lines):
@@ -151,6 +162,7 @@ def looks_of(path):
     prose, blocks = parts_of(text_of(path))
     yield flaw_of_width(prose)
     yield from flaws_of_links(path, prose)
+    yield from flaws_of_figures(path, prose)
     for number, words, lines in blocks:
         flaw = flaw_of_block(words, lines)
         yield f"{number}: {flaw}" if flaw else None
@@ -162,4 +174,4 @@ def paths():
 
 
 def main(_words):
-    return told("documents", ((f"{path}:", flaw) for path in paths() for flaw in looks_of(path)))
+    return report("documents", ((f"{path}:", flaw) for path in paths() for flaw in looks_of(path)))

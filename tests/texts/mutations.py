@@ -15,7 +15,7 @@ blank lines between them. An entry, whose first line is missing in a file of its
     new: TEXT
 
 'refused' names a function and the clause, or the goal of a loop or a call, that the check says is not proved; each
-'old' stands at one place of the file or, behind a line 'in: memory::MemDisk::new', of that function. In an entry it is
+'old' stands at one place of the file or, after a line 'in: memory::MemDisk::new', of that function. In an entry it is
 found by its tokens where it doesn't stand there as it is, and `$a` is any name, the same in 'old' and 'new': so an
 entry survives another layout and another name. Mutations of different functions are tried together, since a function is
 proved from the contracts of those that it calls; one that isn't refused so is tried again alone.
@@ -33,7 +33,7 @@ from dataclasses import dataclass, field
 from functools import cache
 
 from tests.harness import ROOT, text_of
-from tests.texts import told
+from tests.texts import report
 
 CHECK = ["rt", "check", "--jobs", "1"]
 
@@ -190,22 +190,22 @@ def refusals(crate, folder, said):
     """What a check says is not proved: the clauses by function. What the prover doesn't cover is no clause."""
     found = defaultdict(set)
     for line in said.split("\n"):
-        told = re.match(r"fn " + crate + r"::(\S+): .*did not prove (`.*)", line)
-        if told:
-            found[told[1]].update(goal for goal in re.findall(r"`([^`]*)`", told[2]) if "::" not in goal)
-        told = re.match(r"fn " + crate + r"::(\S+): no proof: expected `\w+_spec`", line)
-        if told:
-            found[told[1]].add("-clause-(not covered)")
-        told = re.match(r"\./(proofs/(\S+)/\w+\.antt):(\d+):\d+: error: `([^`]*)`(.*)", line)
+        noted = re.match(r"fn " + crate + r"::(\S+): .*did not prove (`.*)", line)
+        if noted:
+            found[noted[1]].update(goal for goal in re.findall(r"`([^`]*)`", noted[2]) if "::" not in goal)
+        noted = re.match(r"fn " + crate + r"::(\S+): no proof: expected `\w+_spec`", line)
+        if noted:
+            found[noted[1]].add("-clause-(not covered)")
+        noted = re.match(r"\./(proofs/(\S+)/\w+\.antt):(\d+):\d+: error: `([^`]*)`(.*)", line)
         # (a proof that names what the mutation took away says nothing of a clause)
-        if told and not re.search(r"has no `|has no field|is not in scope|was not admitted", told[5]):
-            function = told[2].replace("/", "::")
-            found[function].add(told[4] + field_at(folder, told[1], int(told[3]), clauses_of(folder, function)))
-        told = re.match(r"note: (src/\S+?):(\d+):\d+: it is not proved .*\(`([^`]*)`\)", line)
-        if told:
-            with open(os.path.join(folder, told[1]), encoding="utf-8") as file:
+        if noted and not re.search(r"has no `|has no field|is not in scope|was not admitted", noted[5]):
+            function = noted[2].replace("/", "::")
+            found[function].add(noted[4] + field_at(folder, noted[1], int(noted[3]), clauses_of(folder, function)))
+        noted = re.match(r"note: (src/\S+?):(\d+):\d+: it is not proved .*\(`([^`]*)`\)", line)
+        if noted:
+            with open(os.path.join(folder, noted[1]), encoding="utf-8") as file:
                 lines = file.read().split("\n")
-            found[function_at(folder, told[1], "\n".join(lines), len("\n".join(lines[: int(told[2])])))].add(told[3])
+            found[function_at(folder, noted[1], "\n".join(lines), len("\n".join(lines[: int(noted[2])])))].add(noted[3])
     return {function: {clause_of(goal, folder, function) for goal in goals} for function, goals in found.items()}
 
 
@@ -379,19 +379,19 @@ def looks(names=None):
 
 
 def main(words):
-    tells, reads = words[:1] == ["--tell"], words[:1] == ["--read"]
-    names, below = words[tells or reads :], libraries()
+    prints, reads = words[:1] == ["--tell"], words[:1] == ["--read"]
+    names, below = words[prints or reads :], libraries()
     if any(name not in below for name in names):
         sys.exit("usage: .ci/mutations [--tell | --read] [NAME ..], crates of crates.txt")
     if reads:
-        return told("mutations", looks(names))
+        return report("mutations", looks(names))
     wanted = names or [name for name in below if mutations_of(os.path.join(ROOT, "crates", name))]
     passed = failed = 0
     with ThreadPoolExecutor(os.cpu_count()) as pool:
         for name, found in zip(wanted, pool.map(lambda name: list(results(name, below[name])), wanted)):
             for mutation, refused, fault in found:
                 passed, failed = passed + (not fault), failed + bool(fault)
-                if fault or tells:
-                    print(f"{name}/{mutation.name}: {shown(refused) if tells and refused else fault}", flush=True)
+                if fault or prints:
+                    print(f"{name}/{mutation.name}: {shown(refused) if prints and refused else fault}", flush=True)
     print(f"{passed} passed, {failed} failed")
     return failed > 0

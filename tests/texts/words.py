@@ -1,6 +1,6 @@
 """Looks that a word of the specifications is defined in one crate alone, but for those that .ci/words.txt names.
 
-A line of that file is a word, the crates that define it, and behind a colon why. A word that another crate defines as
+A line of that file is a word, the crates that define it, and after a colon why. A word that another crate defines as
 well is a fault, and so is a line that is no longer so.
 """
 import glob
@@ -9,7 +9,7 @@ import re
 from collections import defaultdict
 
 from tests.harness import ROOT
-from tests.texts import told
+from tests.texts import report
 
 DEFINES = re.compile(r"(?m)^(?:(?:abbrev|record|data|unfoldable|opaque|pub)\s+)+([^\s:(){},]+)\s*[:({]")
 
@@ -45,4 +45,4 @@ def looks():
 
 
 def main(_words):
-    return told("words", looks())
+    return report("words", looks())

@@ -6,7 +6,7 @@ use ar_scsi::Sense;
 use std::process::Abort;
 use test_support::{Call, FOUR_GROUPS, Return, Row, Shape, event, returned};
 
-/// A unit is made, written, read, removed and made anew, and has zeros then. At the other address no unit is.
+/// A unit is made, written, read, removed and made again, and has zeros then. At the other address no unit is.
 pub const FIRST_RUN: [Row; 7] = [
     (Call::Make(0, 0, 4), Return::Done),
     (Call::Write(0, 0, 1, 1, 0xAA), Return::Good),

@@ -1,4 +1,4 @@
-// One run of many events, with ample memory: none is handed back, and each has its own outcome. That a run hands its
+// One run of many events, with ample memory: none is returned, and each has its own outcome. That a run hands its
 // events back is in its contract; that it does so only out of memory, no contract can say.
 use crate::calls::is_met;
 use crate::first_run::{done_at_once, push_event};

@@ -50,14 +50,14 @@ fn is_answered(
     );
 }
 
-// So many bytes of one value, with other bytes after them.
+// This many bytes of one value, with other bytes after them.
 fn padded<R: Abort + AllocGlobal>(rt: &R, byte: u8, len: usize, end: &[u8]) -> Vec<u8> {
     let mut bytes = vec![in rt.alloc(); byte; len].expect(rt, "memory");
     bytes.extend_from_slice(end).expect(rt, "memory");
     bytes
 }
 
-// Asserts how a script ends that answers nothing: so many bytes of one value, with other bytes after them.
+// Asserts how a script ends that answers nothing: this many bytes of one value, with other bytes after them.
 fn ends_silently<R: Abort + AllocGlobal>(
     rt: &R,
     name: &impl Debug,
@@ -303,7 +303,7 @@ fn single_writes_that_fail(rt: HostRuntime) {
     }
 }
 
-// There are two writes, and none is tried behind one that failed.
+// There are two writes, and none is tried after one that failed.
 fn are_written(rt: &impl Abort, fails: u32, writes: u32) {
     assert!(rt; writes == fails.min(1) + 1, "write {fails} fails: {writes}");
 }
@@ -338,15 +338,15 @@ fn push_dashes(rt: &impl Abort, wanted: &mut Vec<u8>) {
     wanted.push(b'\n').ok().expect(rt, "memory");
 }
 
-// Asserts how a fault is told.
-fn tells<R: Abort + AllocGlobal>(rt: &R, fault: Fault, text: &str) {
-    let told = format!(in rt.alloc(); "{fault}").expect(rt, "memory");
-    is_told(rt, told.as_str(), text);
-    drop(told);
+// Asserts the text of a fault.
+fn shows<R: Abort + AllocGlobal>(rt: &R, fault: Fault, text: &str) {
+    let said = format!(in rt.alloc(); "{fault}").expect(rt, "memory");
+    is_same(rt, said.as_str(), text);
+    drop(said);
 }
 
-fn is_told(rt: &impl Abort, told: &str, text: &str) {
-    assert!(rt; told == text, "{told}");
+fn is_same(rt: &impl Abort, said: &str, text: &str) {
+    assert!(rt; said == text, "{said}");
 }
 
 #[test]
@@ -361,9 +361,9 @@ fn fault_texts(rt: HostRuntime) {
         (FaultKind::ReadFault, "line 7: read fault"),
         (FaultKind::WriteFault, "line 7: write fault"),
     ] {
-        tells(&rt, Fault::Line { line: 7, kind }, text);
+        shows(&rt, Fault::Line { line: 7, kind }, text);
     }
-    tells(&rt, Fault::Start, "start fault");
+    shows(&rt, Fault::Start, "start fault");
 }
 
 // Asserts how an answer is written.
@@ -388,14 +388,14 @@ fn is_written_so(
     );
 }
 
-// Asserts how a run of so many bytes is written, before a short one and one of a single byte.
+// Asserts how a run of this many bytes is written, before a short one and one of a single byte.
 fn writes_runs<R: Abort + AllocGlobal>(rt: &R, len: usize) {
     let text = format!(in rt.alloc(); "good {len}x5A 1x01 2x02\n").expect(rt, "memory");
     writes(rt, good(rt, len, &[1, 2, 2]), text.as_bytes());
     drop(text);
 }
 
-// GOOD, with so many bytes of one value, and others after them.
+// GOOD, with this many bytes of one value, and others after them.
 fn good<R: Abort + AllocGlobal>(rt: &R, len: usize, end: &[u8]) -> OutcomeOf<()> {
     let bytes = Bytes::from_vec(padded(rt, 0x5A, len, end))
         .ok()
@@ -403,7 +403,7 @@ fn good<R: Abort + AllocGlobal>(rt: &R, len: usize, end: &[u8]) -> OutcomeOf<()>
     OutcomeOf::Cmd(Reply::good(bytes))
 }
 
-// Asserts how so many bytes are written that are all the same.
+// Asserts how this many bytes are written that are all the same.
 fn writes_run<R: Abort + AllocGlobal>(rt: &R, len: usize) {
     let text = format!(in rt.alloc(); "good {len}x5A\n").expect(rt, "memory");
     writes(rt, good(rt, len, &[]), text.as_bytes());
@@ -431,7 +431,7 @@ fn texts_of_refused_memory(rt: HostRuntime) {
     writes(&rt, OutcomeOf::Grow(refused), b"refused M4 NoMemory\n");
 }
 
-// Of steps that meet a fault of a disk or want of memory: a disk in memory has no fault.
+// Of steps that meet a fault of a disk or run out of memory: a disk in memory has no fault.
 #[test]
 fn texts_of_what_is_given_up(rt: HostRuntime) {
     writes(&rt, OutcomeOf::Balance(Balance::GivenUp), b"given up\n");

@@ -3,7 +3,7 @@ use ar_core::{Array, StartFault};
 use std::process::Abort;
 use test_support::{FOUR_GROUPS, Shape, fused_disks};
 
-// Asserts why no array is made. The disks are handed back.
+// Asserts why no array is made. The disks are returned.
 fn refuses<R: Abort + AllocGlobal>(rt: &R, shape: Shape, fault: StartFault) {
     let disks = fused_disks(rt.alloc(), shape).expect(rt, "memory");
     let (met, back) = Array::start(rt.alloc(), disks, 0)

@@ -20,7 +20,7 @@ pub struct Stopped {
     pub done: usize,
 }
 
-/// Creates a log and appends the batches, on a file that fails after so many calls and has so much room.
+/// Creates a log and appends the batches, on a file that fails after this many calls and has this much room.
 pub fn run(
     alloc: Global,
     batches: &[Vec<Vec<u8>>],
@@ -76,7 +76,7 @@ pub fn read_all(alloc: Global, file: &mut MemoryFile) -> Result<Vec<Vec<Vec<u8>>
     Ok(batches)
 }
 
-/// Reads a log to its end, and cuts off what a crash left behind it.
+/// Reads a log to its end, and cuts off what a crash left after it.
 pub fn recover(alloc: Global, file: &mut MemoryFile) -> Result<(), LogError> {
     let mut batches = Vec::new(alloc);
     let end = read_on(alloc, file, &mut batches)?;

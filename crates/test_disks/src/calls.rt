@@ -25,9 +25,9 @@ pub enum Call {
     MarkDone,
     /// Takes a disk out.
     Fail(u8),
-    /// Replaces a disk by one of so many extents that passes so many calls.
+    /// Replaces a disk by one of this many extents that passes this many calls.
     Replace(u8, u16, u64),
-    /// Adds a disk of so many extents.
+    /// Adds a disk of this many extents.
     Add(u16),
     /// Takes the lowest loose extent of a disk.
     Take(u8),
@@ -65,17 +65,17 @@ pub enum Answer {
     Broken,
     /// The health is this one now.
     Now(Health),
-    /// The set has this geometry, so many extents of each disk, and so many disks.
+    /// The set has this geometry, this many extents of each disk, and this many disks.
     Shape(Geometry, u16, u8),
-    /// The set has so many disks now.
+    /// The set has this many disks now.
     Disks(u8),
-    /// So many extents are loose, the lowest of which is this one.
+    /// This many extents are loose, the lowest of which is this one.
     Loose(u16, Option<u16>),
     /// This extent was taken.
     Extent(Option<u16>),
     Is(bool),
     Refused(DiskRefusal),
-    /// A disk of so many extents was handed back.
+    /// A disk of this many extents was returned.
     HandedBack(DiskRefusal, u16),
     /// The call asks for what the set doesn't have, and wasn't made.
     Unfit,

@@ -20,7 +20,7 @@ const LAST: Place = Place { disk: 1, extent: 1 };
 // An extent of another disk.
 const OTHER: Place = Place { disk: 2, extent: 1 };
 
-// Four disks of two extents, of which disk 1 passes so many calls.
+// Four disks of two extents, of which disk 1 passes this many calls.
 fn four(calls: u64) -> Case {
     Case {
         group: Group::Absent,
@@ -37,7 +37,7 @@ const LIKE: Shape = Shape {
     calls: WHOLE,
 };
 
-// Begins no set of disks of these shapes, and compares why, and how many disks are handed back.
+// Begins no set of disks of these shapes, and compares why, and how many disks are returned.
 fn refuses(
     rt: &impl Abort,
     alloc: Global,

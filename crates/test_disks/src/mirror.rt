@@ -8,7 +8,7 @@ use std::alloc::Global;
 use std::process::Abort;
 use std::test::Fail;
 
-// Four disks of two small extents that pass so many calls each.
+// Four disks of two small extents that pass this many calls each.
 fn small(fuses: [u64; 4]) -> Case {
     Case {
         group: Group::Mirrored,

@@ -10,7 +10,7 @@ use std::alloc::Global;
 use std::process::Abort;
 use std::test::Fail;
 
-// Four disks of one extent, of which one passes so many calls.
+// Four disks of one extent, of which one passes this many calls.
 fn one_extent(geometry: Geometry, lost: usize, calls: u64) -> Case
     requires { lost < 4 }
 {
@@ -145,7 +145,7 @@ fn puts_in_turn(rt: &impl Abort, rig: &mut Rig, health: Health) -> Result<(), Fa
     rig.meets(rt, Call::Health, Answer::Now(health))
 }
 
-// Does so with one disk lost after so many calls.
+// Does so with one disk lost after this many calls.
 fn stays(rt: &impl Abort, alloc: Global, case: Case, health: Health) -> Result<(), Fail> {
     let mut rig = Rig::new(alloc, case)?;
     puts_in_turn(rt, &mut rig, health)

@@ -55,7 +55,7 @@ impl Port for Fake {
     }
 }
 
-// Gives its bytes in pieces of at most so many, and faults in one call, by its number from 0.
+// Gives its bytes in pieces of at most this many, and faults in one call, by its number from 0.
 #[derive(Drop)]
 pub struct Pieces<'a> {
     pub bytes: &'a [u8],
@@ -86,7 +86,7 @@ impl Source for Pieces<'_> {
     }
 }
 
-// Takes bytes in pieces of at most so many, and faults in one call, by its number from 0.
+// Takes bytes in pieces of at most this many, and faults in one call, by its number from 0.
 #[derive(Drop)]
 pub struct Taker {
     pub taken: Vec<u8>,
@@ -115,7 +115,7 @@ impl Sink for Taker {
     }
 }
 
-// So many bytes: a front, and behind it one frame again and again.
+// This many bytes: a front, and after it one frame again and again.
 #[derive(Drop)]
 pub struct Repeats<'a> {
     pub front: &'a [u8],

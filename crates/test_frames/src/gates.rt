@@ -16,9 +16,9 @@ enum Call {
     After,
 }
 
-// A call of the gate: what it is told, and how many commands were asked and bytes written when it came.
+// A call of the gate: its arguments, and how many commands were asked and bytes written when it came.
 #[derive(Clone, Copy, Debug, PartialEq, Eq)]
-struct Told {
+struct Note {
     call: Call,
     host: u8,
     number: u64,
@@ -31,21 +31,21 @@ struct Told {
 struct Notes {
     asked: Cell<u64>,
     written: Cell<u64>,
-    told: RefCell<Vec<Told>>,
+    said: RefCell<Vec<Note>>,
 }
 
 impl Notes {
     // A call for which no memory is found is lacking in the record, which then isn't the wanted one.
     fn note(&self, call: Call, host: Host, number: u64) {
-        let told = Told {
+        let said = Note {
             call,
             host: host.number(),
             number,
             asked: self.asked.get(),
             written: self.written.get(),
         };
-        if let Ok(mut all) = self.told.try_borrow_mut() {
-            let _ = all.push(told);
+        if let Ok(mut all) = self.said.try_borrow_mut() {
+            let _ = all.push(said);
         }
     }
 }
@@ -128,25 +128,25 @@ impl Sink for Written<'_> {
     }
 }
 
-// Plays a session with so much room for what it writes, and compares its end and all that the gate is told.
+// Plays a session with this much room for what it writes, and compares its end and all calls of the gate.
 fn plays(
     rt: &impl Abort,
     alloc: Global,
     input: &[u8],
     room: usize,
     end: SessionEnd,
-    wanted: &[Told],
+    wanted: &[Note],
 ) {
     let notes = Notes {
         asked: Cell::new(0),
         written: Cell::new(0),
-        told: RefCell::new(Vec::new(alloc)),
+        said: RefCell::new(Vec::new(alloc)),
     };
     let met = serves(rt, alloc, input, room, &notes);
-    let told = notes.told.into_inner();
-    is_told(rt, room, told.as_slice(), wanted);
+    let said = notes.said.into_inner();
+    is_same(rt, room, said.as_slice(), wanted);
     ends(rt, room, met, end);
-    drop(told);
+    drop(said);
 }
 
 fn serves(rt: &impl Abort, alloc: Global, input: &[u8], room: usize, notes: &Notes) -> SessionEnd {
@@ -160,8 +160,8 @@ fn serves(rt: &impl Abort, alloc: Global, input: &[u8], room: usize, notes: &Not
     serve_gated(alloc, &mut reader, &mut writer, &mut port, notes)
 }
 
-fn is_told(rt: &impl Abort, room: usize, told: &[Told], wanted: &[Told]) {
-    assert!(rt; told == wanted, "{told:?} with room for {room} bytes");
+fn is_same(rt: &impl Abort, room: usize, said: &[Note], wanted: &[Note]) {
+    assert!(rt; said == wanted, "{said:?} with room for {room} bytes");
 }
 
 fn ends(rt: &impl Abort, room: usize, met: SessionEnd, end: SessionEnd) {
@@ -171,8 +171,8 @@ fn ends(rt: &impl Abort, room: usize, met: SessionEnd, end: SessionEnd) {
 // The login of host 3.
 const LOGIN: &[u8] = b"ARAIDHO1\x03";
 
-fn before(number: u64, asked: u64, written: u64) -> Told {
-    Told {
+fn before(number: u64, asked: u64, written: u64) -> Note {
+    Note {
         call: Call::Before,
         host: 3,
         number,
@@ -181,8 +181,8 @@ fn before(number: u64, asked: u64, written: u64) -> Told {
     }
 }
 
-fn after(number: u64, asked: u64, written: u64) -> Told {
-    Told {
+fn after(number: u64, asked: u64, written: u64) -> Note {
+    Note {
         call: Call::After,
         host: 3,
         number,
@@ -192,7 +192,7 @@ fn after(number: u64, asked: u64, written: u64) -> Told {
 }
 
 // The answer to the login has a byte, and the reply GOOD has 14.
-fn three_answered() -> [Told; 6] {
+fn three_answered() -> [Note; 6] {
     [
         before(1, 0, 1),
         after(1, 1, 15),
@@ -204,7 +204,7 @@ fn three_answered() -> [Told; 6] {
 }
 
 // Of the second reply there is room for 5 bytes.
-fn second_unsent() -> [Told; 4] {
+fn second_unsent() -> [Note; 4] {
     [
         before(1, 0, 1),
         after(1, 1, 15),
@@ -218,7 +218,7 @@ fn a_gate_is_told_before_and_after_each_command(rt: HostRuntime) {
     let alloc = rt.alloc();
     // The last frame isn't whole, and isn't given to the port.
     let input = joined(&rt, alloc, &[LOGIN, ABSENT, ABSENT, ABSENT, &ABSENT[..20]]);
-    for (room, frames, reason, told) in [
+    for (room, frames, reason, said) in [
         (usize::MAX, 3, EndReason::Cut, &three_answered()[..]),
         (20, 2, EndReason::Write, &second_unsent()[..]),
     ] {
@@ -228,7 +228,7 @@ fn a_gate_is_told_before_and_after_each_command(rt: HostRuntime) {
             &input,
             room,
             SessionEnd { frames, reason },
-            told,
+            said,
         );
     }
 }

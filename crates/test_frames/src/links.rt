@@ -5,7 +5,7 @@ use std::alloc::Global;
 use std::io::{self, ErrorKind, Read, Write};
 use std::process::Abort;
 
-// Has an error of this kind so many times before each read and write, and then gives or takes as many bytes as it may.
+// Has an error of this kind this many times before each read and write, and then gives or takes what it may.
 #[derive(Drop)]
 struct Noisy<'a> {
     bytes: &'a [u8],
@@ -117,7 +117,7 @@ fn interruptions_and_writes_of_no_byte(rt: HostRuntime) {
     }
 }
 
-// A stream is asked to move the whole piece at once, after interruptions too, and what it answers is told.
+// A stream is asked to move the whole piece at once, after interruptions too, and what it answers is reported.
 #[test]
 fn whole_pieces(rt: HostRuntime) {
     moves(&rt, 0, 500);
@@ -176,7 +176,7 @@ fn moves_ten(
     );
 }
 
-// So many reads and writes have faulted.
+// This many reads and writes have faulted.
 fn has_faults(rt: &impl Abort, linked: &Linked<Noisy<'_>>, kind: ErrorKind, wanted: (u64, u64)) {
     let faults = (Source::faults(linked), Sink::faults(linked));
     assert!(rt; faults == wanted, "{faults:?} faults of {kind:?}");

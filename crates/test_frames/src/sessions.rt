@@ -111,7 +111,7 @@ fn logins(rt: HostRuntime) {
     }
 }
 
-// Where a session ends whose input ends after so many bytes of login, a frame without data and one with four bytes.
+// Where a session ends whose input ends after this many bytes of login, a frame without data and one with four bytes.
 fn end_of(cut: usize) -> SessionEnd {
     let (frames, reason) = match cut {
         0..=8 => (0, EndReason::Cut),
@@ -176,7 +176,7 @@ fn plays_faulty(
     let mut port = Fake::new();
     let end = serve_session(alloc, &mut reader, &mut writer, &mut port);
     let is_prefix = output.starts_with(&writer.taken);
-    is_told(
+    is_same(
         rt,
         end.reason,
         is_prefix,
@@ -187,7 +187,7 @@ fn plays_faulty(
 }
 
 // What was written are the first bytes of the output, and the session ended by the stream that faulted, if one did.
-fn is_told(
+fn is_same(
     rt: &impl Abort,
     reason: EndReason,
     is_prefix: bool,

@@ -1,5 +1,5 @@
 // A drawn run: commands of four hosts, with units created, grown and deleted, and maintenance, between them. Each is
-// answered as plain lists say, which share no code with the array, and the audit tells what was counted.
+// answered as plain lists say, which share no code with the array, and the audit reports what was counted.
 ghost use Rattle.std.specs.Prelude.{◌<◌, ◌^◌};
 
 use crate::calls::closes;
@@ -145,7 +145,7 @@ fn send<L: Ledger, R: Abort + AllocGlobal>(
     grew(rt, rig.history().len(), entries, true);
 }
 
-// The answer is the one that is wanted, and stands behind all entries before it.
+// The answer is the one that is wanted, and comes after all entries before it.
 fn is_answered(
     rt: &impl Abort,
     command: &Command,

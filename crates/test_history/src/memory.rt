@@ -44,10 +44,10 @@ fn is_taken(alloc: Global, held: &mut Vec<Vec<u8>>, size: usize) -> bool {
     }
 }
 
-/// So many commands at least are in the history before it needs memory that isn't left.
+/// This many commands at least are in the history before it needs memory that isn't left.
 const FILLED: u32 = 1_000;
 
-/// So many commands at most need no growth of the history from there on.
+/// This many commands at most need no growth of the history from there on.
 const UNGROWN: u32 = 10_000;
 
 #[test]
@@ -68,7 +68,7 @@ pub fn starve<L: Ledger, R: Abort + AllocGlobal>(rt: &R, rig: &mut Rig<L>) {
 #[derive(Clone, Copy)]
 struct Starved {
     busy: bool,
-    /// Whether a making, a removal and two commands were refused.
+    /// Whether a create, a delete and two commands were refused.
     refused: [bool; 4],
     /// The entries of the history, and whether a refused command left it and the transcript as they were.
     entries: u64,
@@ -105,8 +105,8 @@ fn is_starved(rt: &impl Abort, starved: Starved) {
     holds(rt, starved.kept, "a refused command is recorded");
 }
 
-fn holds(rt: &impl Abort, holds: bool, told: &str) {
-    assert!(rt; holds, "{told}");
+fn holds(rt: &impl Abort, holds: bool, what: &str) {
+    assert!(rt; holds, "{what}");
 }
 
 // Asks for TEST UNIT READY so often, or until it is BUSY.
@@ -119,7 +119,7 @@ fn ask_until_busy<L: Ledger>(rig: &mut Rig<L>, times: u32) -> bool {
     false
 }
 
-// Whether a making and a removal are refused for want of memory, and two commands BUSY.
+// Whether a create and a delete are refused out of memory, and two commands BUSY.
 fn are_refused<L: Ledger>(rig: &mut Rig<L>) -> [bool; 4] {
     let addr = unit_of(0, 0);
     [
@@ -161,8 +161,8 @@ fn is_served<L: Ledger>(rt: &impl Abort, rig: &mut Rig<L>, entries: u64) {
 }
 
 fn is_absent(rt: &impl Abort, served: &Served, entries: u64) {
-    let is_told = returned_of(&served.reply) == Return::Check(Sense::LOGICAL_UNIT_NOT_SUPPORTED);
-    assert!(rt; is_told && served.at == Some(entries), "{served:?}");
+    let is_fine = returned_of(&served.reply) == Return::Check(Sense::LOGICAL_UNIT_NOT_SUPPORTED);
+    assert!(rt; is_fine && served.at == Some(entries), "{served:?}");
 }
 
 /// A command of a host to its first unit.

@@ -1,4 +1,4 @@
-// A conversation with a device server, cut off behind each of its bytes: what was whole is answered, and nothing else
+// A conversation with a device server, cut off after each of its bytes: what was whole is answered, and nothing else
 // is given to the port.
 ghost use Rattle.std.specs.Prelude.{◌≡◌, false};
 

@@ -23,8 +23,8 @@ enum Answer<'a> {
 /// A field, where it begins in the header, its bytes, how the session then ends, and the answer.
 type Row<'a> = (&'a str, usize, &'a [u8], IscsiEnd, Answer<'a>);
 
-/// A request: what comes before it, its PDU without and with what is sent behind it, what is answered before it, and
-/// the headers of its answer, each with the data behind it.
+/// A request: what comes before it, its PDU without and with what is sent after it, what is answered before it, and
+/// the headers of its answer, each with the data after it.
 struct Request<'a> {
     before: &'a [&'a [u8]],
     pdu: &'a [u8],

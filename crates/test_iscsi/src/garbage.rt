@@ -67,7 +67,7 @@ fn bytes_at_random(rt: HostRuntime) {
         let mut draws = Xoshiro256PlusPlus::seed_from_u64(seed);
         let mut noise = [0; 2048];
         draws.fill_bytes(&mut noise);
-        // (behind a login, but for each eighth)
+        // (after a login, but for each eighth)
         let mut input = joined(&rt, alloc, if seed % 8 == 0 { NO_LOGIN } else { LOGIN });
         input.extend_from_slice(&noise).expect(&rt, "memory");
         serve(&rt, alloc, seed, input);
@@ -138,7 +138,7 @@ fn are_pdus(written: &[u8]) -> bool {
     rest.is_empty()
 }
 
-// The opcode byte of the PDU that these bytes begin with, the length of its data segment, and what is behind it. None:
+// The opcode byte of the PDU that these bytes begin with, the length of its data segment, and what is after it. None:
 // they begin with no whole PDU.
 pub fn split_pdu(bytes: &[u8]) -> Option<(u8, usize, &[u8])> {
     let header = bytes.get(..48)?;

@@ -105,7 +105,7 @@ fn serve_again(rt: &impl Abort, alloc: Global, session: Session) {
     }
 }
 
-// Serves a session, and says whether it was as with ample memory. If it wasn't, it ended for lack of memory, behind a
+// Serves a session, and says whether it was as with ample memory. If it wasn't, it ended for lack of memory, after a
 // whole answer, or a command got BUSY.
 fn serve(rt: &impl Abort, alloc: Global, session: Session, output: &[u8]) -> bool {
     let mut reader = MemSource::new(bytes_of(rt, alloc, session.input));
@@ -118,16 +118,16 @@ fn serve(rt: &impl Abort, alloc: Global, session: Session, output: &[u8]) -> boo
         return true;
     }
     let other = behind_same(written, output);
-    let is_told = if end == session.end {
+    let is_fine = if end == session.end {
         is_busy(other)
     } else {
         is_for_memory(end) && other.is_empty()
     };
-    assert!(rt; is_told, "{end:?} behind {written:?}");
+    assert!(rt; is_fine, "{end:?} behind {written:?}");
     false
 }
 
-// What is written behind the whole PDUs that are as wanted.
+// What is written after the whole PDUs that are as wanted.
 fn behind_same<'a>(written: &'a [u8], wanted: &[u8]) -> &'a [u8] {
     let (mut rest, mut left) = (written, wanted);
     for _ in 0..written.len() {

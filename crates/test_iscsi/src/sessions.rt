@@ -97,7 +97,7 @@ fn a_whole_session(rt: HostRuntime) {
 
 const ALL: &[u8] = &[0xA5; 1024];
 
-// Commands that come while the data of a WRITE are collected are done behind it, in order; one with a CmdSN that isn't
+// Commands that come while the data of a WRITE are collected are done after it, in order; one with a CmdSN that isn't
 // the next, and one outside the window, are dropped.
 #[test]
 fn commands_are_sent_ahead(rt: HostRuntime) {
@@ -242,7 +242,7 @@ fn data_with_a_gap_end_the_session(rt: HostRuntime) {
     plays(&rt, alloc, &input, end, &output);
 }
 
-// A command that is rejected isn't counted (RFC 7143, 7.3), so those behind it could never be: the session ends.
+// A command that is rejected isn't counted (RFC 7143, 7.3), so those after it could never be: the session ends.
 #[test]
 fn a_rejected_command_ends_the_session(rt: HostRuntime) {
     let alloc = rt.alloc();

@@ -10,7 +10,7 @@ pub enum Step {
     Len(usize),
     /// Reads these bytes, eight at most.
     Read(usize, &'static [u8]),
-    /// Fails to read so many bytes at this offset, past the end.
+    /// Fails to read this many bytes at this offset, past the end.
     ReadPastEnd(usize, usize),
     /// Writes these bytes at this offset.
     Write(usize, &'static [u8]),

@@ -41,7 +41,7 @@ fn write_faults_end_it(rt: HostRuntime) {
     }
 }
 
-// Gives these bytes one by one, and faults behind the last.
+// Gives these bytes one by one, and faults after the last.
 #[derive(Drop)]
 struct Cut<'a> {
     bytes: &'a [u8],

@@ -50,7 +50,12 @@ fn faulty_lines(rt: HostRuntime) {
                 fault: not an operator's word\n\
                 fault: not an operator's word\n",
             ),
-            (b"block 0 0 0\n", b"fault: not an operator's word\n"),
+            (
+                b"unmap 0 0 0 1\nunmap\nblock 0 0 0\n",
+                b"fault: not an operator's word\n\
+                fault: not an operator's word\n\
+                fault: not an operator's word\n",
+            ),
             // A line cut at the end of input.
             (b"health", b"whole\n"),
             (b"room\nhealth", b"room 18\nwhole\n"),

@@ -167,7 +167,7 @@ pub fn says<C: Controller>(
     says_in(rt, alloc, controller, row, end, usize::MAX);
 }
 
-/// The same where a write faults behind this many bytes.
+/// The same where a write faults after this many bytes.
 pub fn says_in<C: Controller>(
     rt: &impl Abort,
     alloc: Global,
@@ -197,9 +197,9 @@ pub fn is_end(rt: &impl Abort, input: &[u8], ended: OperatorEnd, wanted: Operato
 pub enum Play<'a> {
     /// Each row is a conversation of its own, up to its end.
     Rows(&'a [Row<'a>]),
-    /// The same, behind writes to six blocks of a unit of host 0.
+    /// The same, after writes to six blocks of a unit of host 0.
     Written(&'a [Row<'a>]),
-    /// One conversation, with this end and a write fault behind this many bytes.
+    /// One conversation, with this end and a write fault after this many bytes.
     To(Row<'a>, OperatorEnd, usize),
 }
 

@@ -22,7 +22,7 @@ const SMALL: Arrays<'static> = Arrays {
     caches: "0",
 };
 
-/// The arrays that words such as `extents=3` name, with a space between two. A word that names none is handed back.
+/// The arrays that words such as `extents=3` name, with a space between two. A word that names none is returned.
 pub fn arrays_in(settings: &str) -> Result<Arrays<'_>, &str> {
     let mut arrays = SMALL;
     if settings.is_empty() {

@@ -80,7 +80,7 @@ fn work<L: Ledger + Send + Sync, R: Threads + Wait + Clock + Abort + Sync>(
     });
 }
 
-// So many groups are free in the end.
+// This many groups are free in the end.
 fn comes_to<L: Ledger, R: Wait + Abort>(rt: &R, kept: &Mutex<Kept<FuseDisk, L>>, groups: u32) {
     for _ in 0..LOOKS {
         if kept.lock(rt).array().free_groups() == groups {
@@ -143,7 +143,7 @@ pub fn rebuilds<L: Ledger + Send + Sync, R: Threads + Wait + Clock + Abort + Syn
     });
 }
 
-// The host's writes never leave a pause; among so many the rebuild ends.
+// The host's writes never leave a pause; the rebuild ends between them.
 fn write_until_whole<L: Ledger, R: Wait + Abort>(rt: &R, alloc: Global, rig: &Rig<L>) {
     for _ in 0..WRITES {
         write(rt, alloc, rig);

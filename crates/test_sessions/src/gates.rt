@@ -62,7 +62,7 @@ impl Gate for Held {
     }
 }
 
-// The session of a host that asks so many times whether its unit is ready.
+// The session of a host that asks this many times whether its unit is ready.
 fn input(rt: &impl Abort, alloc: Global, host: u8, count: u8) -> Vec<u8> {
     let mut bytes = Vec::new(alloc);
     put(rt, &mut bytes, LOGINS[usize::from(host % 4)]);
@@ -72,7 +72,7 @@ fn input(rt: &impl Abort, alloc: Global, host: u8, count: u8) -> Vec<u8> {
     bytes
 }
 
-/// A door to sessions, each of a host with so many commands.
+/// A door to sessions, each of a host with this many commands.
 pub fn door(rt: &impl Abort, alloc: Global, sessions: &[(u8, u8)]) -> MemDoor<MemSource, MemSink> {
     let mut pairs = VecDeque::new(alloc);
     for (host, count) in sessions {

@@ -51,8 +51,8 @@ impl<L: Ledger> Rig<L> {
         assert!(rt; is_made, "unit 0 of host {host} is made");
     }
 
-    /// Does what comes between two commands: creates, resizes, deletes or flushes a unit, or does work in the
-    /// background.
+    /// Does what comes between two commands: creates, resizes, deletes or flushes a unit, discards sectors of it,
+    /// or does work in the background.
     pub fn step(&self, rt: &impl Wait, ask: &Ask) -> Outcome<FuseDisk> {
         let mut kept = self.kept.lock(rt);
         match ask {
@@ -60,6 +60,10 @@ impl<L: Ledger> Rig<L> {
             Ask::Grow(place, sectors) => kept.operate(OperationOf::Grow(unit_at(*place), *sectors)),
             Ask::Remove(place) => kept.operate(OperationOf::Remove(unit_at(*place))),
             Ask::FlushUnit(place) => OutcomeOf::FlushUnit(kept.flush_unit(unit_at(*place))),
+            Ask::Unmap(place, lba, count) => {
+                let unit = unit_at(*place);
+                OutcomeOf::Unmap(kept.discard(unit.host, unit.lun, *lba, *count))
+            }
             Ask::Work(Work::Demote) => kept.background(Task::Demote),
             Ask::Work(Work::Clean) => kept.background(Task::Clean),
             Ask::Work(Work::Balance) => kept.background(Task::Balance),

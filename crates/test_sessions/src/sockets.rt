@@ -233,7 +233,7 @@ fn compare(rt: &impl Abort, guests: Guests, ends: &[ConnectionEnd]) {
     }
 }
 
-// Each session ended after so many frames, without a fault.
+// Each session ended after this many frames, without a fault.
 fn all_ended(rt: &impl Abort, ends: &[ConnectionEnd], frames: u64) {
     let wanted = ConnectionEnd::Served(SessionEnd {
         frames,

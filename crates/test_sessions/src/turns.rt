@@ -28,7 +28,7 @@ pub enum Part {
     Grown,
 }
 
-/// A session: its parts, of whose bytes at most so many are sent and so many come back, and how it ends.
+/// A session: its parts, of whose bytes at most this many are sent and this many come back, and how it ends.
 #[derive(Clone, Copy)]
 pub struct Turn {
     pub parts: &'static [Part],
@@ -255,7 +255,7 @@ const GROWING: [Part; 7] = [
     Part::Good(5, &[0x25], &[], &[0, 0, 0, 5, 0, 0, 2, 0]),
 ];
 
-// How a session ends whose input, a login, a WRITE of 1,024 bytes and a READ, is cut after so many bytes.
+// How a session ends whose input, a login, a WRITE of 1,024 bytes and a READ, is cut after this many bytes.
 fn end_of(cut: usize) -> SessionEnd {
     let (frames, reason) = match cut {
         0..=8 => (0, EndReason::Cut),

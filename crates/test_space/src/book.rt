@@ -24,7 +24,7 @@ fn refusals_print_their_number_and_name(rt: HostRuntime) {
     }
 }
 
-// Plays rows on a book of so many groups.
+// Plays rows on a book of this many groups.
 fn run<R: Abort + AllocGlobal>(rt: &R, geometry: Geometry, groups: u16, rows: &[(Call, Answer)]) {
     let mut book = Book::new(rt.alloc(), geometry);
     form_groups(rt, &mut book, groups);

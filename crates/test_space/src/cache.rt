@@ -28,7 +28,7 @@ const OF_ANOTHER_UNIT: Name = (0, 1, 0);
 enum Call {
     /// Puts a block of this byte throughout.
     Put(Name, u8),
-    /// Puts so many blocks of the first unit, in order, of this byte throughout. Tells the last answer.
+    /// Puts this many blocks of the first unit, in order, of this byte throughout. Returns the last answer.
     PutAll(u32, u8),
     Read(Name),
     FlushOne,

@@ -23,7 +23,7 @@ pub enum Call {
     Grow(Unit, u32),
     Drop(Unit),
     ClearAttention(Unit),
-    /// Gives a block the lowest hole of a class, and tells it.
+    /// Gives a block the lowest hole of a class, and reports it.
     Place(Unit, u32, Class),
     /// The same, and stamps the block.
     Put(Unit, u32, Class),
@@ -132,12 +132,12 @@ pub fn ask(rt: &impl Abort, book: &mut Book, call: Call) -> Answer {
         ),
         Call::Release(unit, rb) => release(book, key(rt, unit, rb)),
         Call::Stamp(unit, rb) => stamp(book, key(rt, unit, rb)),
-        _ => told(rt, book, call),
+        _ => seen(rt, book, call),
     }
 }
 
 // Answers a question about the whole.
-fn told(rt: &impl Abort, book: &Book, call: Call) -> Answer {
+fn seen(rt: &impl Abort, book: &Book, call: Call) -> Answer {
     match call {
         Call::Groups => number(book.groups()),
         Call::FreeGroups => number(book.free_groups()),
@@ -152,19 +152,19 @@ fn told(rt: &impl Abort, book: &Book, call: Call) -> Answer {
         Call::ClassOf(group)
         | Call::Used(group)
         | Call::LowestHole(group)
-        | Call::StandsOn(group, _) => { told_of_group(book, group, call) }
+        | Call::StandsOn(group, _) => { seen_of_group(book, group, call) }
         Call::Sectors(unit) | Call::Blocks(unit) | Call::Attention(unit) => {
-            told_of_unit(book, addr(rt, unit), call)
+            seen_of_unit(book, addr(rt, unit), call)
         }
         Call::Home(unit, rb)
         | Call::LevelOf(unit, rb)
         | Call::StampOf(unit, rb)
-        | Call::FullMirrored(unit, rb) => { told_of_block(book, key(rt, unit, rb), call) }
+        | Call::FullMirrored(unit, rb) => { seen_of_block(book, key(rt, unit, rb), call) }
         _ => Answer::Nothing,
     }
 }
 
-fn told_of_group(book: &Book, group: u32, call: Call) -> Answer {
+fn seen_of_group(book: &Book, group: u32, call: Call) -> Answer {
     if group >= book.groups() {
         return Answer::Nothing;
     }
@@ -177,7 +177,7 @@ fn told_of_group(book: &Book, group: u32, call: Call) -> Answer {
     }
 }
 
-fn told_of_unit(book: &Book, addr: Addr, call: Call) -> Answer {
+fn seen_of_unit(book: &Book, addr: Addr, call: Call) -> Answer {
     match call {
         Call::Sectors(_) => some_number(book.sectors(addr)),
         Call::Blocks(_) => number(book.blocks(addr)),
@@ -186,7 +186,7 @@ fn told_of_unit(book: &Book, addr: Addr, call: Call) -> Answer {
     }
 }
 
-fn told_of_block(book: &Book, key: Key, call: Call) -> Answer {
+fn seen_of_block(book: &Book, key: Key, call: Call) -> Answer {
     match call {
         Call::Home(_, _) => slot(book.home(key)),
         Call::LevelOf(_, _) => level(book.level(key)),
@@ -379,7 +379,7 @@ pub fn play(rt: &impl Abort, book: &mut Book, rows: &[(Call, Answer)]) {
     }
 }
 
-/// Forms so many groups.
+/// Forms this many groups.
 pub fn form_groups(rt: &impl Abort, book: &mut Book, groups: u16) {
     for group in 0..groups {
         let met = ask(rt, book, Call::Form(group));

@@ -30,7 +30,7 @@ struct Made {
 #[derive(Drop)]
 struct Plain {
     units: [Made; 3],
-    makings: u32,
+    created: u32,
     /// The homes of the blocks of each unit in turn, and their stamps.
     homes: [Option<Slot>; 54],
     stamps: [u64; 54],
@@ -78,7 +78,7 @@ impl Plain {
         };
         Plain {
             units: [none; 3],
-            makings: 0,
+            created: 0,
             homes: [None; 54],
             stamps: [0; 54],
             stamp: 0,
@@ -97,11 +97,11 @@ impl Plain {
             Call::Release(unit, rb) => self.release(unit, rb),
             Call::Stamp(unit, rb) => self.stamp(unit, rb),
             Call::Open(class) => self.open(class),
-            _ => self.told(call),
+            _ => self.seen(call),
         }
     }
 
-    fn told(&self, call: Call) -> Answer {
+    fn seen(&self, call: Call) -> Answer {
         match call {
             Call::Groups => number(GROUPS),
             Call::FreeGroups => number(self.free_groups()),
@@ -221,7 +221,7 @@ impl Plain {
         free
     }
 
-    // By stamp, then by the units' making, then by number.
+    // By stamp, then by the order in which units were created, then by number.
     fn age(&self, block: (Unit, u32)) -> (u64, u32, u32) {
         let (unit, rb) = block;
         (self.stamp_of(unit, rb), self.made(unit).number, rb)
@@ -265,11 +265,11 @@ impl Plain {
         if sectors.div_ceil(2) > room {
             return Answer::Refused(Refusal::NoRoom(room));
         }
-        self.makings = self.makings.saturating_add(1);
+        self.created = self.created.saturating_add(1);
         self.units[index_of_unit(unit)] = Made {
             sectors,
             attention: false,
-            number: self.makings,
+            number: self.created,
         };
         Answer::Done
     }

@@ -21,7 +21,7 @@ pub struct Shelf {
 }
 
 impl Shelf {
-    /// An empty shelf, which breaks at the call after so many.
+    /// An empty shelf, which breaks at the call after this many.
     pub fn new(alloc: Global, calls: u32) -> Shelf {
         Shelf {
             blocks: IndexMap::new(alloc),

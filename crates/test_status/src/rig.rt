@@ -118,7 +118,7 @@ pub struct Wanted<'a> {
     /// The status code and its phrase.
     pub code: &'a str,
     pub media_type: &'a str,
-    /// The fields behind `connection`, each with its CR LF.
+    /// The fields after `connection`, each with its CR LF.
     pub more: &'a str,
     pub body: &'a str,
 }

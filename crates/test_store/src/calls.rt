@@ -20,11 +20,11 @@ use std::process::Abort;
 /// A call that a test makes. What is written is one byte throughout.
 #[derive(Clone, Copy)]
 pub enum Call {
-    /// Makes the unit, of so many sectors: two are a SMALL block.
+    /// Makes the unit, of this many sectors: two are a SMALL block.
     Make(u32),
     /// Makes it of all the blocks that there is room for.
     MakeAll,
-    /// Makes it longer, to so many sectors.
+    /// Makes it longer, to this many sectors.
     Grow(u32),
     /// Removes it.
     Remove,
@@ -48,7 +48,7 @@ pub enum Call {
     Clean,
     /// Adds a disk like the others.
     Add,
-    /// Adds a disk of so many extents.
+    /// Adds a disk of this many extents.
     AddOf(u16),
     Balance,
     /// Balances where a disk may be lost meanwhile, so that any answer but that of a broken store or of no memory will
@@ -56,7 +56,7 @@ pub enum Call {
     Try,
     /// Takes a disk out.
     TakeOut(u8),
-    /// Replaces a disk by one of so many extents that passes so many calls.
+    /// Replaces a disk by one of this many extents that passes this many calls.
     Replace(u8, u16, u64),
     Rebuild,
     /// Asks where a block stands.
@@ -101,13 +101,13 @@ pub enum Answer {
     Shifted(u32, u8, u8),
     NoMemory,
     Tried,
-    /// This extent is done, and so many aren't.
+    /// This extent is done, and this many aren't.
     Rebuilt(u16, u16),
     Finished,
     GivenUp,
     Idle,
     Refused(DiskRefusal),
-    /// The disk was refused, and one of so many extents handed back.
+    /// The disk was refused, and one of this many extents returned.
     HandedBack(DiskRefusal, u16),
     Used(Class, u16),
     Count(u32),

@@ -63,7 +63,7 @@ pub fn byte_of(bytes: &[u8]) -> Option<u8> {
     Some(first)
 }
 
-/// A disk filled with EE, which passes so many calls.
+/// A disk filled with EE, which passes this many calls.
 pub fn fused_disk(alloc: Global, shape: Shape, calls: u64) -> Result<FuseDisk, AllocError>
     ensures { IfOk result (λ disk. CanCount disk.disk) }
 {

@@ -149,7 +149,7 @@ fn full(shape: Shape) -> [Step; 3] {
     ]
 }
 
-// The block goes to the first hole behind those that were moved. A block that is placed in the second reads as zeros.
+// The block goes to the first hole after those that were moved. A block that is placed in the second reads as zeros.
 fn squeezed(shape: Shape) -> [Step; 8] {
     let blocks = u32::from(slots(shape));
     [

@@ -54,7 +54,7 @@ const GIVEN_UP_AT_ONCE: [Step; 3] = [
     (Rebuild, Idle),
 ];
 
-// It passes just so many. The block is read from the other disk once it is gone.
+// It passes just this many. The block is read from the other disk once it is gone.
 const JUST_ENOUGH: [Step; 9] = [
     (Replace(0, 4, 2), Done),
     (Rebuild, Rebuilt(0, 3)),

@@ -1,4 +1,4 @@
-// Disks that aren't taken: the first of several reasons is told, and the disk is handed back.
+// Disks that aren't taken: the first of several reasons is reported, and the disk is returned.
 use crate::calls::{Answer, Call, Step, play};
 use crate::fixtures::{FOUR_GROUPS, WHOLE};
 use Answer::{Done, HandedBack, Now};

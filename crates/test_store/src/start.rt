@@ -12,7 +12,7 @@ use std::alloc::{AllocError, Global};
 use std::process::Abort;
 use std::test::Fail;
 
-// So many disks of the same extents.
+// This many disks of the same extents.
 fn of(disks: u8, extents: u16) -> Shape {
     Shape {
         disks,
@@ -188,7 +188,7 @@ fn the_longest_store_begins(rt: HostRuntime) -> Result<(), Fail> {
     forms(&rt, rt.alloc(), of(4, 1_024), formed)
 }
 
-// Disks that make no store are handed back.
+// Disks that make no store are returned.
 fn start_refuses(
     rt: &impl Abort,
     alloc: Global,

@@ -6,7 +6,7 @@ use Answer::{Broken, Byte, Done, Finished, Now, Rebuilt};
 use Call::{Get, Put, Rebuild, Replace};
 use ar_extents::Health;
 
-// Disk 1 passes so many calls. Before the rebuild it gets three: two writes and a read.
+// Disk 1 passes this many calls. Before the rebuild it gets three: two writes and a read.
 fn fused(calls: u64) -> Shape {
     Shape {
         fuses: [WHOLE, calls, WHOLE, WHOLE, WHOLE],

@@ -11,7 +11,7 @@ pub enum Answer {
     /// It wasn't.
     Refused(Refused),
     Replied(PlainReply),
-    /// No unit tells what was done.
+    /// No unit shows what was done.
     Open,
 }
 
@@ -22,7 +22,7 @@ pub enum Refused {
     Exists,
     Absent,
     Size,
-    /// There is room for so many blocks.
+    /// There is room for this many blocks.
     NoRoom(u32),
 }
 

@@ -20,6 +20,7 @@ pub fn event_of<N>(ask: Ask) -> Result<EventOf<N>, AllocError> {
         Ask::FlushUnit(place) => EventOf::FlushUnit(unit_at(place)),
         Ask::Work(work) => event_of_work(work),
         Ask::Command(command) => event_of_command(command)?,
+        Ask::Unmap(place, lba, count) => EventOf::Unmap(unit_at(place), lba, count),
     })
 }
 

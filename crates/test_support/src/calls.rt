@@ -27,6 +27,8 @@ pub enum Call {
     Force(u8, u8, u8, u8, u8),
     /// READ (10) of two sectors from an address on.
     Read(u8, u8, u8),
+    /// Discards sectors: address, and how many.
+    Unmap(u8, u8, u64, u32),
     /// TEST UNIT READY.
     Ready(u8, u8),
     /// The first ten bytes of another command block, without data.
@@ -96,6 +98,7 @@ pub fn event(alloc: Global, shape: Shape, call: Call) -> Result<Event<FuseDisk>,
         Call::Grow(host, lun, sectors) => EventOf::Grow(unit_of(host, lun), sectors),
         Call::Remove(host, lun) => EventOf::Remove(unit_of(host, lun)),
         Call::FlushUnit(host, lun) => EventOf::FlushUnit(unit_of(host, lun)),
+        Call::Unmap(host, lun, lba, count) => EventOf::Unmap(unit_of(host, lun), lba, count),
         Call::Work(work) => event_of_work(work),
         Call::AddDisk => EventOf::AddDisk(shape.new_disk(alloc, u64::MAX)?),
         Call::DiskOut(number) => EventOf::DiskOut(number),

@@ -16,7 +16,9 @@ pub fn agrees<N>(outcome: &OutcomeOf<N>, wanted: &Answer) -> bool {
         (OutcomeOf::FlushUnit(flush), Answer::Flushed) => *flush == UnitFlush::Done,
         (OutcomeOf::FlushUnit(flush), Answer::Refused(Refused::Absent)) => *flush
             == UnitFlush::Absent,
-        (OutcomeOf::Cmd(reply), Answer::Replied(wanted)) => is_same(reply, wanted),
+        (OutcomeOf::Cmd(reply) | OutcomeOf::Unmap(reply), Answer::Replied(wanted)) => is_same(
+            reply, wanted,
+        ),
         (_, Answer::Open) => kind_of_work(outcome) != Kind::Other,
         _ => false,
     }

@@ -17,15 +17,17 @@ pub struct Place {
 /// What an array is asked.
 #[derive(Debug, Drop)]
 pub enum Ask {
-    /// A unit of so many sectors is made.
+    /// A unit of this many sectors is made.
     Make(Place, u32),
     Remove(Place),
-    /// A unit grows to so many sectors.
+    /// A unit grows to this many sectors.
     Grow(Place, u32),
     /// A unit's cached blocks are destaged.
     FlushUnit(Place),
     Work(Work),
     Command(Command),
+    /// Sectors of a unit are discarded, so many from an address on.
+    Unmap(Place, u64, u32),
 }
 
 /// Work in the background.
@@ -79,6 +81,25 @@ pub(crate) fn draw(alloc: Global, rng: &mut SmallRng, host: Option<u8>) -> Resul
     })
 }
 
+/// Draws a discard: mostly of a range that a unit can have. With a host, it is that host's.
+pub(crate) fn draw_discard(rng: &mut SmallRng, host: Option<u8>) -> Ask {
+    let luns = if rng.random_ratio(3, 4) { 2 } else { LUNS };
+    let mut place = draw_place(rng, luns);
+    place.host = host.unwrap_or(place.host);
+    let (lba, count) = discarded(rng);
+    Ask::Unmap(place, lba, count)
+}
+
+// The range of a discard, now and then with an address or a number that no unit has.
+fn discarded(rng: &mut SmallRng) -> (u64, u32) {
+    let (lba, count) = range(rng);
+    match rng.random_range(0u8..32) {
+        0 => (u64::MAX, u32::from(count)),
+        1 => (u64::from(lba), u32::MAX),
+        _ => (u64::from(lba), u32::from(count)),
+    }
+}
+
 fn work_of(kind: u8) -> Work {
     match kind {
         10 => Work::Flush,
@@ -89,7 +110,7 @@ fn work_of(kind: u8) -> Work {
     }
 }
 
-// One of the hosts, and one of so many LUNs.
+// One of the hosts, and one of this many LUNs.
 fn draw_place(rng: &mut SmallRng, luns: u8) -> Place
     requires { 0 < luns }
 {

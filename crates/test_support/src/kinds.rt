@@ -16,9 +16,9 @@ pub enum Kind {
     /// GOOD, without bytes.
     Good,
     /// GOOD, with the data of INQUIRY or READ CAPACITY.
-    Told,
+    Info,
     /// GOOD, with the data of INQUIRY where no unit is.
-    ToldNowhere,
+    InfoNowhere,
     /// GOOD, with sectors of zeros.
     Zeros,
     /// GOOD, with sectors of which a byte isn't zero.
@@ -29,6 +29,8 @@ pub enum Kind {
     NoUnit,
     HasGrown,
     WrongLength,
+    /// GOOD, to a discard.
+    Discarded,
     /// Work in the background that moved a block, by what it was.
     Flushed,
     Demoted,
@@ -53,8 +55,8 @@ const KINDS: [Kind; 22] = [
     Kind::Size,
     Kind::NoRoom,
     Kind::Good,
-    Kind::Told,
-    Kind::ToldNowhere,
+    Kind::Info,
+    Kind::InfoNowhere,
     Kind::Zeros,
     Kind::Data,
     Kind::UnknownCode,
@@ -69,13 +71,14 @@ const KINDS: [Kind; 22] = [
 ];
 
 impl Kind {
-    /// The kind of an answer. What work in the background did is told by nobody but the array.
+    /// The kind of an answer. What work in the background did only the array reports.
     pub fn of(ask: &Ask, answer: &Answer) -> Kind {
         match (ask, answer) {
             (Ask::Make(..), Answer::Done) => Kind::Made,
             (Ask::Remove(_), Answer::Done) => Kind::Removed,
             (Ask::Grow(..), Answer::Done) => Kind::Grown,
             (_, Answer::Refused(refused)) => refused_kind(*refused),
+            (Ask::Unmap(..), Answer::Replied(PlainReply { sense: None, .. })) => Kind::Discarded,
             (_, Answer::Replied(reply)) => reply_kind(reply),
             _ => Kind::Other,
         }
@@ -102,16 +105,16 @@ fn reply_kind(reply: &PlainReply) -> Kind {
 fn data_kind(data: &[u8]) -> Kind {
     match data.len() {
         0 => Kind::Good,
-        1..=36 => told_kind(data[0]),
+        1..=36 => info_kind(data[0]),
         _ => sectors_kind(data),
     }
 }
 
-fn told_kind(first: u8) -> Kind {
+fn info_kind(first: u8) -> Kind {
     if first == 0x7F {
-        Kind::ToldNowhere
+        Kind::InfoNowhere
     } else {
-        Kind::Told
+        Kind::Info
     }
 }
 
@@ -138,13 +141,13 @@ fn sense_kind(sense: &[u8; 18]) -> Kind {
 /// How often an answer of each kind came.
 #[derive(Clone, Copy, Debug)]
 pub struct Tally {
-    counts: [u32; 26],
+    counts: [u32; 27],
 }
 
 impl Tally {
     /// None came.
     pub fn new() -> Tally {
-        Tally { counts: [0; 26] }
+        Tally { counts: [0; 27] }
     }
 
     /// One more of a kind came.

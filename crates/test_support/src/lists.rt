@@ -1,7 +1,7 @@
 // The units of an array, and the room that they leave.
 ghost use Rattle.std.specs.Prelude.{◌<◌, IfSome, vec_len};
 
-use crate::answer::{Answer, PlainReply, Refused};
+use crate::answer::{Answer, NO_UNIT, PlainReply, Refused};
 use crate::draw::{Ask, Command, Place};
 use crate::unit::{Unit, answer_nowhere};
 use std::alloc::{AllocError, Global};
@@ -15,7 +15,7 @@ const MOST_SECTORS: u32 = 1_048_576;
 /// The sectors of a small block.
 const BLOCK_SECTORS: u32 = 2;
 
-/// The units of four hosts, each a plain list, with room for so many blocks of two sectors.
+/// The units of four hosts, each a plain list, with room for this many blocks of two sectors.
 #[derive(Drop)]
 pub struct PlainArray {
     alloc: Global,
@@ -24,7 +24,7 @@ pub struct PlainArray {
 }
 
 impl PlainArray {
-    /// No unit, and room for so many blocks.
+    /// No unit, and room for this many blocks.
     pub fn new(alloc: Global, blocks: u32) -> PlainArray {
         PlainArray {
             alloc,
@@ -33,12 +33,12 @@ impl PlainArray {
         }
     }
 
-    /// Units may have so many blocks more.
+    /// Units may have this many blocks more.
     pub fn gain(&mut self, blocks: u32) {
         self.blocks = self.blocks.saturating_add(blocks);
     }
 
-    /// Does what an array is asked, and answers it. `Err` stands for want of memory for the lists themselves.
+    /// Does what an array is asked, and answers it. `Err` stands for a failed allocation of the lists themselves.
     pub fn step(&mut self, ask: &Ask) -> Result<Answer, AllocError> {
         match ask {
             Ask::Make(place, sectors) => self.make(*place, *sectors),
@@ -47,6 +47,7 @@ impl PlainArray {
             Ask::FlushUnit(place) => Ok(self.flush(*place)),
             Ask::Work(_) => Ok(Answer::Open),
             Ask::Command(command) => Ok(Answer::Replied(self.command(command)?)),
+            Ask::Unmap(place, lba, count) => Ok(Answer::Replied(self.unmap(*place, *lba, *count))),
         }
     }
 
@@ -125,9 +126,16 @@ impl PlainArray {
             None => answer_nowhere(self.alloc, &command.cdb),
         }
     }
+
+    fn unmap(&mut self, place: Place, lba: u64, count: u32) -> PlainReply {
+        match self.number(place) {
+            Some(number) => self.units[number].unmap(self.alloc, lba, count),
+            None => PlainReply::check(self.alloc, NO_UNIT),
+        }
+    }
 }
 
-// How many blocks a unit of so many sectors has.
+// How many blocks a unit of this many sectors has.
 fn blocks_of(sectors: u32) -> u32 {
     sectors.div_ceil(BLOCK_SECTORS)
 }

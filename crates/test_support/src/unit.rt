@@ -17,12 +17,12 @@ const INQUIRY: u8 = 0x12;
 pub(crate) struct Unit {
     pub place: Place,
     bytes: Vec<u8>,
-    // It has grown, and no command was told so.
+    // It has grown, and no command has reported it.
     has_grown: bool,
 }
 
 impl Unit {
-    /// A new unit of so many sectors.
+    /// A new unit of this many sectors.
     pub(crate) fn new(alloc: Global, place: Place, sectors: u32) -> Result<Unit, AllocError> {
         Ok(Unit {
             place,
@@ -35,7 +35,7 @@ impl Unit {
         (self.bytes.len() as u64 / SECTOR).min(u64::from(u32::MAX)) as u32
     }
 
-    /// Adds zeros, up to so many sectors.
+    /// Adds zeros, up to this many sectors.
     pub(crate) fn grow(&mut self, sectors: u32) -> Result<(), AllocError> {
         self.bytes.resize(byte_count(sectors), 0)?;
         self.has_grown = true;
@@ -61,6 +61,19 @@ impl Unit {
             Ok(Asked::Write(from, count)) => Ok(self.write(alloc, from, count, data)),
             Err(sense) => Ok(PlainReply::check(alloc, sense)),
         }
+    }
+
+    /// Sets so many sectors to zero.
+    pub(crate) fn unmap(&mut self, alloc: Global, from: u64, count: u32) -> PlainReply {
+        if self.has_grown {
+            self.has_grown = false;
+            return PlainReply::check(alloc, HAS_GROWN);
+        }
+        let Some((begin, end)) = self.range(from, count) else {
+            return PlainReply::check(alloc, OUT_OF_RANGE);
+        };
+        self.bytes[begin..end].fill(0);
+        PlainReply::good(Vec::new(alloc))
     }
 
     // The address of the last sector, and how long one is.

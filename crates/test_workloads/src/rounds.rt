@@ -40,7 +40,7 @@ struct Given {
     right: u32,
 }
 
-// A round on so many disks of so many small extents, with blocks more than there are.
+// A round on this many disks of this many small extents, with blocks more than there are.
 #[derive(Clone, Copy)]
 struct Trial {
     workload: Workload,
@@ -152,7 +152,7 @@ fn two_groups_are_emptied(rt: HostRuntime) {
     );
 }
 
-// An event that finds nothing to move is told.
+// An event that finds nothing to move is reported.
 #[test]
 fn no_more_is_moved(rt: HostRuntime) {
     for workload in [Workload::Demote, Workload::Clean] {

@@ -57,7 +57,7 @@ fn a_fill_with_its_squeezes(rt: HostRuntime) {
 }
 
 // Eight blocks fill two mirrored groups of small extents. A group with parity has six slots, so that two are opened,
-// each by eight rows of zeros. A block is read, then the zeros in its slot and their parity, and both are written anew.
+// each by eight rows of zeros. A block is read, then the zeros in its slot and their parity, and both are written.
 #[test]
 fn demotions_with_the_groups_that_they_open(rt: HostRuntime) {
     let zeroed = Moves {
@@ -238,7 +238,7 @@ fn holds(rt: &impl Abort, what: &str, bytes: &[u8], byte: u8, wanted: u8) {
     assert!(rt; holding(bytes, byte) == wanted, "{what} of {byte}");
 }
 
-// Two mirrored writes of two operations: blocks 0 and 1, and their copies behind them.
+// Two mirrored writes of two operations: blocks 0 and 1, and their copies after them.
 #[test]
 fn writes_are_copies_of_what_is_taken(rt: HostRuntime) -> Result<(), AllocError> {
     let bare = bare_after(
@@ -272,7 +272,7 @@ fn what_is_sent_is_not_copied_into_a_block(rt: HostRuntime) -> Result<(), AllocE
     Ok(())
 }
 
-// Two operations leave blocks 0 and 1, which they would read, as they are, and write the four behind them.
+// Two operations leave blocks 0 and 1, which they would read, as they are, and write the four after them.
 #[test]
 fn kept_blocks_stay_as_they_are(rt: HostRuntime) -> Result<(), AllocError> {
     let bare = bare_after(
