@@ -1,17 +1,21 @@
 # Completion of autoraid's and ar_client's words for bash.
 _autoraid() {
     local word=${COMP_WORDS[COMP_CWORD]} previous=${COMP_WORDS[COMP_CWORD-1]} words
-    local shape="--geometry --disks --extents --cache"
+    local made="--geometry --disks --extents" stored="--store --sync --commit-every"
     local served="--port --sessions --operator --http --iscsi --login-timeout --idle-timeout --audit --log"
     case $previous in
         --geometry) words="small paper" ;;
         --audit) words="full off" ;;
+        --sync) words="flush always" ;;
+        --store) COMPREPLY=($(compgen -d -- "$word")); return ;;
         --picture) COMPREPLY=($(compgen -f -- "$word")); return ;;
         *)
             case ${COMP_WORDS[1]} in
-                run) words="$shape --picture" ;;
-                serve) words="$shape $served" ;;
-                *) words="run serve" ;;
+                run) words="$made --cache --picture" ;;
+                create) words="--store --name $made" ;;
+                check) words="--store" ;;
+                serve) words="$made --cache $served $stored" ;;
+                *) words="run create check serve" ;;
             esac ;;
     esac
     COMPREPLY=($(compgen -W "$words" -- "$word"))
