@@ -180,10 +180,10 @@ static ABOUT: &str = "A disk array of two levels, mirrored and parity groups, fo
 
 static EXAMPLES: &str = "Examples:\n  \
     autoraid run < examples/life.script\n  \
-    autoraid serve --port 7117 --operator 7118 0:0:32M";
+    autoraid serve --port 7117 --operator 7118 --geometry paper --extents 64 0:0:32M";
 
 static RUN_EXAMPLE: &str =
-    "Example:\n  autoraid run --disks 5 --cache 16 --picture array.svg < examples/life.script";
+    "Example:\n  autoraid run --disks 5 --picture array.svg < examples/life.script";
 
 static CREATE_EXAMPLE: &str =
     "Example:\n  autoraid create --store /srv/array --name backup --geometry paper --extents 64";
@@ -195,7 +195,7 @@ static SERVE_EXAMPLE: &str =
     else ends the service. --audit is full with --sessions, unless --iscsi or --store is given,\n\
     and off otherwise. The array of a store has the store's own geometry, disks and extents.\n\n\
     Example:\n  \
-    autoraid serve --port 7117 --operator 7118 --http 7119 --extents 40 0:0:32M 1:0:8192";
+    autoraid serve --port 7117 --operator 7118 --http 7119 --geometry paper --extents 40 0:0:32M";
 
 /// The command of `autoraid`, with a subcommand for each way to use it.
 pub fn command<'a>(alloc: Global) -> Result<Command<'a>, AllocError> {
