@@ -3,6 +3,7 @@
 What an option is, its bounds and what holds without it are written here by hand, and not taken from the programs.
 """
 import re
+import tempfile
 
 from tests.harness import Case, Ended, free_port, program, ran, text_of
 
@@ -114,6 +115,26 @@ class Help(Case):
             self.holds(has(text, words), f"{words} in the help", text)
             self.holds(re.search(rf"^Examples?:|^  .*{name} ", text, re.MULTILINE), "an example", text)
             self.fits(text, 24)
+
+    def test_examples(self):
+        """An example of a help works, on ports that are free."""
+        for words in ("--help",), ("run", "--help"), ("serve", "--help"):
+            lines = re.findall(r"^ +autoraid (run|serve)( .*)$", self.shown("autoraid", *words), re.MULTILINE)
+            self.holds(lines, f"an example of {words}", lines)
+            for subcommand, rest in lines:
+                with self.subTest(subcommand + rest):
+                    self.works(subcommand, rest)
+
+    def works(self, subcommand, rest):
+        if subcommand == "run":
+            options, script = rest.split("<")
+            with tempfile.TemporaryDirectory() as room:
+                said = ran(program("autoraid"), "run", *options.split(), text=text_of(script.strip()), cwd=room)
+            self.wants((said.status, said.error), (0, ""), rest)
+            return
+        words = [str(free_port()) if re.fullmatch(r"711\d", word) else word for word in rest.split()]
+        running = self.starts(program("autoraid"), "serve", *words)
+        self.wants(running.line(), f"listening {words[1]}\n", rest)
 
     def test_help_as_a_word(self):
         self.wants(self.shown("autoraid", "help"), self.shown("autoraid"), "autoraid help")
