@@ -11,9 +11,11 @@ import tempfile
 import threading
 import time
 
-from tests.harness import CHECK, GOOD, PATIENCE, Case, Host, Server, program, ran
+from tests.harness import CHECK, GOOD, PATIENCE, Case, Host, Server, connected, program, ran
 
 SECTOR = 512
+# How many stops are cut.
+STOPS = 20
 FILES = ("selector", "first.log", "second.log")
 
 
@@ -148,6 +150,41 @@ class Lasting(Stored):
             # (what was sent after the prefix never was)
             del writer.written[last:]
         server.kill()
+
+    def stamps(self):
+        """What shows that a file of the store was written to."""
+        return [os.stat(os.path.join(self.store, name)).st_mtime_ns for name in FILES]
+
+    def test_kills_in_a_stop(self):
+        """A kill while a stop replaces the log leaves the old one or the new one: all that was acknowledged."""
+        self.creates("--geometry", "paper", "--extents", "4")
+        wanted, generations = [0] * 1024, []
+        for round_ in range(STOPS):
+            server = self.takes_up("0:0:1024")
+            host = self.host(server, 0)
+            for lba in range(0, 1024, 64):
+                number = round_ * 1024 + lba + 1
+                self.wants(host.asks(forced_write(lba, 64), sector_of(number) * 64).status, GOOD, "a WRITE")
+                wanted[lba : lba + 64] = [number] * 64
+            host.close()
+            before = self.stamps()
+            connected(server.operator_port).sendall(b"stop\n")
+            while self.stamps() == before and server.is_running():
+                time.sleep(0.001)
+            # (the last two stops come to their end)
+            time.sleep(0.002 * round_)
+            if round_ < STOPS - 2:
+                server.kill()
+            server.ended()
+            said = self.checks()
+            self.wants((said.status, said.error), (0, ""), f"a check after stop {round_}")
+            generations.append(int(said.out.split()[-1]))
+            server = self.takes_up()
+            data = self.host(server, 0).reads(0, 1024).data
+            self.wants(data, b"".join(map(sector_of, wanted)), f"the contents after stop {round_}")
+            server.kill()
+        self.wants(generations[-1], generations[-2] + 1, "the generation after a whole stop")
+        self.wants(generations, sorted(generations), "the generations")
 
     def test_each_write_that_waits(self):
         """With `--sync always` each WRITE that was answered lasts."""
