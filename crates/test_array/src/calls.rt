@@ -13,11 +13,14 @@ pub struct Ending {
     pub lost_by: Option<Call>,
 }
 
-// What a call returns once the data are lost. GOOD of a TEST UNIT READY, a READ or a WRITE needs them.
+// What a call returns once the data are lost. GOOD of a TEST UNIT READY, a READ, a WRITE or a
+// discard needs them.
 fn where_lost(call: Call, wanted: Return) -> Return {
     match (call, wanted) {
-        (Call::Ready(..) | Call::Read(..) | Call::Write(..), Return::Good | Return::Sectors(..)) =>
-            Return::Check(Sense::INTERNAL_TARGET_FAILURE),
+        (
+            Call::Ready(..) | Call::Read(..) | Call::Write(..) | Call::Unmap(..),
+            Return::Good | Return::Sectors(..),
+        ) => Return::Check(Sense::INTERNAL_TARGET_FAILURE),
         _ => wanted,
     }
 }

@@ -143,8 +143,8 @@ fn settle<R: Abort + AllocGlobal>(rt: &R, disks: Disks, array: &mut Array<FuseDi
     }
 }
 
-// Reads all blocks of all units that there may be.
-fn read_all<R: Abort + AllocGlobal>(rt: &R, run: &mut Run, array: &mut Array<FuseDisk>) {
+/// Reads all blocks of all units that there may be.
+pub fn read_all<R: Abort + AllocGlobal>(rt: &R, run: &mut Run, array: &mut Array<FuseDisk>) {
     for host in 0..4 {
         for lun in 0..8 {
             read_unit(rt, run, array, Place { host, lun });
@@ -210,7 +210,8 @@ fn live<R: Abort + AllocGlobal>(
     }
 }
 
-fn ask_next<R: Abort + AllocGlobal>(rt: &R, run: &mut Run, array: &mut Array<FuseDisk>) {
+/// Draws an event, and asserts what is answered.
+pub fn ask_next<R: Abort + AllocGlobal>(rt: &R, run: &mut Run, array: &mut Array<FuseDisk>) {
     let (ask, wanted) = run.next(None).expect(rt, "memory");
     answers(rt, run, array, ask, &wanted);
     drop(wanted);

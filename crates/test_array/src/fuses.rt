@@ -233,8 +233,8 @@ fn breaks_in<R: Abort + AllocGlobal>(rt: &R, shape: Shape) -> Breaks {
     breaks
 }
 
-// The call by which the data were lost. Where they are not, only the disk that was taken out is out.
-fn broken_by(rt: &impl Abort, shape: Shape, ending: Ending) -> Option<Call> {
+/// The call by which the data were lost. Where they are not, only the disk that was taken out is out.
+pub fn broken_by(rt: &impl Abort, shape: Shape, ending: Ending) -> Option<Call> {
     let wanted = match ending.lost_by {
         Some(_) => Health::Broken,
         None => Health::Out(0),

@@ -10,6 +10,8 @@ mod churn;
 #[cfg(test)]
 mod counters;
 #[cfg(test)]
+mod discards;
+#[cfg(test)]
 mod first_run;
 #[cfg(test)]
 mod flushed;
