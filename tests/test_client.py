@@ -49,6 +49,12 @@ class Client(Case):
     def test_server_goes_before_an_answer(self):
         self.server_goes(b"\0", "line 1: session fault\n")
 
+    def test_silent_server(self):
+        """A server that doesn't answer a login, as an operators' door, is given up after half a minute."""
+        with socket.create_server(("127.0.0.1", 0)) as door:
+            client = self.starts(program("ar_client"), "--port", door.getsockname()[1], "--host", "0")
+            self.wants(client.ended(90), Ended(1, "", "session fault\n"), "a client whose server is silent")
+
     def test_operators_door_closes(self):
         """A door that closes before the input has ended, or without an answer to `stop`."""
         for row in OPERATORS:

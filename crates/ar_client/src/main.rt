@@ -18,6 +18,10 @@ use std::io::{self, BufReader, Read, Write};
 use std::net::{Net, TcpListener, TcpStream};
 use std::process::ExitCode;
 use std::thread::Threads;
+use std::time::Duration;
+
+/// Seconds for which a host's client waits for an answer; no door but the hosts' answers a login.
+const ANSWER: u64 = 30;
 
 fn main(rt: HostRuntime) -> ExitCode {
     let alloc = rt.alloc();
@@ -68,7 +72,8 @@ fn run_operator<
     operate(rt, alloc, stream, input, output)
 }
 
-// A connection to a port of 127.0.0.1, without Nagle's delay; replies are read through a buffer.
+// A connection to a port of 127.0.0.1, without Nagle's delay; replies are read through a buffer, and a read that waits
+// too long is a fault.
 fn connect<R: Net<Listener = TcpListener, Stream = TcpStream>>(
     rt: &R,
     alloc: Global,
@@ -76,6 +81,7 @@ fn connect<R: Net<Listener = TcpListener, Stream = TcpStream>>(
 ) -> io::Result<(BufReader<TcpStream>, TcpStream)> {
     let stream = TcpStream::connect(rt, ("127.0.0.1", port))?;
     stream.set_nodelay(true)?;
+    stream.set_read_timeout(Some(Duration::from_secs(ANSWER)))?;
     let writer = stream.try_clone()?;
     Ok((BufReader::new(alloc, stream)?, writer))
 }
