@@ -386,7 +386,7 @@ fn plan_of<'s>(
     plan
 }
 
-// The configuration of a store's array, with a cache of so many blocks.
+// The configuration of a store's array, with a cache of this size in blocks.
 fn setup_in(head: &StoreHead, cache: u32) -> Setup {
     Setup {
         geometry: head.geometry,

@@ -120,7 +120,7 @@ fn run_on<R: Abort + AllocGlobal>(rt: &R, shape: Shape, array: &mut Array<FuseDi
     drop(run);
 }
 
-// Runs in which a disk is lost after so many calls, with a cache and without.
+// Runs in which a disk is lost after this number of calls, with a cache and without.
 fn outlive<R: Abort + AllocGlobal>(rt: &R, calls: u64) {
     for cache in [0, 2] {
         let shape = Shape {
