@@ -19,7 +19,7 @@ use Rattle.ar_store.proofs.Spaces.{slot_inside}
 use Rattle.ar_store.proofs.Standing.{stands_held, stands_nowhere}
 use Rattle.ar_store.proofs.Copies.{IsCopy, class_copied}
 
--- the groups of the second tables are those of the first, wherever their extents are now, and perhaps free ones behind
+-- the groups of the second tables are those of the first, wherever their extents are now, and perhaps free ones after
 -- them
 pub record IsCarried (a c : SetState) (t u : Tables) : Type 0 where
   pub geometry : c.geometry ≡ a.geometry

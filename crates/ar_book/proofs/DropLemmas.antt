@@ -54,7 +54,7 @@ pub record Emptied (gs : List GroupState) (hs : List (Option Slot)) (new : List 
 suc_same : (i j : ℕ) → suc i ≡ suc j → i ≡ j
 suc_same i j e = omega arith
 
--- the homes behind the first, once it is vacated
+-- the homes after the first, once it is vacated
 rest_after : (gs : List GroupState) (q : Slot) (hs : List (Option Slot)) → AreHomes gs (Some q ∷ hs)
     → AreHomes (vacated gs (Some q)) hs
 rest_after gs q hs ok =
@@ -183,7 +183,7 @@ first_homes gs hs n ok = record {
   apart = λ i j s e f. ok.apart i j s (take_some n hs i s e) (take_some n hs j s f);
 }
 
--- a home behind the first n is there once those are vacated
+-- a home after the first n is there once those are vacated
 pub next_group : (gs : List GroupState) (hs : List (Option Slot)) (n : ℕ) (s : Slot) → AreHomes gs hs
     → get_or hs n None ≡ Some s → s.group < length (fold vacated gs (take n hs))
 next_group gs hs n s ok e =

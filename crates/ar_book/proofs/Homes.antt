@@ -67,7 +67,7 @@ module _ (t : Tables) (ok : TablesAgree t) where
       let none : slots_of t.geometry (class_of t s.group) ≡ 0 = ap (λ c. slots_of t.geometry c) free in
       absurd (omega arith)
 
-  -- a slot behind those of the group's class names nothing
+  -- a slot after those of the group's class names nothing
   pub key_beyond : (s : Slot) → slots_of t.geometry (class_of t s.group) ≤ s.slot → key_at t s ≡ None
   key_beyond s beyond = by (key_at t s) (λ k e. (key_slot s k e).1)
     where

@@ -102,7 +102,7 @@ same_choices g place f h n x same = by x.class
         choices_with o = record (choices_by Mirrored g place f n x) { oldest = o }
     by Parity = refl
 
--- a new group, free, behind the others
+-- a new group, free, after the others
 pub leaves_push : (g : Geometry) (place : Addr → ℕ) (age : Key → Age) (n : ℕ) (gs : List GroupState) (x : GroupState)
     → leaves_from g place age n (gs ++ x ∷ []) ≡ leaves_from g place age n gs
     ++ choices_in g place age (n + length gs) x ∷ []

@@ -1,4 +1,4 @@
--- Empty places behind the end of a list change no reading of it.
+-- Empty places after the end of a list change no reading of it.
 use Rattle.std.proofs.Common.{◌≡◌, ◌+◌, ℕ, zero, suc, Option, None, is_some, List, [], ◌∷◌, ◌++◌, get_or, count_by}
 use Rattle.std.proofs.Common.{cond, replicate, refl, arith}
 use Rattle.std.proofs.lemmas.List.Sums.{sum_by-cons, sum_by-append}

@@ -61,7 +61,7 @@ module _ (place : Addr → ℕ) (f h : Key → Age) (k : Key) (a : Age) (other :
       let p = both (Some (f j)) (oldest_named place f slots) n in
       either (Some (h j)) (oldest_named place h slots) (again j p.0) (later slots p.1)
 
-  -- the block that stays stands first, or behind
+  -- the block that stays stands first, or after
   first : (j : Key) (r : Option Age) → f j ≡ a → NoOlder r → older place (Some (h j)) r ≡ Some a
   first j r e n = by r n
     where

@@ -25,7 +25,7 @@ last_keys_is es e h =
     ap keys_of (split ∙ ap (λ x. x ∷ drop (suc (length es - 1)) es) (get_or_from_slice_get es (length es - 1) e e h)
     ∙ ap (λ l. e ∷ l) none)
 
--- the last of the first n entries, and those behind
+-- the last of the first n entries, and those after
 pub last_dropped : (es : List (Key × List ℕ)) (n : ℕ) (k : Key) → n ≤ length es → last_key (take n es) ≡ Some k
     → (x : List ℕ) × (drop (n - 1) es ≡ (k, x) ∷ drop n es)
 last_dropped es n k within last =
@@ -62,7 +62,7 @@ module _ {S : Type 0} (step : S → Key → S → Type 0) where
       subst (λ ks. InTurn step ks a b) (ap last_keys (sym given)) (quiet refl)
   in_turn_last Broken es f g a b ok given put quiet = absurd (ok refl)
 
-  -- the entries behind the first n were destaged, and then the last of those
+  -- the entries after the first n were destaged, and then the last of those
   pub in_turn_next : (es : List (Key × List ℕ)) (n : ℕ) (k : Key) (a b c : S) → n ≤ length es
       → last_key (take n es) ≡ Some k
       → InTurn step (reverse (keys_of (drop n es))) a b → step b k c

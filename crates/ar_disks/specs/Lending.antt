@@ -7,6 +7,6 @@ use Rattle.ar_disks.specs.contracts.block.Block.{the_row}
 abbrev pub refilled : List ℕ → List ℕ → List ℕ
 refilled block bytes = take (length block) (bytes ++ drop (length bytes) block)
 
--- once `r` isn't used any more, the block is the last bytes behind it
+-- once `r` isn't used any more, the block is the last bytes after it
 abbrev pub LendsBytes : MutBor (List ℕ) → MutBor (List ℕ) → Fml
 LendsBytes b r = Lends the_row (Array u8 0) b r (refilled b.now)

@@ -43,7 +43,7 @@ impl Block {
         &self.bytes
     }
 
-    /// The bytes, to be overwritten in place: the block then has the last bytes behind the result.
+    /// The bytes, to be overwritten in place: the block then has the last bytes after the result.
     pub fn bytes_mut(&mut self) -> &mut [u8]
         ensures* writes_back { sem 𝓛 (LendsBytes self.entry result) }
         ensures value { result.now ≡ self.old }

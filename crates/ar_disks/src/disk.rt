@@ -8,7 +8,7 @@ use crate::Geometry;
 
 /// A disk of equal extents, each of `geometry().rows()` rows. A row is as long as a block.
 ///
-/// A faulting access fails the disk (`gone`) for good. Until then a read returns what was last written at the place,
+/// A faulting access fails the disk (`gone`) permanently. Until then a read returns what was last written at the place,
 /// or the disk's first contents.
 pub trait Disk {
     /// The disk's contents, whether it has failed, its fault count, and the number of its reads and writes.

@@ -267,7 +267,7 @@ keeps_written old new place row answered from others writes = record {
   };
 }
 
--- The answers of a call, told of the state `self` that the call began with: `old` is what its fields show.
+-- The results of a call, in terms of the state `self` that the call began with: `old` is what its fields show.
 
 pub read_answer : (old self : SetState) (disks : List DiskState) (log : List RowAccess) (place : Place) (row : ℕ)
     (into : List ℕ) → old ≡ self → IsSound old place

@@ -100,7 +100,7 @@ kept_replaced s d disk kept taken few =
       marks = kept.marks;
     }
 
--- the same, told of the disks themselves and of the state `self` that the call began with: `old` is what its fields
+-- the same, in terms of the disks themselves and of the state `self` that the call began with: `old` is what its fields
 -- show
 pub kept_replacing : {D : Type 0} (state : D → DiskState) (disks : List D) (d : ℕ) (x : D) (old self : SetState)
     → old.disks ≡ map state disks → old ≡ self
@@ -126,7 +126,7 @@ and_of true true c p q = refl
 and_of true false c p q = absurd cc
 and_of false b c p q = absurd cc
 
--- the test of all disks, told of their states
+-- the test of all disks, in terms of their states
 pub are_alike_is : {D : Type 0} (state : D → DiskState) (disks : List D) (geometry : Geometry) (extents : ℕ)
     (result : Bool)
     → geometry ≡ (disk_in (map state disks) 0).geometry → extents ≡ (disk_in (map state disks) 0).extents → extents ≢ 0

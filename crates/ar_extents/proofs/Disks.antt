@@ -33,7 +33,7 @@ OthersStay-map_set state disks d x = record {
   len = length-map (set disks d x) state ∙ length-set disks d x ∙ sym (length-map disks state);
 }
 
--- what a disk of the list did, told of the list
+-- what a disk of the list did, in terms of the list
 pub Reads-map_set : {D : Type 0} (state : D → DiskState) (disks : List D) (d : ℕ) (x y : D) (extent row : ℕ)
     (answer : Bool) (into : List ℕ)
     → d < length disks → x ≡ get_or disks d x → Reads (state x) (state y) extent row answer into

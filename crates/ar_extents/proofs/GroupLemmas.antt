@@ -15,7 +15,7 @@ use Rattle.ar_extents.proofs.Faults.{is_lost-after_fault, sound_before}
 use Rattle.ar_extents.proofs.Follows.{has_extent_then, keeps_replaced, keeps_disks, works_more}
 use Rattle.ar_extents.proofs.Losses.{lost_not_sound, sound_with_done}
 
--- an extent is told by its two numbers
+-- an extent is named by its two numbers
 pub place_is : (p q : Place) → p.disk ≡ q.disk → p.extent ≡ q.extent → p ≡ q
 place_is p q disk extent =
     ap (λ (n : ℕ). let there : Place = record { disk = n; extent = p.extent } in there) disk

@@ -1,4 +1,4 @@
-// Health: at most one disk is down, or the set has failed for good.
+// Health: at most one disk is down, or the set has failed permanently.
 //
 //     Whole --fault--> Out d --replace d--> Rebuilding d 0 --extent done--> Rebuilding d 1 .. --last--> Whole
 //                        |                        |  fault of d: Out d

@@ -30,12 +30,12 @@ pub record IsClimbing (place : Addr → ℕ) (size : ℕ) (old nodes : List Choi
   -- the node is so many levels above the first, and those below it in number are as they were
   pub here : node ≡ above (steps - before) start
   pub rest : (i : ℕ) → i < node → node_at nodes i ≡ node_at old i
-  -- the first has changed where a step was taken, and so has each on the way, this one too where its change is told
+  -- the first has changed where a step was taken, and so has each on the way, this one too where its change is reported
   pub still : first ≡ Nothing → (steps ≡ before) × (change ≡ Nothing)
   pub passed : HaveChanged old nodes start 1 (steps - before)
   pub last : change ≢ Nothing → 0 < steps - before → node_at nodes node ≢ node_at old node
 
--- the nodes where the one above this is joined anew
+-- the nodes where the one above this is joined again
 abbrev pub joined_anew : (Addr → ℕ) → List Choices → ℕ → List Choices
 joined_anew place nodes n =
     set nodes (n / 2) (join place (node_at nodes (2 * (n / 2))) (node_at nodes (2 * (n / 2) + 1)))
@@ -60,13 +60,13 @@ numbers_turned a b e =
 same_numbers : (a b : Choices) → a ≡ b → HaveSameNumbers a b
 same_numbers a b e = subst (λ x. HaveSameNumbers x b) (sym e) refl
 
--- a change that is told is one
+-- a change that is reported is one
 pub change_is : (old new : Choices) (change : Change) → IsChangedTo old new change → change ≢ Nothing → new ≢ old
 change_is old new Nothing told some = absurd (some refl)
 change_is old new Oldest told some = told.1
 change_is old new Anything told some = λ e. told (same_numbers new old e)
 
--- and where there is none, none is told
+-- and where there is none, none is reported
 pub none_told : (old new : Choices) (change : Change) → IsChangedTo old new change → new ≡ old → change ≡ Nothing
 none_told old new Nothing told same = refl
 none_told old new Oldest told same = absurd (told.1 same)

@@ -159,7 +159,7 @@ pub seen_inside : (size count leaf : ℕ) (nodes seen : List Choices) → IsGrow
 seen_inside size count leaf nodes seen ok e inside =
     omega (arith, leaves_count size count nodes ok.twice ok.within, ap length e)
 
--- the choices of a leaf are put behind the others, after room was made for it
+-- the choices of a leaf are put after the others, after room was made for it
 module _ (size more count free : ℕ) (old mid new : List Choices) (c : Choices) (ok : IsValidTree size count free old)
     (grown : IsGrown more count mid)
     (room : (count < more) × (more ≤ 2 * (count + 1) - 1)) (same : leaves_in more count mid ≡ leaves_in size count old)

@@ -96,7 +96,7 @@ module _ (p q r : Addr → Bool) (others : (k : Addr) → r k ≡ true → (p k 
       by true e rest = gone (others k e).0 (others k e).1
       by false e rest = further_on (not (p k)) (not (q k)) _ _ _ _ rest
 
--- and once another is put behind all
+-- and once another is put after all
 module _ (p q : Addr → Bool) (a : Addr) (no : p a ≡ false) (nor : q a ≡ false) where
   pub pushed_alike : (ks : List Addr)
       → Alike (position_or_len p ks) (position_or_len q ks) (position_or_len p (ks ++ a ∷ []))

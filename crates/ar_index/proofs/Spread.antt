@@ -1,4 +1,4 @@
--- A tree that is made anew with more leaves.
+-- A tree that is rebuilt with more leaves.
 use Rattle.std.proofs.Common.{◌≡◌, ℕ, zero, suc, ◌+◌, ◌-◌, ◌*◌, ◌<◌, ◌≤◌, List, length, drop, set, replicate, refl, sym}
 use Rattle.std.proofs.Common.{ap, ◌∙◌, inl, inr, arith}
 use Rattle.std.proofs.lemmas.Bool.{cases_lt, cases_eq}
@@ -53,7 +53,7 @@ spread_more place size more leaf nodes old new inside le ok tree put = record {
       put_elsewhere more leaf old new (node_at nodes (size + leaf)) put i (omega arith) ∙ ok.rest i (omega arith);
 }
 
--- a tree that was made anew with twice as many leaves, or with one where there was none
+-- a tree that was rebuilt with twice as many leaves, or with one where there was none
 module _ (size more count : ℕ) (nodes tree : List Choices) (ok : IsGrown size count nodes)
     (first : size ≡ 0 → more ≡ 1) (twice : 0 < size → more ≡ 2 * size)
     (made : length tree ≡ 2 * more) (done : (i : ℕ) → i < size → node_at tree (more + i) ≡ node_at nodes (size + i))

@@ -57,7 +57,7 @@ two_failed m i row third a b is two =
     let P : ℕ → Type 0 = λ n. AttemptsAll (two_reads m i n row ++ read_at (member m n) row ∷ []) false a b in
     subst P is (all_fewer (two_reads m i third row) (read_at (member m third) row ∷ []) a b two)
 
--- reads with nothing behind them
+-- reads with nothing after them
 pub all_read : (ts : List Attempt) (done : Bool) (a b : SetState) → AttemptsAll ts done a b
     → CarriesOut (all_of ts Stop) a b
 all_read ts true a b tried = all_then ts Stop a b b tried (stops b)
@@ -94,7 +94,7 @@ next_stripe m row n a b c lt first rest =
     subst P (sym (left_after n row lt))
     (each_then (writes_from m row 0 4) (stripes_from m (row + 1) (n - (row + 1))) a b c first rest)
 
--- the read of a slot, told of the extent and the row that were found
+-- the read of a slot, in terms of the extent and the row that were found
 pub read_carried : (m : Members) (slot : ℕ) (i row : ℕ) (p : Place) (a b : SetState) → i ≡ data_position slot
     → row ≡ row_of slot → p ≡ member m i
     → CarriesOut (Try (read_at p row) Stop (all_of (three_reads m i row) Stop)) a b
@@ -146,7 +146,7 @@ stripe_carried m i j k row p missing a b position at is carried =
     carried_if (member m j) (write_member m i row) (write_by_reading m i j row) a b missing
     (ap (λ (q : Place). is_missing a.health q.disk q.extent) (sym here) ∙ is) carried
 
--- the write of a slot, told of the position and the row that were found
+-- the write of a slot, in terms of the position and the row that were found
 pub write_carried : (m : Members) (slot i row : ℕ) (a b : SetState) → i ≡ data_position slot → row ≡ row_of slot
     → CarriesOut (stripe_write m i (parity_position row) row) a b → CarriesOut (parity_write m slot) a b
 write_carried m slot i row a b is_i is_row carried =

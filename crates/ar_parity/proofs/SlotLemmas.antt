@@ -1,4 +1,4 @@
--- Slots, told by their rows.
+-- Slots, by their rows.
 use Rattle.std.proofs.Common.{◌≡◌, ◌≢◌, inl, inr, ℕ, ◌*◌, ◌/◌, ◌<◌, List, sym, ◌∙◌, ap, subst, arith}
 use Rattle.std.proofs.lemmas.Bool.Decides.{eqb_tells, nat_tests}
 use Rattle.ar_disks.specs.declared.address.Members.{Members}
@@ -83,7 +83,7 @@ zero_slots s m rows n all slot lt = record {
   here = zero_block n (data_position slot);
 }
 
--- the same, where row and position are told by equations
+-- the same, where row and position are given by equations
 pub others_kept_at : (a b : SetState) (m : Members) (slot row position : ℕ) (bytes : List ℕ) → row ≡ row_of slot
     → position ≡ data_position slot
     → Follows a b → UpdatesStripe a b m row position bytes → KeepsButRow m row a b

@@ -164,7 +164,7 @@ slot_kept b d m slot row i k l x same ne is_i is_k is_l bd others stands =
     (λ e. positions_apart slot (3 * row + 2) same_row ne (sym is_i ∙ e ∙ is_k))
     (λ e. position_apart slot (sym is_i ∙ e ∙ is_l ∙ ap parity_position (sym same)))) stands)
 
--- two slots were written and then, with the parity, the third; told of the positions that were found
+-- two slots were written and then, with the parity, the third; in terms of the positions that were found
 pub stripe_written : (b d : SetState) (m : Members) (row i j k l : ℕ) (x y z sum : List ℕ)
     → length x ≡ block_len_of d.geometry → length y ≡ block_len_of d.geometry → length z ≡ block_len_of d.geometry
     → i ≡ data_position (3 * row) → j ≡ data_position (3 * row + 1) → k ≡ data_position (3 * row + 2)
@@ -184,7 +184,7 @@ two_at : (m : Members) (row i j x y : ℕ) (a b : SetState) → i ≡ x → j �
 two_at m row i j x y a b is_i is_j carried =
     carried_to (λ h. write_two m x h row) j y a b is_j (carried_to (λ h. write_two m h j row) i x a b is_i carried)
 
--- its plan, told of the positions that were found
+-- its plan, in terms of the positions that were found
 pub stripe_carried_out : (m : Members) (row i j k l : ℕ) (a b d : SetState) → i ≡ data_position (3 * row)
     → j ≡ data_position (3 * row + 1) → k ≡ data_position (3 * row + 2) → l ≡ parity_position row
     → CarriesOut (write_two m i j row) a b → CarriesOut (write_two m k l row) b d

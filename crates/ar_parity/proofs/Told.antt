@@ -60,7 +60,7 @@ pub record WentOn (next : AccessPlan) (a b c : SetState) : Type 0 where
   pub health : b.health ≡ a.health
   pub carried : CarriesOut next b c
 
--- reads in turn, and what went on behind them, if anything
+-- reads in turn, and what went on after them, if anything
 pub record ReadsThen (these : Place → Type 0) (next : AccessPlan) (a c : SetState) : Type 0 where
   pub between : SetState
   pub reads : OnlyReads these a between

@@ -290,7 +290,7 @@ has_moved a t u v from to space sound full free is empty copies made =
       unplaced = λ k none. moved.unplaced k (ap (λ (x : Tables). home x k) is ∙ none);
     }
 
--- the slots behind the last block hold zeros
+-- the slots after the last block hold zeros
 pub copies_zeros : (a : SetState) (u : Tables) (from to : Members) (g n : ℕ) → (group_in u.groups g).members ≡ to
     → class_of u g ≡ Parity → n ≡ slots_of a.geometry Mirrored → HoldsCopies from to a
     → IsZerosFrom (store_of a u) (slot_at g n)

@@ -18,7 +18,7 @@ use Rattle.ar_store.specs.declared.form.FourDisks.{FourDisks}
 use Rattle.ar_store.specs.Fullest.{AreFourFullest, HasFewCounts, one_fewer, four_fewer, next_members}
 use Rattle.ar_store.specs.Forming.{AreFullest, HasFewLoose, IsAllLoose, without}
 
--- the marks of a disk of which so many extents are taken, and so many behind them are loose
+-- the marks of a disk of which so many extents are taken, and so many after them are unassigned
 abbrev pub line : ℕ → ℕ → List Bool
 line zero zero = []
 line zero (suc c) = true ∷ line zero c

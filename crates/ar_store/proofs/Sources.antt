@@ -28,7 +28,7 @@ use Rattle.ar_book.specs.Tables.{slots_of}
 use Rattle.ar_store.specs.Slots.{IsSource, AreSources, HoldsSource}
 use Rattle.ar_store.specs.Plans.{source_read, sources_plan, copy_plan, copies_plan}
 
--- behind the last mirrored slot nothing is read
+-- after the last mirrored slot nothing is read
 none_by : (g : Geometry) (m : Members) (i : ℕ) (there : Bool) (s : SetState) → there ≡ false
     → CarriesOut (if there then mirror_read g m i else Stop) s s
 none_by g m i there s is =

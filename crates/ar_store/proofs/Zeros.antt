@@ -1,4 +1,4 @@
--- What a squeeze leaves behind the blocks that it moves: zeros.
+-- What a squeeze leaves after the blocks that it moves: zeros.
 use Rattle.std.proofs.Common.{◌≡◌, ◌≢◌, inl, inr, ℕ, ◌+◌, ◌*◌, ◌<◌, length, refl, sym, ap, subst, ◌∙◌, arith}
 use Rattle.std.proofs.lemmas.Option.{none-some}
 use Rattle.ar_disks.specs.Block.{zeros}
@@ -35,7 +35,7 @@ zeros_broken m s broken =
     zero_slots s m (rows_of s.geometry) (block_len_of s.geometry)
     (λ row lt. broken_zero_agrees s s m row (follows_refl s) broken)
 
--- One of its slots was written: those behind it hold zeros.
+-- One of its slots was written: those after it hold zeros.
 pub zeros_later : (a b : StoreState) (s : Slot) → IsSpace a → s.group < length a.book.groups
     → class_in a s.group ≡ Parity → Follows a.disks b.disks
     → BesideHold a b s → HoldsZerosFrom a s.group s.slot → HoldsZerosFrom b s.group (s.slot + 1)
@@ -100,7 +100,7 @@ pub beside_hold_stamped : (a : StoreState) (b : SetState) (t : Tables) (k : Key)
 beside_hold_stamped a b t k to beside =
     record { slots = λ slot block there same ne holds. beside.slots slot block there same ne holds }
 
--- The slot that a squeeze left was written: those behind it hold zeros.
+-- The slot that a squeeze left was written: those after it hold zeros.
 pub zeros_put : (a b d : StoreState) (k : Key) (way : Way) → IsSpace b → Follows b.disks d.disks
     → Leads a.book k b.book way → IsReadyFor b k way → way ≢ Broken
     → IsZerosOnWay a.book k b way → BesideWay way b d → LeavesZeros a k d

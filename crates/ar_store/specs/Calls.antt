@@ -73,7 +73,7 @@ pub record HoldsZerosFrom (s : StoreState) (group first : ℕ) : Type 0 where
   pub slots : (i : ℕ) → first ≤ i → i < 3 * rows_of s.disks.geometry
       → SlotHolds s (slot_at group i) (zeros (block_len_of s.disks.geometry))
 
--- After a put that needed a squeeze each slot behind the block's own holds the zero block.
+-- After a put that needed a squeeze each slot after the block's own holds the zero block.
 pub record LeavesZeros (old : StoreState) (k : Key) (new : StoreState) : Type 0 where
   pub behind :
       (from to : ℕ) → home old.book k ≡ None → HasNoHole old.book Mirrored → HasNoHole old.book Parity
@@ -86,7 +86,7 @@ pub record IsZerosFrom (s : StoreState) (slot : Slot) : Type 0 where
   pub parity : class_in s slot.group ≡ Parity
   pub zeros : HoldsZerosFrom s slot.group slot.slot
 
--- A squeeze was made: all blocks of the full mirrored group have moved to the only free one, behind them is this hole,
+-- A squeeze was made: all blocks of the full mirrored group have moved to the only free one, after them is this hole,
 -- from which on each slot holds the zero block, and a group is free again.
 pub record LeavesHole (old new : StoreState) (s : Slot) : Type 0 where
   pub squeezed : IsSqueezed old.book new.book s

@@ -73,7 +73,7 @@ open_plan Mirrored g m = Stop
 open_plan Parity g m = fill_plan g m
 
 -- The read of a mirrored group's slot for the slot with the same number of a parity group. A parity group has half as
--- many slots again: for one behind the last mirrored slot nothing is read.
+-- many slots again: for one after the last mirrored slot nothing is read.
 abbrev pub source_read : Geometry → Members → ℕ → AccessPlan
 source_read g m i = if nat_lt i (slots_of g Mirrored) then mirror_read g m i else Stop
 

@@ -94,7 +94,7 @@ pub record SurvivesLossOf (s : StoreState) (d : ℕ) : Type 0 where
   pub blocks : (disk : DiskState) (k : Key) → stands (store_of (without_disk s.disks d disk) s.book) k ≡ stands s k
 
 -- The block for a slot of a parity group to which the blocks of a mirrored group are copied: that of the mirrored slot
--- with the same number, and the zero block behind the last one.
+-- with the same number, and the zero block after the last one.
 pub record IsSource (from : Members) (i : ℕ) (s : SetState) (block : List ℕ) : Type 0 where
   pub held : i < slots_of s.geometry Mirrored → MirrorHolds s from i block
   pub zero : slots_of s.geometry Mirrored ≤ i → block ≡ zeros (block_len_of s.geometry)
@@ -110,7 +110,7 @@ pub record HoldsSource (from to : Members) (old new : SetState) (i : ℕ) : Type
   pub holds : (block : List ℕ) → IsSource from i old block → ParityHolds new to i block
 
 -- A slot of a parity group holds the block for it: the one that the mirrored slot with the same number holds, or the
--- zero block behind the last one.
+-- zero block after the last one.
 pub record HoldsCopy (from to : Members) (s : SetState) (i : ℕ) : Type 0 where
   pub block : List ℕ
   pub len : length block ≡ block_len_of s.geometry

@@ -31,7 +31,7 @@ impl<D: Disk> Space<D> {
     ghost use Rattle.ar_store.specs.Spaces.{store_in, IsReady, Stays};
 
     /// Copies all blocks of the lowest full mirrored group to the only free group, which becomes a parity group and
-    /// their home, and returns the first hole behind them. None if the array failed; the tables are unchanged then.
+    /// their home, and returns the first hole after them. None if the array failed; the tables are unchanged then.
     pub(crate) fn squeeze(&mut self, block: &mut Block) -> Option<Slot>
         requires ready { IsReady self.old }
         requires waiting { HasUnplacedBlock self.old.book }
@@ -88,7 +88,7 @@ impl<D: Disk> Space<D> {
     }
 
     // Opens the only free group, which stores copies of all blocks of a full mirrored group, for parity, and makes its
-    // slots their homes. Returns the first hole behind them. No disk is accessed.
+    // slots their homes. Returns the first hole after them. No disk is accessed.
     fn move_homes(&mut self, from: u32) -> Slot
         requires ready { IsReady self.old }
         requires full { IsFullMirrored self.old.book from }

@@ -21,7 +21,7 @@ use ar_disks::{Block, Completion, Disk, Members, Scratch};
 use ar_extents::DiskSet;
 
 /// Writes the blocks of the mirrored group on `from`, in slot order, to the slots with the same numbers of a parity
-/// group on `to`, and zeros to the slots behind them. `block` and `scratch` are overwritten.
+/// group on `to`, and zeros to the slots after them. `block` and `scratch` are overwritten.
 ///
 /// After `Broken`, the rows of `to` have unspecified bytes.
 pub(crate) fn copy_group<D: Disk>(
@@ -125,7 +125,7 @@ fn read_sources<D: Disk>(
     }
 }
 
-// Reads the block for a slot of the parity group: that of the mirrored slot with the same number, and zeros behind the
+// Reads the block for a slot of the parity group: that of the mirrored slot with the same number, and zeros after the
 // last one.
 fn read_source<D: Disk>(
     disks: &mut DiskSet<D>,

@@ -41,7 +41,7 @@ served_absent true sectors attention cdb bytes reply e given = absurd (true≢fa
 served_absent false sectors attention cdb bytes reply e given =
     record { given = given; left = λ _. refl; unchanged = λ _. refl }
 
--- a mark that is told
+-- a pending attention that is reported
 pub served_told :
     (present : Bool) (sectors : List Sector) (attention : Bool) (cdb bytes : List ℕ) (reply : Reply)
     → present ≡ true → attention ≡ true → eqb (operation_code cdb) 0x12 ≡ false
