@@ -51,11 +51,11 @@ use Rattle.ar_volume.proofs.Images.{same_address_of, other_address_of, image_pre
 use Rattle.ar_volume.proofs.Images.{shape_same, shape_here, sectors_same}
 use Rattle.ar_core.proofs.Everywhere.{everywhere}
 
--- the command is told of the growth first
+-- the growth is reported first
 abbrev pub tells : ArrayState → Addr → List ℕ → Bool
 tells s addr cdb = attention_at s.store.book addr && not (operation_code cdb == 0x12)
 
--- the table from the command block on is the answer where no growth is told
+-- the table from the command block on is the answer where no growth is reported
 answer_obeyed : (sectors : List (List ℕ)) (mark : Bool) (cdb bytes : List ℕ)
     → mark && not (operation_code cdb == 0x12) ≡ false
     → answer (Present sectors mark) cdb bytes ≡ obeyed sectors mark (reading cdb) bytes
@@ -107,7 +107,7 @@ shape_present s addr there =
     (record { present = true; sectors = length_at s.store.book addr; attention = attention_at s.store.book addr })
     (record { present = false; sectors = 0; attention = false })) there
 
--- a mark that isn't told stays
+-- a pending attention that isn't reported stays
 mark_stays : (mark inquiry : Bool) → mark && not inquiry ≡ false → mark && inquiry ≡ mark
 mark_stays false inquiry e = refl
 mark_stays true true e = refl
@@ -138,7 +138,7 @@ failure_told false old cdb bytes reply new sound is =
     absurd (answer_other old cdb bytes
     (sym ((sound refl).given.answered (check_not_busy reply internal_target_failure is)) ∙ is))
 
--- no mark was told
+-- no attention was reported
 told_same : (s : ArrayState) (addr : Addr) (cdb : List ℕ) → tells s addr cdb ≡ false → once_told s addr cdb ≡ s
 told_same s addr cdb quiet = ap (λ b. with_book s (cond b (unmarked s.store.book addr) s.store.book)) quiet
 
@@ -259,7 +259,7 @@ told_shape old new addr cdb bytes reply was there len gone tells is =
     ∙ ap (λ (r : Reply). shape_of (unit_run (image_at old addr) (cond (is_busy r.status) [] (Cmd cdb bytes ∷ []))))
     (sym is)
 
--- a growth that was told
+-- a growth that was reported
 pub commands_told : (old new : ArrayState) (addr : Addr) (n : ℕ) (cdb bytes : List ℕ) (reply : Reply)
     → IsUnit old addr n → tells old addr cdb ≡ true
     → reply ≡ check capacity_data_has_changed → new ≡ with_book old (unmarked old.store.book addr) → SameSeen old new

@@ -1,3 +1,4 @@
+pub mod Allocating
 pub mod Balancing
 pub mod Calm
 pub mod Causes

@@ -47,7 +47,7 @@ pub record HurtsNone (event : Event) (old new : SetState) : Type 0 where
 -- What any event may do to the disks; the number of disks, unassigned extents and exact health are in each event's own
 -- relation. Geometry and extents stay, and the fault count of a disk that isn't replaced never falls. A disk that
 -- faults is out after the event, or the array has failed. A disk is out only if it was, faulted or was taken out; it is
--- being rebuilt only if it was out or being rebuilt. The array fails only if two disks are hit, and then for good.
+-- being rebuilt only if it was out or being rebuilt. The array fails only if two disks are hit, and then permanently.
 pub record HasCause (event : Event) (old new : SetState) : Type 0 where
   pub geometry : new.geometry ≡ old.geometry
   pub extents : new.extents ≡ old.extents

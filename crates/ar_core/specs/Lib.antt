@@ -1,3 +1,4 @@
+pub mod Allocation
 pub mod Causes
 pub mod Costs
 pub mod WriteCosts

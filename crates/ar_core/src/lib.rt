@@ -2,6 +2,7 @@
 //! commands and discards change, whatever happens to other units and to any one disk. `Array::run` has this as its contract.
 #![tactic(auto)]
 
+mod allocation;
 mod array;
 mod balance;
 mod commands;
@@ -16,6 +17,7 @@ mod rebuild;
 mod unmap;
 mod views;
 
+pub use allocation::Allocation;
 pub use ar_balance::Balance;
 pub use ar_book::{Class, Refusal as UnitRefusal, Slot};
 pub use ar_cache::{CAPACITY_LIMIT, Flush};

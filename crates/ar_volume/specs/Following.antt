@@ -22,7 +22,7 @@ pub record ReadsStored (old : StoreState) (key : Key) (new : StoreState) : Type 
   pub plan : CarriesOut (get_plan old key) old.disks new.disks
 
 -- One block was put into a store, and the array hasn't failed: the block went where `Puts` states, and exactly the
--- accesses of that case were made; a squeeze leaves zeros in the slots behind the block's own.
+-- accesses of that case were made; a squeeze leaves zeros in the slots after the block's own.
 pub record PutsStored (old : StoreState) (key : Key) (new : StoreState) : Type 0 where
   pub tables : Puts old.book key new.book
   pub plan : CarriesOutPut old key new

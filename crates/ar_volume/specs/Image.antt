@@ -19,7 +19,7 @@ pub record ArrayState : Type 0 where
   pub store : StoreState
   pub cache : CacheState
 
--- the array has failed: its data are lost for good
+-- the array has failed: data loss
 abbrev pub is_broken : ArrayState → Bool
 is_broken s = is_broken_set s.store.disks.health
 

@@ -31,6 +31,8 @@ pub struct Blocks<D: Disk> {
     pub(crate) behind: Behind<D>,
     // How many blocks were read, from the cache or from behind it. It saturates, and no contract sees it.
     reads: u64,
+    // How many blocks were discarded. The same holds of it.
+    pub(crate) discards: u64,
 }
 
 /// What was counted since the start, in numbers that saturate. No contract sees them.
@@ -44,6 +46,8 @@ pub struct Counters {
     pub cache_hits: u64,
     /// Cached blocks that were written back, by eviction or by a flush.
     pub destages: u64,
+    /// Blocks of which all sectors were discarded at once, by UNMAP or WRITE SAME.
+    pub discards: u64,
 }
 
 impl<D: Disk> Model for Blocks<D> {
@@ -108,6 +112,7 @@ impl<D: Disk> Blocks<D> {
             cache,
             behind: Behind { store, reads: 0 },
             reads: 0,
+            discards: 0,
         }
     }
 
@@ -154,6 +159,7 @@ impl<D: Disk> Blocks<D> {
             squeezes: self.behind.store.squeezes(),
             cache_hits: self.reads.saturating_sub(self.behind.reads),
             destages: self.cache.destages(),
+            discards: self.discards,
         }
     }
 

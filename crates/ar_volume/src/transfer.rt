@@ -50,7 +50,7 @@ fn read_part<B: Backing>(
 
 /// Reads sectors `lba` to `lba + count - 1` of a unit, all below 1,048,576, into `out`, which has as many bytes. Reads
 /// each of their blocks once, in ascending order, until one fails. After `Broken`, `out` begins with the sectors of the
-/// blocks that were read; the bytes behind them are unspecified.
+/// blocks that were read; the bytes after them are unspecified.
 pub fn read_sectors<B: Backing>(
     blocks: &mut B,
     geometry: Geometry,

@@ -110,10 +110,11 @@ impl<D: Disk> Blocks<D> {
     {
         self.behind.store.release(key);
         self.cache.discard(key);
+        self.discards = self.discards.saturating_add(1);
     }
 
-    // Whether a block has neither a home nor a cache entry, so that it reads as zeros.
-    fn is_unwritten(&self, key: Key) -> bool
+    /// Returns whether a block has neither a home nor a cache entry, so that it reads as zeros.
+    pub fn is_unwritten(&self, key: Key) -> bool
         ensures { result ≡ is_unwritten self.now key }
     {
         !(self.cache.holds(key) || self.book().home(key).is_some())
