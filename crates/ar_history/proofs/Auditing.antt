@@ -18,7 +18,7 @@ use Rattle.ar_history.specs.Audit.{DiffersAt, IsHostsPart, IsTranscriptIsolated,
 use Rattle.ar_history.specs.Audit.{Departs}
 use Rattle.ar_history.specs.Seat.{SeatState}
 
--- the element right behind a list
+-- the element after a list
 behind : {X : Type 0} (xs : List X) (y : X) (rest : List X) → slice_get (xs ++ y ∷ rest) (length xs) ≡ Some y
 behind [] y rest = refl
 behind (x ∷ xs) y rest = behind xs y rest
@@ -139,7 +139,7 @@ pub equal : (transcript rest : List Exchange) (at : ℕ) → at ≤ length trans
     → rest ≡ take at transcript ++ [] → transcript ≡ rest
 equal transcript rest at within long is = sym (is ∙ append-nil (take at transcript) ∙ take_all at transcript long)
 
--- a command of a host's part is an entry of the history: so many of the part stand before it
+-- a command of a host's part is an entry of the history: this many of the part stand before it
 record Found (history : List Entry) (number position : ℕ) (exchange : Exchange) (place : ℕ) (host : Host) : Type 0 where
   entry : slice_get history place ≡ Some (Cmd host exchange)
   host_is : host.number ≡ number

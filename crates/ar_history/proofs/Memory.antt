@@ -33,7 +33,7 @@ use Rattle.ar_history.specs.Kept.{KeptState}
 use Rattle.ar_history.specs.Seat.{SeatState}
 use Rattle.ar_history.specs.Serving.{IsUncopied, Begins, BeginsByPlace, DoesCommand, LeavesStorage}
 
--- no growth is told where the reply has bytes
+-- no growth is reported where the reply has bytes
 tells_none : (u : UnitState) (cdb bytes : List ℕ) → (answer u cdb bytes).reply.payload ≢ []
     → (shape_of u).attention && not (operation_code cdb == 0x12) ≡ false
 unfolding answer

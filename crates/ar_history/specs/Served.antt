@@ -13,14 +13,17 @@ use Rattle.ar_volume.specs.declared.flush.UnitFlush.TheVariants.{Done}
 use Rattle.ar_volume.specs.Image.{is_broken, image, image_at, image_on_disks}
 use Rattle.ar_volume.specs.Sectors.{Address}
 use Rattle.ar_core.specs.Events.{Event, Outcome}
-use Rattle.ar_core.specs.Step.{Steps, is_write}
+use Rattle.ar_core.specs.Step.{Steps, is_busy, is_write}
 use Rattle.ar_core.specs.declared.event.EventOf.TheVariants.{Cmd as CmdEvent, FlushUnit as FlushUnitEvent}
+use Rattle.ar_core.specs.declared.event.EventOf.TheVariants.{Unmap as UnmapEvent}
 use Rattle.ar_core.specs.declared.event.OutcomeOf.TheVariants.{Cmd as CmdOutcome, FlushUnit as FlushUnitOutcome}
+use Rattle.ar_core.specs.declared.event.OutcomeOf.TheVariants.{Unmap as UnmapOutcome}
 use Rattle.ar_history.specs.Counts.{CountsCommand, CountsOperation, CountsTask, is_idle}
 use Rattle.ar_history.specs.Kept.{KeptState, StaysKept, exchange_of, history_entry}
 use Rattle.ar_history.specs.Operations.{Does, event_of_task}
 use Rattle.ar_history.specs.Seat.{SeatState}
-use Rattle.ar_history.specs.Serving.{ServesCommand, BeginsByPlace, DoesCommand, Allocates, is_recorded}
+use Rattle.ar_history.specs.Serving.{ServesCommand, ServesUnmap, BeginsByPlace, DoesCommand, LeavesUnbegun}
+use Rattle.ar_history.specs.Serving.{Allocates, is_recorded}
 use Rattle.ar_history.specs.declared.operation.Task.{Task}
 
 -- What a command costs to record. Where transcripts are stored (`true`), it is begun if both lists have capacity for it
@@ -86,6 +89,18 @@ pub record DestagesUnit (old : KeptState) (addr : Addr) (answer : UnitFlush) (ne
   pub kept : StaysKept old new
   pub images : is_broken new.array ≡ false → (a : Address) → image new.array a ≡ image old.array a
   pub counts : CountsOperation old new
+
+-- Sectors of a unit were discarded: one step of the array or, where a stored history can't grow, BUSY and nothing. The
+-- reply is that of the unit, and the history has grown by the discard unless the array has failed after it. The array
+-- was kept before and after, and an event is counted.
+pub record DiscardsSectors (old : KeptState) (addr : Addr) (lba count : ℕ) (reply : Reply) (new : KeptState) : Type 0
+  where
+    pub does : Does old.array (UnmapEvent addr lba count) (UnmapOutcome reply) new.array
+    pub serves :
+        is_busy reply.status ≡ false → ServesUnmap old.array old.history addr lba count reply new.array new.history
+    pub unbegun : is_busy reply.status ≡ true → LeavesUnbegun old reply new
+    pub kept : StaysKept old new
+    pub counts : CountsOperation old new
 
 -- the command is a WRITE with FORCE UNIT ACCESS (SBC-2, WRITE (10) command)
 abbrev pub is_forced : Result Command Sense → Bool

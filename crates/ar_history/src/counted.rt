@@ -1,16 +1,17 @@
 // A live array whose commands are counted in a ledger: a seat's share grows with the history, and nowhere else, so that
 // who holds the seat can tell that its commands were executed.
 ghost use Rattle.std.specs.Prelude.{◌≡◌, ◌∷◌, [], false, map};
+ghost use Rattle.ar_core.specs.Step.{addr_in};
 ghost use Rattle.ar_history.specs.Counts.{no_counts};
 ghost use Rattle.ar_history.specs.Kept.{HistoryAgrees};
 ghost use Rattle.ar_history.specs.Seat.{SeatState};
-ghost use Rattle.ar_history.specs.Served.{AnswersCommand, DestagesUnit, Maintains, Operates};
+ghost use Rattle.ar_history.specs.Served.{AnswersCommand, DestagesUnit, DiscardsSectors, Maintains, Operates};
 ghost use Rattle.ar_history.specs.Operations.{event_of};
 
 use crate::kept::seats;
 use crate::{Counts, LiveArray, Operation, Seat, Task};
 use ar_core::{Array, Outcome, UnitFlush};
-use ar_disks::{Addr, Disk};
+use ar_disks::{Addr, Disk, Host};
 use ar_scsi::Reply;
 use bytes::Bytes;
 use std::alloc::Global;
@@ -79,7 +80,7 @@ impl<D: Disk, L: Ledger> CountedArray<D, L> {
     }
 
     /// Returns the array, for its views. Each unit is what the entries of the history make it: until data loss its
-    /// contents, and for good its presence and length.
+    /// contents, and always its presence and length.
     pub fn array(&self) -> &Array<D>
         ensures array { result.now ≡ self.now.array }
         ensures kept { HistoryAgrees self.now.array self.now.history }
@@ -141,5 +142,12 @@ impl<D: Disk + Drop, L: Ledger> CountedArray<D, L> {
         ensures { DestagesUnit self.old addr result self.new }
     {
         self.live.flush_unit(addr)
+    }
+
+    /// Discards `count` sectors of a host's LUN from `lba` on as `LiveArray::discard` does.
+    pub fn discard(&mut self, host: Host, lun: u8, lba: u64, count: u32) -> Reply
+        ensures { DiscardsSectors self.old (addr_in host lun) lba count result self.new }
+    {
+        self.live.discard(host, lun, lba, count)
     }
 }

@@ -24,6 +24,7 @@ impl<D: Disk + Drop> LiveArray<D> {
             self.new.history }
         ensures steps { Steps self.old.array (EventOf.Unmap (addr_in host lun) lba count) (OutcomeOf.Unmap result)
             self.new.array }
+        ensures done { is_busy result.status ≡ false }
         ensures kept { StaysKept self.old self.new }
         ensures counts { CountsOperation self.old self.new }
         ensures room { self.new.room ≡ self.old.room }

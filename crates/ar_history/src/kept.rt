@@ -72,7 +72,7 @@ impl<D: Disk, L: Ledger> Kept<D, L> {
     }
 
     /// Returns the entries so far, in the order in which they were done. Each unit is what its entries make it: until
-    /// data loss its contents, and for good its presence and length.
+    /// data loss its contents, and always its presence and length.
     pub fn history(&self) -> &[Entry]
         ensures history { result.now ≡ self.now.history }
         ensures kept { HistoryAgrees self.now.array self.now.history }

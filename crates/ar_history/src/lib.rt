@@ -18,6 +18,7 @@ mod operate;
 mod operation;
 mod seat;
 mod served_array;
+mod store_status;
 
 pub use audit::{Mismatch, Report, first_difference};
 pub use counted::CountedArray;
@@ -29,3 +30,4 @@ pub use live::LiveArray;
 pub use operation::{Operation, OperationOf, Task};
 pub use seat::Seat;
 pub use served_array::{OperableArray, ServedArray};
+pub use store_status::{StoreState, StoreStatus};

@@ -1,5 +1,5 @@
 // The array with a history that contracts alone see. Until data loss every unit is what its entries make it; presence
-// and length stay so for good (`HistoryAgrees`). No memory is requested to record an entry, so what the array does is
+// and length always stay so (`HistoryAgrees`). No memory is requested to record an entry, so what the array does is
 // recorded.
 ghost use Rattle.std.specs.Prelude.{◌≡◌, [], if◌then◌else◌};
 ghost use Rattle.ar_volume.specs.Image.{is_broken};
@@ -60,7 +60,7 @@ impl<D: Disk> LiveArray<D> {
     }
 
     /// Returns the array, for its views. Each unit is what the entries of the history make it: until data loss its
-    /// contents, and for good its presence and length.
+    /// contents, and always its presence and length.
     pub fn array(&self) -> &Array<D>
         ensures array { result.now ≡ self.now.array }
         ensures kept { HistoryAgrees self.now.array self.now.history }

@@ -1,24 +1,26 @@
 // An array with its history, as all that serve it use it: hosts, initiators, operators, the maintenance and the pages.
 // The history is stored, or seen by contracts alone.
-ghost use Rattle.std.specs.Prelude.{◌≡◌, Bool, true, false, if◌then◌else◌, length};
+ghost use Rattle.std.specs.Prelude.{◌≡◌, Bool, true, false, if◌then◌else◌, length, None};
 ghost use Rattle.ar_book.specs.Tables.{free_groups};
+ghost use Rattle.ar_core.specs.Allocation.{allocation_of};
+ghost use Rattle.ar_core.specs.Step.{addr_in};
 ghost use Rattle.ar_extents.specs.Set.{CanCount};
 ghost use Rattle.ar_history.specs.Kept.{KeptState, HistoryAgrees};
-ghost use Rattle.ar_history.specs.Served.{AnswersCommand, DestagesUnit, Maintains, Operates, Works, acknowledges};
-ghost use Rattle.ar_history.specs.Served.{asks_commit};
+ghost use Rattle.ar_history.specs.Served.{AnswersCommand, DestagesUnit, DiscardsSectors, Maintains, Operates, Works};
+ghost use Rattle.ar_history.specs.Served.{acknowledges, asks_commit};
 
-use crate::{CountedArray, Counts, Kept, OperationOf, Seat, Task, is_idle};
-use ar_core::{Array, EventOf, NewDisk, Outcome, UnitFlush};
-use ar_disks::{Addr, Disk};
+use crate::{CountedArray, Counts, Kept, OperationOf, Seat, StoreStatus, Task, is_idle};
+use ar_core::{Allocation, Array, EventOf, NewDisk, Outcome, UnitFlush};
+use ar_disks::{Addr, Disk, Host};
 use ar_scsi::Reply;
 use bytes::Bytes;
 use std::sync::ledger::Ledger;
 
 /// An array that is served, with its history: until data loss each unit is what the history makes it.
 ///
-/// Each call says what the array is afterwards. A command, a piece of maintenance and a flush are one step of the array
-/// each; all other calls leave it as it is. `Kept` stores its history and hosts' transcripts, `CountedArray` stores
-/// neither; what either has done ends with the program.
+/// Each call says what the array is afterwards. A command, a piece of maintenance, a flush and a discard are one step
+/// of the array each; all other calls leave it as it is. `Kept` stores its history and hosts' transcripts,
+/// `CountedArray` stores neither; what either has done ends with the program.
 pub trait ServedArray<L: Ledger> {
     /// The array with its history.
     ghost state: { Self → KeptState };
@@ -44,6 +46,12 @@ pub trait ServedArray<L: Ledger> {
     fn free_groups(&self) -> u32
         ensures { result ≡ free_groups (state self.now).array.store.book };
 
+    /// Returns whether block `rb` (from 0) of the unit at `addr` was written, and how many blocks from it on, `most` at
+    /// most, are as it is. Blocks that weren't written read as zeros.
+    fn allocation(&self, addr: Addr, rb: u32, most: u32) -> Allocation
+        ensures allocation { result ≡ allocation_of (state self.now).array addr rb most }
+        ensures kept { HistoryAgrees (state self.now).array (state self.now).history };
+
     /// Returns how many entries of the history are stored.
     fn stored_entries(&self) -> usize
         ensures { result ≡ (if stores then length (state self.now).history else 0) };
@@ -51,6 +59,10 @@ pub trait ServedArray<L: Ledger> {
     /// Returns for how many entries there is memory.
     fn stored_room(&self) -> usize
         ensures { result ≡ (if stores then (state self.now).room else 0) };
+
+    /// Returns how the store is, if there is one.
+    fn store(&self) -> Option<StoreStatus>
+        ensures { persists ≡ false → result ≡ None };
 
     /// Lends memory for the data of a READ, so that it was allocated before the array was waited for.
     fn lend_memory(&mut self, memory: Vec<u8>)
@@ -81,6 +93,10 @@ pub trait ServedArray<L: Ledger> {
     /// Destages all cached blocks of a unit.
     fn flush_unit(&mut self, addr: Addr) -> UnitFlush
         ensures { DestagesUnit (state self.old) addr result (state self.new) };
+
+    /// Discards `count` sectors of a host's LUN from `lba` on.
+    fn discard(&mut self, host: Host, lun: u8, lba: u64, count: u32) -> Reply
+        ensures { DiscardsSectors (state self.old) (addr_in host lun) lba count result (state self.new) };
 }
 
 /// A served array that operators use, with its own type of disk. (What a thread is given may not name the associated
@@ -152,12 +168,20 @@ impl<D: Disk + Drop, L: Ledger> ServedArray<L> for Kept<D, L> {
         Kept::array(self).free_groups()
     }
 
+    fn allocation(&self, addr: Addr, rb: u32, most: u32) -> Allocation {
+        Kept::array(self).allocation(addr, rb, most)
+    }
+
     fn stored_entries(&self) -> usize {
         self.history().len()
     }
 
     fn stored_room(&self) -> usize {
         self.capacity()
+    }
+
+    fn store(&self) -> Option<StoreStatus> {
+        None
     }
 
     fn lend_memory(&mut self, memory: Vec<u8>) {
@@ -184,6 +208,10 @@ impl<D: Disk + Drop, L: Ledger> ServedArray<L> for Kept<D, L> {
 
     fn flush_unit(&mut self, addr: Addr) -> UnitFlush {
         Kept::flush_unit(self, addr)
+    }
+
+    fn discard(&mut self, host: Host, lun: u8, lba: u64, count: u32) -> Reply {
+        Kept::discard(self, host, lun, lba, count)
     }
 }
 
@@ -250,12 +278,20 @@ impl<D: Disk + Drop, L: Ledger> ServedArray<L> for CountedArray<D, L> {
         CountedArray::array(self).free_groups()
     }
 
+    fn allocation(&self, addr: Addr, rb: u32, most: u32) -> Allocation {
+        CountedArray::array(self).allocation(addr, rb, most)
+    }
+
     fn stored_entries(&self) -> usize {
         0
     }
 
     fn stored_room(&self) -> usize {
         0
+    }
+
+    fn store(&self) -> Option<StoreStatus> {
+        None
     }
 
     fn lend_memory(&mut self, memory: Vec<u8>) {
@@ -281,6 +317,10 @@ impl<D: Disk + Drop, L: Ledger> ServedArray<L> for CountedArray<D, L> {
 
     fn flush_unit(&mut self, addr: Addr) -> UnitFlush {
         CountedArray::flush_unit(self, addr)
+    }
+
+    fn discard(&mut self, host: Host, lun: u8, lba: u64, count: u32) -> Reply {
+        CountedArray::discard(self, host, lun, lba, count)
     }
 }
 

@@ -71,7 +71,7 @@ record_own a history (entries.Cmd host exchange) fits =
 record_own a history (entries.Unmap addr lba count) fits =
     ap (λ (l : List UnitEntry). unit_run (replay history a) l) (append-nil (one_at a (entries.Unmap addr lba count)))
 
--- the entry behind those of a history
+-- the entry after those of a history
 entry_at : (before : List Entry) (entry : Entry) (after : List Entry)
     → slice_get (before ++ entry ∷ after) (length before) ≡ Some entry
 entry_at [] entry after = refl
@@ -95,7 +95,7 @@ one_first : (a : Address) (entry : Entry) (after : List Entry)
     → one_at a entry ++ entries_at a after ≡ entries_at a (entry ∷ after)
 one_first a entry after = by_first (same_address (address_in entry) a) (unit_entry entry) (entries_at a after)
 
--- the same of all entries behind those of a history
+-- the same of all entries after those of a history
 later_own : (a : Address) (before after : List Entry) → IsLegal (before ++ after)
     → unit_run (replay before a) (own_of a (records_of after)) ≡ unit_run (replay before a) (entries_at a after)
 later_own a before [] legal = refl

@@ -28,7 +28,7 @@ pub record RedoesAll (old : List Entry) (records : List RecordData) (new : List 
   pub own : (a : Address) → own_of a (records_of new) ≡ own_of a (records_of old) ++ own_of a records
 
 -- The array has executed these records and no other entry that changes a unit. Until data loss each unit is what its
--- own entries among the records make of an absent one; presence and length hold for good.
+-- own entries among the records make of an absent one; presence and length always hold.
 pub record IsRecovered (records : List RecordData) (k : KeptState) : Type 0 where
   pub log : IsLogOf records k.history
   pub units : is_broken k.array ≡ false → (a : Address) → image k.array a ≡ unit_of records a
