@@ -113,7 +113,7 @@ name_again name short = rw (le-ltb 64 (length name) short, eq-eqb (length name) 
 
 -- ---- all fields
 
--- the bytes behind the version
+-- the bytes after the version
 abbrev fields_of : HeadData → List ℕ
 fields_of head =
     to_be_bytes w64 head.generation ++ (head.identity ++ (geometry_byte head.geometry ∷ head.disks ∷ []

@@ -20,7 +20,7 @@ shape_at (geometry ∷ disks ∷ rest) = do
   Some ((found, disks), rest)
 shape_at bytes = None
 
--- a name, and nothing behind it
+-- a name, and nothing after it
 abbrev pub name_at : List ℕ → Option (List ℕ)
 name_at [] = None
 name_at (count ∷ name) = if nat_lt 64 count then None else (if length name == count then Some name else None)
@@ -36,7 +36,7 @@ head_with generation identity shape extents name = record {
   name = name;
 }
 
--- the fields behind the version
+-- the fields after the version
 unfoldable pub fields_at : List ℕ → Option HeadData
 fields_at bytes = do
   generation ← number_at w64 bytes

@@ -15,7 +15,7 @@ use std::alloc::{AllocError, Global};
 /// The greatest length of a store's name, in bytes.
 pub const MAX_NAME: usize = 64;
 
-// The version of this layout, and of the records behind it.
+// The version of this layout, and of the records after it.
 const VERSION: u8 = 1;
 
 /// What a store's log begins with.
@@ -95,7 +95,7 @@ fn whole_head(alloc: Global, bytes: &[u8]) -> Result<StoreHead, HeadError>
     fields_of(alloc, rest)
 }
 
-// The fields behind the version.
+// The fields after the version.
 #[tactic(auto, unfolding(crate::specs::HeadReading::fields_at))]
 fn fields_of(alloc: Global, bytes: &[u8]) -> Result<StoreHead, HeadError>
     ensures { PartReadsAs head_data result (fields_at bytes.now) }
@@ -161,7 +161,7 @@ fn extents_of(bytes: &[u8]) -> Result<(u16, &[u8]), HeadError>
     Ok((u16::from_be_bytes([front[0], front[1]]), rest))
 }
 
-// The name, and nothing behind it.
+// The name, and nothing after it.
 fn name_of(alloc: Global, bytes: &[u8]) -> Result<Vec<u8>, HeadError>
     ensures { PartReadsAs (λ x. x.items) result (name_at bytes.now) }
 {

@@ -65,7 +65,7 @@ module _ (file : List ℕ) (holds : HoldsBatches (batches_of file) file) (place 
   count : length (take place.number (batches_of file)) ≡ place.number
   count = length-take-le place.number (batches_of file) behind.within
 
-  -- the place as it is read, with what is behind it
+  -- the place as it is read, with what is after it
   pub is_at : (now : Place) → now.at ≡ place.at → now.number ≡ place.number → now.at + now.left ≡ length file → IsAt file now
   is_at now at_is number_is left =
       let same : batches_before now.at file ≡ take place.number (batches_of file) = ap (λ (n : ℕ). batches_before n file) at_is ∙ before_is in

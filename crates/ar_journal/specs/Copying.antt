@@ -10,7 +10,7 @@ use Rattle.ar_journal.specs.declared.files.JournalFiles.{JournalFiles}
 use Rattle.ar_journal.specs.declared.journal.Journal.{Journal}
 use Rattle.ar_journal.specs.declared.mirrored.MirroredJournal.{MirroredJournal}
 
--- behind this place of one journal are the batches that the other lacks
+-- after this place of one journal are the batches that the other lacks
 pub record IsPrefix {M : Type 0} (seen : M → List ℕ) (is_clean : M → Bool) (from to from_new to_new : Journal M)
     (place : Place) : Type 0 where
   pub behind : IsTrue (is_clean from_new.active.media) → IsBehind (batches_now seen from) place
@@ -41,7 +41,7 @@ is_ahead_by one count other others = nat_lt other one || ((one == other) && not 
 abbrev pub is_ahead : List Batch → List Batch → Bool
 is_ahead one other = is_ahead_by (generation one) (length one) (generation other) (length other)
 
--- the first batch is this head, and the place is behind it
+-- the first batch is this head, and the place is after it
 pub record HeadIs (batches : List Batch) (head : List ℕ) (place : Place) : Type 0 where
   pub behind : IsBehind batches place
   pub first : take place.number batches ≡ (head ∷ []) ∷ []

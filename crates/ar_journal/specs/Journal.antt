@@ -71,7 +71,7 @@ pub record KeepsOthers {M : Type 0} (old new : Journal M) : Type 0 where
   pub spare : new.spare ≡ old.spare
   pub is_second : new.is_second ≡ old.is_second
 
--- behind the first of these batches, as many as its number says
+-- after the first of these batches, as many as its number says
 pub record IsBehind (batches : List Batch) (place : Place) : Type 0 where
   pub within : place.number ≤ length batches
   pub at : place.at ≡ 8 + batches_len (take place.number batches)

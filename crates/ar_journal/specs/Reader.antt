@@ -43,7 +43,7 @@ pub record KeepsFiles {M : Type 0} (old new : JournalReader M) : Type 0 where
   pub spare : new.spare ≡ old.spare
   pub is_second : new.is_second ≡ old.is_second
 
--- the active log holds the batches that it held, a crash leaves the same, and the place is behind them
+-- the active log holds the batches that it held, a crash leaves the same, and the place is after them
 pub record IsCut {M : Type 0} (seen : M → List ℕ) (may_leave : M → List ℕ → Type 0)
     (old new : JournalReader M) : Type 0 where
   pub held : HoldsBatches (batches_of (seen old.active)) (seen old.active)

@@ -87,8 +87,8 @@ impl<M: Media> Journal<M> {
         self.active.end.saturating_add(2)
     }
 
-    /// Reads the batch at a place, while appends go on. `None` behind the last one. A place is that of `first_place`,
-    /// or the one behind a batch that was read of the same log.
+    /// Reads the batch at a place, while appends go on. `None` after the last one. A place is that of `first_place`,
+    /// or the one after a batch that was read of the same log.
     pub fn read_at_place(
         &mut self,
         alloc: Global,

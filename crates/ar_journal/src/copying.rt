@@ -24,7 +24,7 @@ fn is_same(one: &[Vec<u8>], other: &[Vec<u8>]) -> bool
     true
 }
 
-/// The place in a journal behind all batches of another, or `None` where those are not its first ones.
+/// The place in a journal after all batches of another, or `None` where those are not its first ones.
 pub fn place_behind<M: Media>(
     alloc: Global,
     from: &mut Journal<M>,

@@ -59,7 +59,7 @@ fn only_record(records: Vec<Vec<u8>>) -> Option<Vec<u8>>
     records.pop()
 }
 
-/// The head of a journal, and the place behind it.
+/// The head of a journal, and the place after it.
 fn read_head<M: Media>(
     alloc: Global,
     journal: &mut Journal<M>,

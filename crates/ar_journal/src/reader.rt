@@ -115,7 +115,7 @@ impl<M: Media> JournalReader<M> {
         }
     }
 
-    /// Returns the next batch, the head's first. `None` behind the last one. `Damaged` where neither a batch nor an end
+    /// Returns the next batch, the head's first. `None` after the last one. `Damaged` where neither a batch nor an end
     /// is, which no crash leaves.
     pub fn next_batch(&mut self, alloc: Global) -> Result<Option<Vec<Vec<u8>>>, LogError>
         requires { IsReading M.seen M.may_leave M.is_clean self.old }
@@ -162,7 +162,7 @@ impl<M: Media> JournalReader<M> {
         }
     }
 
-    /// Reads what is left, and cuts off what a crash tore behind it.
+    /// Reads what is left, and cuts off what a crash tore after it.
     fn cut_rest(&mut self, alloc: Global) -> Result<(), LogError>
         requires { IsReading M.seen M.may_leave M.is_clean self.old }
 
@@ -181,7 +181,7 @@ impl<M: Media> JournalReader<M> {
         }
     }
 
-    /// Reads what is left, cuts off what a crash tore behind it, and returns the journal, ready for appends. It may
+    /// Reads what is left, cuts off what a crash tore after it, and returns the journal, ready for appends. It may
     /// crash too, at any moment, and leaves the same batches then.
     pub fn finish(self, alloc: Global) -> Result<Journal<M>, (LogError, JournalReader<M>)>
         requires { IsReading M.seen M.may_leave M.is_clean self }

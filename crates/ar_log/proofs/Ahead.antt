@@ -264,7 +264,7 @@ opens_if gate (a ∷ b ∷ bytes) is len other = elim (cases_eq a 0) [
 pub shuts_if : (gate bytes : List ℕ) → gate ≡ take 2 bytes → gate ≡ 0 ∷ 0 ∷ [] → IsClosedGate bytes
 shuts_if gate bytes is shut = (drop 2 bytes, sym (take-append-drop 2 bytes) ∙ ap (λ (l : List ℕ). l ++ drop 2 bytes) (sym is ∙ shut))
 
--- the two numbers behind a gate
+-- the two numbers after a gate
 pub head_len : (file head : List ℕ) (at : ℕ) → head ≡ take 16 (drop (at + 2) file) → take 8 (drop 0 head) ≡ take 8 (drop 2 (drop at file))
 head_len file head at is =
     ap (λ (l : List ℕ). take 8 l) is

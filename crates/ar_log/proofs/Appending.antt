@@ -31,7 +31,7 @@ module _ (batches : List Batch) (end : ℕ) (ends : end ≡ 8 + batches_len batc
       let P : List Batch → Type 0 = λ l. HoldsBatches l y in
       subst P (append-nil batches) (grafted [] x y stands same (tail, gate))
 
-  -- one batch more, behind an open gate
+  -- one batch more, after an open gate
   opens : (batch : Batch) (x y tail : List ℕ) (first second : ℕ) → HoldsBatches batches x → take end y ≡ take end x → IsOpen first second
       → drop end y ≡ first ∷ second ∷ ((sealed (length batches) (encoded batch) ++ 0 ∷ 0 ∷ []) ++ tail) → length (encoded batch) < 2 ^ 64 → HoldsBatches (batches ++ batch ∷ []) y
   opens batch x y tail first second stands same is_open gate fits =
@@ -52,13 +52,13 @@ module _ (batches : List Batch) (end : ℕ) (ends : end ≡ 8 + batches_len batc
       sym (drop-take end 2 y) ∙ ap (λ (l : List ℕ). drop end l) same ∙ drop-take end 2 x ∙ ap (λ (l : List ℕ). take 2 l) gate.1 in
       closes x y (drop 2 (drop end y)) stands front (sym (take-append-drop 2 (drop end y)) ∙ ap (λ (l : List ℕ). l ++ drop 2 (drop end y)) two)
 
-  -- whatever is left of what is written behind the closed gate
+  -- whatever is left of what is written after the closed gate
   pub torn_behind : (n : ℕ) (x y : List ℕ) → HoldsBatches batches x → Torn (end + 2) n x y → HoldsBatches batches y
   torn_behind n x y stands torn =
       let least : min (end + 2) (length x) ≡ end + 2 = omega (arith, long_enough x stands) in
       same_front x y stands (ap (λ (k : ℕ). take k y) (sym least) ∙ torn.before)
 
-  -- the file with a batch behind the closed gate
+  -- the file with a batch after the closed gate
   pub record Staged (batch : Batch) (file : List ℕ) : Type 0 where
     pub stands : HoldsBatches batches file
     pub tail : List ℕ

@@ -10,7 +10,7 @@ use Rattle.ar_log.proofs.Standing.{behind_magic, batches_are}
 abbrev pub no_magic : List ℕ
 no_magic = 0 ∷ 0 ∷ 0 ∷ 0 ∷ 0 ∷ 0 ∷ 0 ∷ 0 ∷ []
 
--- of a log, its batches are behind the first eight bytes
+-- of a log, its batches are after the first eight bytes
 pub behind_first : (batches : List Batch) (file : List ℕ) → HoldsBatches batches file → HoldsBehind batches file
 behind_first batches file holds = subst (AreBatchesFrom 0 batches) (sym (behind_magic file holds.0 holds.1)) holds.2
 
@@ -28,7 +28,7 @@ module _ (head : List ℕ) (old : List ℕ → Type 0) where
   begun_torn c torn batches holds =
       inr (torn.0, torn.1, subst (AreBatchesFrom 0 batches) torn.2.after (behind_first batches c holds))
 
-  -- the file begins with zeros, and is torn behind them
+  -- the file begins with zeros, and is torn after them
   pub begun_zeros : (n : ℕ) (first mid : List ℕ) (left : List ℕ → Type 0) → Overwritten first 0 no_magic mid → Only mid left → (c : List ℕ) → TornOf 8 n left c → IsBegun head old c
   begun_zeros n first mid left over only c torn batches holds =
       let P : List ℕ → Type 0 = λ d. Torn 8 n d c in

@@ -64,7 +64,7 @@ length-framed one = omega (arith, length-append (number_bytes (length one)) one,
 pub length-encoded : (one : List ℕ) (records : Batch) → length (encoded (one ∷ records)) ≡ 8 + length one + length (encoded records)
 length-encoded one records = omega (arith, length-append (framed one) (encoded records), length-framed one)
 
--- what stands behind some records of a payload is records too
+-- what stands after some records of a payload is records too
 pub rest_of : (done records : Batch) (rest : List ℕ) → encoded done ++ rest ≡ encoded records → length (encoded records) < 2 ^ 64 → (more : Batch) × (rest ≡ encoded more)
 rest_of [] records rest is fits = (records, is)
 rest_of (d ∷ done) [] rest is fits = absurd (omega (arith, ap length is, length-append (encoded (d ∷ done)) rest, length-encoded d done))

@@ -1,4 +1,4 @@
--- Batches behind gates, one after another.
+-- Batches after gates, one after another.
 use Rattle.std.proofs.Common.{◌≡◌, inl, inr, ℕ, zero, suc, ◌+◌, ◌<◌, ◌≤◌, ◌^◌, Bool, true, not, ◌&&◌, ◌==◌, if◌then◌else◌, List, [], ◌∷◌, ◌++◌, length, take, drop, refl, sym, ◌∙◌, ap, subst, arith, append_assoc, length-append, length-drop, take-append-drop}
 use Rattle.std.proofs.lemmas.Bool.{cases_eq}
 use Rattle.std.proofs.lemmas.Bool.Decides.{nat_tests}
@@ -16,7 +16,7 @@ length_sealed number payload = omega (
   length_number_bytes (batch_digest number payload),
 )
 
--- a whole batch behind an open gate
+-- a whole batch after an open gate
 module _ (number : ℕ) (batch : Batch) (bytes rest : List ℕ) (begins : BeginsWith number batch bytes rest) where
   front : List ℕ
   front = begins.first ∷ begins.second ∷ sealed number (encoded batch)
@@ -77,7 +77,7 @@ module _ (number : ℕ) (batch : Batch) (bytes rest : List ℕ) (begins : Begins
         | inr first_not ↦ grind (arith, nat_tests)
       ]
 
--- other bytes with the same whole batches, and what stands behind those
+-- other bytes with the same whole batches, and what stands after those
 pub graft : (number : ℕ) (batches more : List Batch) (x y : List ℕ) → AreBatchesFrom number batches x → take (batches_len batches) y ≡ take (batches_len batches) x
     → AreBatchesFrom (number + length batches) more (drop (batches_len batches) y) → AreBatchesFrom number (batches ++ more) y
 graft number [] more x y stands same behind =
@@ -109,7 +109,7 @@ graft number (batch ∷ batches) more x y stands same behind =
       graft (suc number) batches more stands.0 (drop k y) stands.2 same_rest behind_rest,
     )
 
--- the closed gate behind the last batch
+-- the closed gate after the last batch
 pub closed_behind : (number : ℕ) (batches : List Batch) (x : List ℕ) → AreBatchesFrom number batches x → (tail : List ℕ) × (drop (batches_len batches) x ≡ 0 ∷ 0 ∷ tail)
 closed_behind number [] x stands = stands
 closed_behind number (batch ∷ batches) x stands =

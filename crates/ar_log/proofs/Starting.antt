@@ -22,7 +22,7 @@ settled_from seen may_leave log batches ends counts all stays =
       number = omega (arith, counts, ap (λ (b : List Batch). length b) are);
     }
 
--- what is left of a cut behind the closed gate
+-- what is left of a cut after the closed gate
 pub cut_behind : (batches : List Batch) (end n : ℕ) (x y : List ℕ) → end ≡ 8 + batches_len batches → n ≡ end + 2 → HoldsBatches batches x → Cut n x y → HoldsBatches batches y
 cut_behind batches end n x y ends is stands left =
     let long = long_enough batches end ends x stands in

@@ -24,7 +24,7 @@ number_of bytes = from_le_bytes w64 bytes
 unfoldable pub batch_digest : ℕ → List ℕ → ℕ
 batch_digest number payload = sip.finish (sip.write (sip.write sip.initial (to_le_bytes w64 number)) payload)
 
--- a record behind its length
+-- a record after its length
 abbrev pub framed : List ℕ → List ℕ
 framed bytes = number_bytes (length bytes) ++ bytes
 
@@ -32,6 +32,6 @@ framed bytes = number_bytes (length bytes) ++ bytes
 abbrev pub encoded : Batch → List ℕ
 encoded records = flat_map framed records
 
--- a payload behind its length and its digest
+-- a payload after its length and its digest
 abbrev pub sealed : ℕ → List ℕ → List ℕ
 sealed number payload = number_bytes (length payload) ++ number_bytes (batch_digest number payload) ++ payload

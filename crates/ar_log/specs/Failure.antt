@@ -4,7 +4,7 @@ use Rattle.ar_media.specs.Media.{is_fault}
 use Rattle.ar_log.specs.declared.error.LogError.{LogError}
 use Rattle.ar_log.specs.declared.error.LogError.TheVariants.{Refused, Failed, Damaged}
 
--- the log is closed for good
+-- the log is closed permanently
 abbrev pub is_final : LogError → Bool
 is_final (Failed e) = true
 is_final e = false

@@ -60,11 +60,11 @@ batches_in (suc count) bytes =
 abbrev pub batches_of : List ℕ → List Batch
 batches_of file = batches_in (length file) (drop 8 file)
 
--- all records behind the head, in order
+-- all records after the head, in order
 abbrev pub recovered : List ℕ → Batch
 recovered file = flat_map (λ (batch : Batch). batch) (drop 1 (batches_of file))
 
--- The file is a log of whole batches, and a crash leaves the same, whatever is behind the closed gate.
+-- The file is a log of whole batches, and a crash leaves the same, whatever is after the closed gate.
 pub record IsSynced {M : Type 0} (seen : M → List ℕ) (may_leave : M → List ℕ → Type 0) (log : Log M) : Type 0 where
   pub file : HoldsBatches (batches_of (seen log.media)) (seen log.media)
   pub durable : (c : List ℕ) → may_leave log.media c → HoldsBatches (batches_of (seen log.media)) c
@@ -87,12 +87,12 @@ pub record KeepsBatches {M : Type 0} (seen : M → List ℕ) (may_leave : M → 
 abbrev pub IsBeforeOrAfter : List Batch → Batch → List ℕ → Type 0
 IsBeforeOrAfter batches batch file = HoldsBatches batches file ⊎ HoldsBatches (batches ++ batch ∷ []) file
 
--- these batches are behind the first eight bytes, whatever those are
+-- these batches are after the first eight bytes, whatever those are
 abbrev pub HoldsBehind : List Batch → List ℕ → Type 0
 HoldsBehind batches file = AreBatchesFrom 0 batches (drop 8 file)
 
--- The file is no log, or the log with this head and no batch, or one that a crash might have left before behind its first
--- eight bytes. Of a medium that held no batches there it is no log or the new one.
+-- The file is no log, or the log with this head and no batch, or one that a crash might have left before, after its
+-- first eight bytes. Of a medium that held no batches there it is no log or the new one.
 abbrev pub IsBegun : List ℕ → (List ℕ → Type 0) → List ℕ → Type 0
 IsBegun head old file =
     (batches : List Batch) → HoldsBatches batches file

@@ -14,7 +14,7 @@ pub record OnlyReads {M : Type 0} (seen : M → List ℕ) (may_leave : M → Lis
   pub since : (t : ℕ) (c : List ℕ) → t ≤ moment old → left_since new t c → left_since old t c ⊎ may_leave old c
   pub clean : IsTrue (is_clean new) → IsTrue (is_clean old)
 
--- an open gate, and a batch of this length and digest behind it
+-- an open gate, and a batch of this length and digest after it
 pub record HasHead (bytes : List ℕ) (len digest : ℕ) : Type 0 where
   pub opens : begins_open bytes ≡ true
   pub len_is : number_bytes len ≡ take 8 (drop 2 bytes)
@@ -28,7 +28,7 @@ IsClosedGate bytes = (tail : List ℕ) × (bytes ≡ 0 ∷ 0 ∷ tail)
 abbrev pub IsDamage : ℕ → List ℕ → Type 0
 IsDamage number bytes = (batches : List (List (List ℕ))) → AreBatchesFrom number batches bytes → ⊥
 
--- the place behind a batch
+-- the place after a batch
 pub record GoesBehind (batch : Batch) (old new : Place) : Type 0 where
   pub at : new.at ≡ old.at + 18 + length (encoded batch)
   pub number : new.number ≡ old.number + 1

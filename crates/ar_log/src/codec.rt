@@ -1,4 +1,4 @@
-//! The bytes of a batch. Records stand behind their lengths, and a batch behind its own length and digest:
+//! The bytes of a batch. Records stand after their lengths, and a batch after its own length and digest:
 //!
 //! ```text
 //! | payload length, 8 | digest, 8 | length, 8 | record | length, 8 | record | ..

@@ -13,8 +13,8 @@ pub enum LogError {
     Memory,
     /// The medium failed before anything counted, as where it has no room. The log is as it was.
     Refused(MediaError),
-    /// The medium failed in a sync, or while a gate was opened. The log is closed for good, and a new start finds it as
-    /// it was or with the batch.
+    /// The medium failed in a sync, or while a gate was opened. The log is closed permanently, and a new start finds it
+    /// as it was or with the batch.
     Failed(MediaError),
     /// The log was closed by an earlier failure.
     Closed,
@@ -32,14 +32,14 @@ pub enum LogError {
 }
 
 impl LogError {
-    /// Whether the log is closed for good.
+    /// Whether the log is closed permanently.
     pub fn is_final(&self) -> bool
         ensures { result ≡ is_final self.now }
     {
         matches!(self, LogError::Failed(_))
     }
 
-    /// The same failure, where it closes the log for good.
+    /// The same failure, where it closes the log permanently.
     pub fn closing(self) -> LogError
         ensures { result ≡ final_of self }
     {

@@ -1,5 +1,5 @@
 //! A log of batches of records, over a medium that a crash may tear. A gate of two bytes is before each batch, and is
-//! closed on the medium before anything is written behind it, so that a batch counts whole or not at all:
+//! closed on the medium before anything is written after it, so that a batch counts whole or not at all:
 //!
 //! ```text
 //! | magic, 8 | gate, 2 | batch | gate, 2 | batch | .. | closed gate, 2 | anything

@@ -1,4 +1,4 @@
-//! A log that is written. A closed gate is on the medium behind the last batch before anything is written behind it.
+//! A log that is written. A closed gate is on the medium after the last batch before anything is written after it.
 ghost use Rattle.std.specs.Prelude.{◌≡◌, ◌+◌, ◌<◌, ◌^◌, OnOk, IfSome, IfErr, IsTrue, true, false};
 ghost use Rattle.ar_media.specs.Media.{LeavesOnly};
 ghost use Rattle.ar_log.specs.Codec.{items_of};
@@ -18,15 +18,15 @@ const OPEN: [u8; 2] = [255, 255];
 #[derive(Drop)]
 pub struct Log<M: Media> {
     pub media: M,
-    /// The offset of the closed gate behind the last batch.
+    /// The offset of the closed gate after the last batch.
     pub end: usize,
     /// How many batches there are, the head's among them.
     pub number: u64,
-    /// Whether a failure has closed the log for good.
+    /// Whether a failure has closed the log permanently.
     pub is_closed: bool,
 }
 
-/// The offset of the gate behind a batch of `len` bytes, and its number.
+/// The offset of the gate after a batch of `len` bytes, and its number.
 fn next_place(end: usize, number: u64, len: usize) -> Option<(usize, u64)>
     ensures { IfSome result (λ next. (next.0 ≡ end + len) × (next.1 ≡ number + 1) × (end + len < 2 ^ 64)) }
 {
@@ -36,7 +36,7 @@ fn next_place(end: usize, number: u64, len: usize) -> Option<(usize, u64)>
 impl<M: Media> Log<M> {
     /// Appends a batch. At `Ok` it is acknowledged: from then on every crash leaves a medium that has it.
     ///
-    /// `Memory`, `TooLong` and `Refused` leave the log as it was. `Failed` closes it for good, with the batch or
+    /// `Memory`, `TooLong` and `Refused` leave the log as it was. `Failed` closes it permanently, with the batch or
     /// without.
     pub fn append(&mut self, alloc: Global, records: &[Vec<u8>]) -> Result<(), LogError>
         requires { self.old.is_closed ≡ false → IsTrue (M.is_clean self.old.media)

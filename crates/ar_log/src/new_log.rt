@@ -18,7 +18,7 @@ pub const MAGIC: [u8; 8] = [65, 82, 76, 79, 71, 0, 0, 1];
 /// What is in their place until the rest of a log is on the medium.
 const NO_MAGIC: [u8; 8] = [0; 8];
 
-/// The bytes of a log with this head and no batch, behind its magic.
+/// The bytes of a log with this head and no batch, after its magic.
 fn first_bytes(alloc: Global, head: &[u8]) -> Result<Vec<u8>, AllocError>
     ensures bytes { IfOk result (λ bytes. bytes.items ≡ 255 ∷ 255 ∷ (sealed 0 (framed head.now) ++ 0 ∷ 0 ∷ [])) }
     ensures fits { IfOk result (λ _. length (framed head.now) < 2 ^ 64) }
@@ -39,7 +39,7 @@ pub fn write_head<M: Media>(alloc: Global, media: &mut M, head: &[u8]) -> Result
     ensures durable { OnOk result (Only (M.seen media.new) (M.may_leave media.new)) }
     ensures end { IfOk result (λ end. end ≡ 8 + batches_len ((head.now ∷ []) ∷ [])) }
 
-    // A crash at any moment leaves no log, or the new one, but for batches that were behind the first eight bytes.
+    // A crash at any moment leaves no log, or the new one, but for batches that were after the first eight bytes.
     ensures any_moment { LeavesOnly M.moment M.left_since media.old media.new
         (IsBegun head.now (M.may_leave media.old)) }
 

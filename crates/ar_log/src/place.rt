@@ -1,7 +1,7 @@
 //! A place in a log.
 ghost use Rattle.std.specs.Prelude.{◌≡◌, ◌≤◌, ◌+◌, ◌<◌, ◌^◌};
 
-/// The offset of a gate in a log that is read, and what is behind it.
+/// The offset of a gate in a log that is read, and what is after it.
 #[derive(Clone, Copy)]
 pub struct Place {
     /// The offset of the gate.
@@ -18,6 +18,6 @@ pub struct Place {
 #[derive(Drop)]
 pub struct ReadBatch {
     pub records: Vec<Vec<u8>>,
-    /// The place behind it.
+    /// The place after it.
     pub next: Place,
 }

@@ -165,7 +165,7 @@ fn read_batch<M: Media>(
     }
 }
 
-/// Reads the batch at a place of a log. `None` at the closed gate behind the last batch. `Damaged` where neither is
+/// Reads the batch at a place of a log. `None` at the closed gate after the last batch. `Damaged` where neither is
 /// there, which no crash leaves.
 pub fn next_batch<M: Media>(
     alloc: Global,
@@ -185,7 +185,7 @@ pub fn next_batch<M: Media>(
     read_batch(alloc, media, place)
 }
 
-/// The place behind the magic. `NotALog` and `OtherVersion` where the medium begins otherwise.
+/// The place after the magic. `NotALog` and `OtherVersion` where the medium begins otherwise.
 fn first_place<M: Media>(alloc: Global, media: &mut M) -> Result<Place, LogError>
     ensures first { IfOk result (λ place. (place.at ≡ 8) × (place.number ≡ 0)) }
     ensures place { IfOk result (λ place. IsTrue (M.is_clean media.new)

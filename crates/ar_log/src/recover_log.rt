@@ -14,7 +14,7 @@ use std::alloc::Global;
 pub struct WholeLog {
     /// Its batches, the head's first.
     pub batches: Vec<Vec<Vec<u8>>>,
-    /// The closed gate behind them.
+    /// The closed gate after them.
     pub end: Place,
 }
 

@@ -14,7 +14,7 @@ pub fn create<M: Media>(alloc: Global, media: M, head: &[u8]) -> Result<Log<M>, 
     ensures batches { IfOk result (λ log. batches_of (M.seen log.media) ≡ (head.now ∷ []) ∷ []) }
     ensures open { IfOk result (λ log. log.is_closed ≡ false) }
 
-    // A crash at any moment leaves no log, or the new one, but for batches that were behind the first eight bytes.
+    // A crash at any moment leaves no log, or the new one, but for batches that were after the first eight bytes.
     ensures any_moment { IfOk result (λ log. LeavesOnly M.moment M.left_since media log.media
         (IsBegun head.now (M.may_leave media))) }
     ensures any_moment_err { IfErr result (λ e. LeavesOnly M.moment M.left_since media e.1
@@ -22,6 +22,7 @@ pub fn create<M: Media>(alloc: Global, media: M, head: &[u8]) -> Result<Log<M>, 
 
     ensures cause { IfErr result (λ e. IsTrue (is_of_medium e.0) → M.faults media < M.faults e.1) }
     ensures clean { IfOk result (λ log. M.is_clean log.media ≡ M.is_clean media) }
+    ensures clean_err { IfErr result (λ e. M.is_clean e.1 ≡ M.is_clean media) }
 {
     let mut media = media;
     match write_head(alloc, &mut media, head) {
@@ -35,7 +36,7 @@ pub fn create<M: Media>(alloc: Global, media: M, head: &[u8]) -> Result<Log<M>, 
     }
 }
 
-/// Cuts off what is behind the closed gate at `place`, and syncs. It may crash too, and leaves the same batches then.
+/// Cuts off what is after the closed gate at `place`, and syncs. It may crash too, and leaves the same batches then.
 pub fn cut_torn<M: Media>(media: &mut M, place: Place) -> Result<(), LogError>
     ensures durable { OnOk result (Only (M.seen media.new) (M.may_leave media.new)) }
     ensures any_moment { (batches : List (List (List ℕ))) → place.at ≡ 8 + batches_len batches
@@ -56,7 +57,7 @@ pub fn cut_torn<M: Media>(media: &mut M, place: Place) -> Result<(), LogError>
     Ok(())
 }
 
-/// The log of which `place` is the closed gate behind the last batch.
+/// The log of which `place` is the closed gate after the last batch.
 pub fn resume<M: Media>(media: M, place: Place) -> Log<M>
     ensures media { result.media ≡ media }
     ensures open { result.is_closed ≡ false }

@@ -32,7 +32,7 @@ unfolding overlaid
 overlaid_some file at [] some = absurd (some refl)
 overlaid_some file at (b ∷ bytes) some = refl
 
--- behind the end there is nothing to drop
+-- after the end there is nothing to drop
 pub drop_min : (n : ℕ) (file : List ℕ) → drop (min n (length file)) file ≡ drop n file
 drop_min n file = elim (cases_lt n (length file)) [
   | inl within ↦ let same : min n (length file) ≡ n = omega arith in ap (λ k. drop k file) same

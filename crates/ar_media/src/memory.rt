@@ -21,7 +21,7 @@ pub enum Fate {
     Done,
     /// It is not.
     Lost,
-    /// The first so many bytes of a write are; a length is as near to this as it may be.
+    /// This many bytes of a write are, the first ones; a length is as near to this as it may be.
     Torn(usize),
 }
 

@@ -13,7 +13,7 @@ pub enum Call {
     Measured(usize),
     /// Returned bytes from this offset on.
     Read(usize),
-    /// Wrote at this offset the first so many bytes of those that it was given.
+    /// Wrote at this offset this many bytes, the first of those that it was given.
     Wrote(usize, usize),
     /// Changed the length to this, or failed to.
     Resized(usize, bool),

@@ -68,7 +68,7 @@ own_of-append a (r ∷ records) more =
     ap (λ (l : List UnitEntry). own_in a r ++ l) (own_of-append a records more)
     ∙ sym (append_assoc (own_in a r) (own_of a records) (own_of a more))
 
--- the unit that records make goes on with those behind them
+-- the unit that records make goes on with those after them
 pub unit_of-append : (a : ℕ × ℕ) (records more : List RecordData)
     → unit_of (records ++ more) a ≡ unit_run (unit_of records a) (own_of a more)
 unit_of-append a records more =

@@ -1,4 +1,4 @@
--- The record at the front of bytes, and the bytes behind it. There is none where a field is cut short or unknown.
+-- The record at the front of bytes, and the bytes after it. There is none where a field is cut short or unknown.
 use Rattle.std.specs.Prelude.{◌≡◌, ℕ, List, [], ◌∷◌, length, take, drop, Option, Some, None, nat_lt, ◌==◌}
 use Rattle.std.specs.Prelude.{if◌then◌else◌, Result, Ok, Err}
 use Rattle.std.specs.Int.{Width, w32, w64, byte_len, from_be_bytes}
@@ -70,7 +70,7 @@ record_at (kind ∷ bytes) =
     else (if kind == 5 then discard_at bytes
     else None)))))
 
--- one record and nothing behind it
+-- one record and nothing after it
 unfoldable pub decoded : List ℕ → Option RecordData
 decoded bytes = do
   found ← record_at bytes

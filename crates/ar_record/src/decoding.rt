@@ -42,7 +42,7 @@ pub fn decode(alloc: Global, bytes: &[u8]) -> Result<Record, DecodeError>
     whole_record(alloc, bytes)
 }
 
-// One record and nothing behind it.
+// One record and nothing after it.
 #[tactic(auto, unfolding(crate::specs::Reading::decoded))]
 fn whole_record(alloc: Global, bytes: &[u8]) -> Result<Record, DecodeError>
     ensures { ReadsAs data_of result (decoded bytes.now) }
@@ -55,7 +55,7 @@ fn whole_record(alloc: Global, bytes: &[u8]) -> Result<Record, DecodeError>
     }
 }
 
-// The record at the front, and the bytes behind it.
+// The record at the front, and the bytes after it.
 #[tactic(auto, unfolding(crate::specs::Reading::record_at))]
 fn record_of(alloc: Global, bytes: &[u8]) -> Result<(Record, &[u8]), DecodeError>
     ensures { ReadsAs (λ x. (data_of x.0, x.1.now)) result (record_at bytes.now) }

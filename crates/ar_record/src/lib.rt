@@ -34,7 +34,7 @@ pub fn other_commands_change_nothing()
     ensures { NoOtherChanges }
 {}
 
-/// Law: the unit that records make goes on with those behind them.
+/// Law: the unit that records make goes on with those after them.
 pub fn replays_go_on()
     ensures { (a : ℕ × ℕ) (records more : List RecordData)
         → unit_of (records ++ more) a ≡ unit_run (unit_of records a) (own_of a more) }
