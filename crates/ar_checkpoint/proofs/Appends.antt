@@ -25,7 +25,7 @@ use Rattle.ar_checkpoint.specs.declared.log_replay.LogReplay.{LogReplay}
 
 -- ---- batches
 
-batch_records-append : (batches more : List Batch)
+pub batch_records-append : (batches more : List Batch)
     → batch_records (batches ++ more) ≡ batch_records batches ++ batch_records more
 batch_records-append batches more =
     ap all_decoded (flat_map-append (λ (b : Batch). b) batches more)
@@ -97,7 +97,7 @@ compacts_all done (a ∷ left) old new parts distinct compacts are =
     (subst (λ (l : List RecordData). Compacts ((done ++ a ∷ []) ++ left) old l)
     (append_assoc new are.0 are.1 ∙ ap (λ (l : List RecordData). new ++ l) (sym are.2)) all)
 
-compaction_of : (old : List RecordData) (replay : LogReplay) (parts : List RecordData) → IsReplayOf old replay
+pub compaction_of : (old : List RecordData) (replay : LogReplay) (parts : List RecordData) → IsReplayOf old replay
     → AreCheckpoints replay.units.items parts → IsCompaction old (map AddDisk replay.disks.items ++ parts)
 compaction_of old replay parts is are =
     let addresses : List (ℕ × ℕ) = map unit_address replay.addresses.items in

@@ -2,3 +2,4 @@ pub mod Clauses
 pub mod Replays
 pub mod Appends
 pub mod Switching
+pub mod Graduating

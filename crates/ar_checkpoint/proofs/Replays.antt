@@ -143,7 +143,7 @@ replays_item records items item old middle new one two is =
     ∙ ap (λ (l : List RecordData). records ++ l) (sym (all_decoded-append items (item ∷ []))))
     (two (records ++ all_decoded items) (one records is))
 
--- batches with a head, behind which the records are those of a replay
+-- batches with a head, after which the records are those of a replay
 pub record IsReplayed (batches : List Batch) (replay : LogReplay) : Type 0 where
   pub head : Batch
   pub more : List Batch

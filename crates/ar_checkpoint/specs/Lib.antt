@@ -1,4 +1,5 @@
 pub mod Failing
+pub mod Gradual
 pub mod LogReplay
 pub mod Replacing
 pub mod Successor

@@ -4,10 +4,12 @@
 #![tactic(auto)]
 
 mod error;
+mod gradual;
 mod log_replay;
 mod reading;
 mod replacing;
 mod successor;
 
 pub use error::CheckpointError;
+pub use gradual::{GradualCheckpoint, make_piece};
 pub use replacing::checkpoint;

@@ -16,7 +16,7 @@ use ar_media::Media;
 use ar_record::{DecodeError, decode};
 use std::alloc::Global;
 
-// Replays the records behind the head of a log, of which the head was read. Nothing is written.
+// Replays the records after the head of a log, of which the head was read. Nothing is written.
 pub(crate) fn replay_rest<M: Media>(
     alloc: Global,
     reader: &mut JournalReader<M>,
@@ -43,7 +43,7 @@ pub(crate) fn replay_rest<M: Media>(
 }
 
 // Replays the records of a batch, of which the first has this number, and returns the number after them.
-fn replay_batch(
+pub(crate) fn replay_batch(
     alloc: Global,
     replay: &mut LogReplay,
     batch: &[Vec<u8>],

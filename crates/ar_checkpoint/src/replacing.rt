@@ -37,7 +37,7 @@ pub fn checkpoint<M: Media + Drop>(
 
     ensures ready { IfOk result (λ journal. IsReady M.seen M.may_leave M.is_clean journal) }
     ensures open { IfOk result (λ journal. journal.active.is_closed ≡ false) }
-    // The records behind the new head are a compaction of the old ones.
+    // The records after the new head are a compaction of the old ones.
     ensures replaced { IfOk result (λ journal. ReplacesLog M.seen M.is_clean (head_data head.now) reader journal) }
     // A crash at any moment of the call leaves a journal of the old log's batches or of the successor's.
     ensures any_moment { IfOk result (λ journal. IfSome journal.spare (λ old.
@@ -62,7 +62,7 @@ pub fn checkpoint<M: Media + Drop>(
 }
 
 // The encoding of the head of the next generation.
-fn encode_next(alloc: Global, head: &StoreHead) -> Result<Vec<u8>, CheckpointError>
+pub(crate) fn encode_next(alloc: Global, head: &StoreHead) -> Result<Vec<u8>, CheckpointError>
     requires { length head.now.name.items ≤ 64 }
     ensures bytes { IfOk result (λ bytes. bytes.items ≡ head_encoding (next_head (head_data head.now))) }
     ensures error { IfErr result IsBeforeSwitch }

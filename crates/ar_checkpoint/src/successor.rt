@@ -46,7 +46,7 @@ fn write_records<M: Media>(
 }
 
 // Appends the records of added disks, as one batch.
-fn write_disks<M: Media>(
+pub(crate) fn write_disks<M: Media>(
     alloc: Global,
     log: &mut Log<M>,
     disks: &[u32],
@@ -55,6 +55,7 @@ fn write_disks<M: Media>(
     ensures written { OnOk result (AppendsRecords M.seen M.may_leave M.is_clean (map AddDisk disks.now) log.old
         log.new) }
     ensures error { IfErr result IsBeforeSwitch }
+    ensures clean { M.is_clean log.new.media ≡ M.is_clean log.old.media }
 {
     if disks.is_empty() {
         return Ok(());
@@ -108,7 +109,7 @@ fn write_unit<M: Media>(
 }
 
 // Appends records as one batch.
-fn append<M: Media>(
+pub(crate) fn append<M: Media>(
     alloc: Global,
     log: &mut Log<M>,
     records: &[Record],
@@ -118,6 +119,7 @@ fn append<M: Media>(
     ensures written { OnOk result (AppendsRecords M.seen M.may_leave M.is_clean (all_data records.now) log.old
         log.new) }
     ensures error { IfErr result IsBeforeSwitch }
+    ensures clean { M.is_clean log.new.media ≡ M.is_clean log.old.media }
 {
     let batch = encode_each(alloc, records)?;
     match log.append(alloc, &batch) {

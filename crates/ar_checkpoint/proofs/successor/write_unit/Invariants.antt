@@ -1,4 +1,4 @@
--- what is left goes behind what was appended
+-- what is left goes after what was appended
 use Rattle.std.proofs.Common.{length}
 use Rattle.ar_record.specs.Record.{AreEncodable}
 use Rattle.ar_checkpoint.proofs.Appends.{AppendsPart}
