@@ -1,6 +1,9 @@
 -- The records of a store go along with the history.
-use Rattle.std.proofs.Common.{◌≡◌, ◌≢◌, inl, inr, ℕ, Bool, true, false, cond, ◌&&◌, List, [], ◌∷◌, ◌++◌, Option, Some, None, IsTrue, Vec}
-use Rattle.std.proofs.Common.{Result, Ok, Err, refl, sym, ◌∙◌, ap, subst, append_assoc, append-nil, drop}
+use Rattle.std.proofs.Common.{◌≡◌, ◌≢◌, inl, inr, ℕ, Bool, true, false, cond, ◌&&◌, List, [], ◌∷◌, ◌++◌, Option, Some}
+use Rattle.std.proofs.Common.{None, IsTrue, Vec}
+use Rattle.std.specs.Option.{is_some}
+use Rattle.std.proofs.Common.{Result, Ok, Err, OnOk, IfErr, IfNone, not, refl, sym, ◌∙◌, ap, subst, append_assoc}
+use Rattle.std.proofs.Common.{append-nil}
 use Rattle.std.specs.List.{flat_map}
 use Rattle.std.specs.declared.alloc.Global.{Global}
 use Rattle.std.proofs.lemmas.Grind.{flat_map-append}
@@ -8,15 +11,17 @@ use Rattle.ar_disks.specs.declared.address.Addr.{Addr}
 use Rattle.ar_disks.specs.declared.address.Host.{Host}
 use Rattle.ar_disks.specs.Disk.{DiskState}
 use Rattle.ar_scsi.specs.declared.reply.Reply.{Reply}
-use Rattle.ar_unit.specs.Unit.{UnitEntry}
+use Rattle.ar_unit.specs.Unit.{UnitEntry, UnitState, unit_run}
 use Rattle.ar_volume.specs.Sectors.{Address}
 use Rattle.ar_core.specs.Events.{Outcome}
 use Rattle.ar_core.specs.declared.event.EventOf.TheVariants as events
 use Rattle.ar_core.specs.declared.event.OutcomeOf.TheVariants as outcomes
 use Rattle.ar_log.specs.Codec.{Batch}
-use Rattle.ar_log.specs.Log.{HoldsBatches, batches_of}
+use Rattle.ar_log.specs.Failure.{is_final}
+use Rattle.ar_log.specs.Log.{Appends, HoldsBatches, KeepsBatches, batches_of}
+use Rattle.ar_log.specs.declared.error.LogError.{LogError}
 use Rattle.ar_log.proofs.Standing.{batches_of_stands}
-use Rattle.ar_journal.specs.Journal.{IsReady, batches_now}
+use Rattle.ar_journal.specs.Journal.{ClosesJournal, IsReady, batches_now}
 use Rattle.ar_journal.specs.declared.journal.Journal.{Journal}
 use Rattle.ar_journal.proofs.Naming.{chosen_named}
 use Rattle.ar_history.specs.declared.entry.Entry.{Entry}
@@ -28,13 +33,16 @@ use Rattle.ar_record.specs.Reading.{all_decoded, decoded, with_record}
 use Rattle.ar_record.specs.Record.{RecordData, Make, Grow, Remove, Command, AddDisk, IsEncodable}
 use Rattle.ar_record.specs.Replay.{changes_unit, own_of, unit_of}
 use Rattle.ar_record.proofs.Records.{all_decoded-append, decoded_again}
-use Rattle.ar_record.proofs.Replaying.{own_of-append}
-use Rattle.ar_recovery.specs.Logging.{IsLogOf, records_of}
+use Rattle.ar_record.proofs.Replaying.{own_of-append, unit_of-append}
+use Rattle.ar_recovery.specs.Logging.{records_of}
 use Rattle.ar_recovery.proofs.Logging.{log_suffices}
 use Rattle.ar_recovery.proofs.Recovering.{own_records-append}
 use Rattle.ar_checkpoint.specs.Successor.{log_records}
-use Rattle.ar_durable.specs.Store.{RecordStore, HasFirstBatch, Lasts, is_given_up, stored_records}
-use Rattle.ar_durable.specs.Durable.{AreRecords, EncodesTo, NotesIf, is_made, is_grown, is_removed}
+use Rattle.ar_checkpoint.specs.Gradual.{GoesWithIf, HasFirstBatch, KeepsLogUnits, other_medium}
+use Rattle.ar_checkpoint.proofs.Graduating.{follows_appended}
+use Rattle.ar_checkpoint.specs.declared.gradual.GradualCheckpoint.{GradualCheckpoint}
+use Rattle.ar_durable.specs.Store.{KeepsStoredUnits, RecordStore, Lasts, is_given_up, stored_records}
+use Rattle.ar_durable.specs.Durable.{AreRecords, EncodesTo, MakesUnits, NotesIf, is_made, is_grown, is_removed}
 
 pub not_both : (b : Bool) → b ≡ true → b ≡ false → ⊥
 not_both b is not = let e : true ≡ false = sym is ∙ not in cc e
@@ -52,7 +60,7 @@ log_records-push (head ∷ batches) batch some =
 module _ {M : Type 0} (seen : M → List ℕ) (may_leave : M → List ℕ → Type 0) (is_clean : M → Bool) where
   -- the records with one more that waits
   stored_more : (old : RecordStore M) (bytes : List ℕ) (r : RecordData) → IsEncodable r → bytes ≡ encoding_of r
-      → stored_records seen (record { journal = old.journal; waiting = old.waiting ++ bytes ∷ [] })
+      → stored_records seen (record old { waiting = old.waiting ++ bytes ∷ [] })
       ≡ stored_records seen old ++ r ∷ []
   stored_more old bytes r fits is =
       ap (λ (l : List RecordData). log_records (batches_now seen old.journal) ++ l)
@@ -71,31 +79,44 @@ module _ {M : Type 0} (seen : M → List ℕ) (may_leave : M → List ℕ → Ty
       elim waits [
         | inl up ↦ λ going clean. absurd (not_both _ up going)
         | inr is ↦ subst (λ (s : RecordStore M). AreRecords seen is_clean s (history ++ more)) (sym is) (λ going clean.
+            (let was = before going (record { active = clean.active; other = clean.other }) in
             record {
-              own = λ a.
-                  ap (λ (l : List RecordData). own_of a l) (stored_more old bytes.items r encodes.0 encodes.1)
-                  ∙ own_of-append a (stored_records seen old) (r ∷ [])
-                  ∙ ap (λ (l : List UnitEntry). l ++ own_of a (r ∷ [])) ((before going clean).own a)
-                  ∙ ap (λ (l : List UnitEntry). own_of a (records_of history) ++ l) (same a)
-                  ∙ sym (own_records-append a history more);
-            })
+              full = was.full ++ r ∷ [];
+              log = record {
+                own = λ a.
+                    own_of-append a was.full (r ∷ [])
+                    ∙ ap (λ (l : List UnitEntry). l ++ own_of a (r ∷ [])) (was.log.own a)
+                    ∙ ap (λ (l : List UnitEntry). own_of a (records_of history) ++ l) (same a)
+                    ∙ sym (own_records-append a history more);
+              };
+              same = λ a.
+                  ap (λ (l : List RecordData). unit_of l a) (stored_more old bytes.items r encodes.0 encodes.1)
+                  ∙ unit_of-append a (stored_records seen old) (r ∷ [])
+                  ∙ ap (λ (u : UnitState). unit_run u (own_of a (r ∷ []))) (was.same a)
+                  ∙ sym (unit_of-append a was.full (r ∷ []));
+            }))
       ]
   noted false encoded r old new history more before encodes is same =
       subst (λ (s : RecordStore M). AreRecords seen is_clean s (history ++ more)) (sym is) (λ going clean.
+      (let was = before going clean in
       record {
-        own = λ a.
-            (before going clean).own a
-            ∙ sym (append-nil (own_of a (records_of history)))
-            ∙ ap (λ (l : List UnitEntry). own_of a (records_of history) ++ l) (same a)
-            ∙ sym (own_records-append a history more);
-      })
+        full = was.full;
+        log = record {
+          own = λ a.
+              was.log.own a
+              ∙ sym (append-nil (own_of a (records_of history)))
+              ∙ ap (λ (l : List UnitEntry). own_of a (records_of history) ++ l) (same a)
+              ∙ sym (own_records-append a history more);
+        };
+        same = was.same;
+      }))
 
   -- the records that waited are in the journal, and none waits
   pub committed : (old new : Journal M) (waiting : Batch) → HasFirstBatch seen is_clean old → old.active.is_closed ≡ false
       → IsTrue (is_clean old.active.media)
       → batches_now seen new ≡ batches_now seen old ++ waiting ∷ []
-      → stored_records seen (record { journal = new; waiting = [] })
-      ≡ stored_records seen (record { journal = old; waiting = waiting })
+      → log_records (batches_now seen new) ++ all_decoded []
+      ≡ log_records (batches_now seen old) ++ all_decoded waiting
   committed old new waiting head going clean appended =
       append-nil (log_records (batches_now seen new))
       ∙ ap log_records appended
@@ -104,18 +125,101 @@ module _ {M : Type 0} (seen : M → List ℕ) (may_leave : M → List ℕ → Ty
   -- after a commit every crash leaves the history's records
   pub lasts : (store : RecordStore M) (history : List Entry) → IsReady seen may_leave is_clean store.journal
       → is_given_up store ≡ false → store.waiting ≡ [] → AreRecords seen is_clean store history → IsLegal history
-      → Lasts may_leave is_clean store.journal history
-  lasts store history ready going none are legal = λ clean s active spare named left a.
-      let synced = ready.log going clean.active in
+      → Lasts may_leave is_clean store history
+  lasts store history ready going none are legal = λ clean all s active spare named left a.
+      let synced = ready.log going all.active in
       let held : HoldsBatches (batches_now seen store.journal) active = synced.durable active left in
-      let log : IsLogOf (stored_records seen store) history = are going clean.active in
+      let made : MakesUnits (stored_records seen store) history = are going all in
       ap (λ (file : List ℕ). unit_of (log_records (batches_of file)) a)
-      (chosen_named store.journal.is_second s active spare (ready.named going clean.selector s named))
+      (chosen_named store.journal.is_second s active spare (ready.named going clean s named))
       ∙ ap (λ (batches : List Batch). unit_of (log_records batches) a)
       (batches_of_stands (batches_now seen store.journal) active held)
       ∙ ap (λ (l : List RecordData). unit_of l a) (sym (append-nil (log_records (batches_now seen store.journal))))
       ∙ ap (λ (w : Batch). unit_of (log_records (batches_now seen store.journal) ++ all_decoded w) a) (sym none)
-      ∙ log_suffices (stored_records seen store) history log legal a
+      ∙ made.same a
+      ∙ log_suffices made.full history made.log legal a
+
+-- an append, by how it ended: the first batch stays, and a checkpoint goes with the journal still
+push_some : (l : List Batch) (x : Batch) → l ++ x ∷ [] ≡ [] → ⊥
+push_some [] x none = cc none
+push_some (y ∷ l) x none = cc none
+
+was_open : {M T : Type 0} (old new : Journal M) (result : Result T LogError) (is_closed : Bool)
+    → old.active.is_closed ≡ is_closed → ClosesJournal old new result → new.active.is_closed ≡ false
+    → old.active.is_closed ≡ false
+was_open old new result true is closes now =
+    absurd (not_both new.active.is_closed (ap (λ (j : Journal _). j.active.is_closed) (closes.closed is).1 ∙ is) now)
+was_open old new result false is closes now = is
+
+pub first_appended : {M : Type 0} (seen : M → List ℕ) (may_leave : M → List ℕ → Type 0) (is_clean : M → Bool)
+    (batch : Batch) (old new : Journal M) (result : Result Unit LogError)
+    → ClosesJournal old new result
+    → OnOk result (IsTrue (is_clean old.active.media) → Appends seen may_leave batch old.active new.active)
+    → IfErr result (λ e. is_final e ≡ false → old.active.is_closed ≡ false → IsTrue (is_clean old.active.media)
+    → KeepsBatches seen may_leave old.active new.active)
+    → is_clean new.active.media ≡ is_clean old.active.media
+    → HasFirstBatch seen is_clean old → HasFirstBatch seen is_clean new
+first_appended seen may_leave is_clean batch old new (Ok x) closes acknowledged kept same first = λ now clean none.
+    push_some (batches_now seen old) batch (sym (acknowledged (subst IsTrue same clean)).batches ∙ none)
+first_appended seen may_leave is_clean batch old new (Err e) closes acknowledged kept same first = λ now clean none.
+    (let before = was_open old new (Err e) old.active.is_closed refl closes now in
+    let was = subst IsTrue same clean in
+    first before was (sym (kept (sym (closes.closes before) ∙ now) before was).batches ∙ none))
+
+pub goes_with_appended : {M : Type 0} (seen : M → List ℕ) (may_leave : M → List ℕ → Type 0) (is_clean : M → Bool)
+    (batch : Batch) (old new : Journal M) (result : Result Unit LogError) (checkpoint : Option (GradualCheckpoint M))
+    → ClosesJournal old new result
+    → OnOk result (IsTrue (is_clean old.active.media) → Appends seen may_leave batch old.active new.active)
+    → IfErr result (λ e. is_final e ≡ false → old.active.is_closed ≡ false → IsTrue (is_clean old.active.media)
+    → KeepsBatches seen may_leave old.active new.active)
+    → is_clean new.active.media ≡ is_clean old.active.media
+    → GoesWithIf seen may_leave is_clean old checkpoint → GoesWithIf seen may_leave is_clean new checkpoint
+goes_with_appended seen may_leave is_clean batch old new result None closes acknowledged kept same goes = tt
+goes_with_appended seen may_leave is_clean batch old new result (Some checkpoint) closes acknowledged kept same goes =
+    follows_appended seen may_leave is_clean batch old new result checkpoint closes acknowledged kept same goes
+
+-- a piece of a checkpoint keeps what the records make of each unit, with those that wait
+pub stored_kept : {M : Type 0} (seen : M → List ℕ) (is_clean : M → Bool) (old new : Journal M) (waiting : Batch)
+    (checkpoint next : Option (GradualCheckpoint M))
+    → KeepsLogUnits seen is_clean old checkpoint next new
+    → KeepsStoredUnits seen is_clean
+    (record { journal = old; waiting = waiting; other = other_medium old checkpoint })
+    (record { journal = new; waiting = waiting; other = other_medium new next })
+stored_kept seen is_clean old new waiting checkpoint next keeps = record {
+  going = keeps.was_open;
+  clean = λ now all. record {
+    active = keeps.active now all.active all.other;
+    other = keeps.other now all.active all.other;
+  };
+  units = λ now all a. keeps.units now all.active all.other a;
+  waiting = refl;
+}
+
+-- a store that keeps what its records make of each unit has records of the same history
+pub records_kept : {M : Type 0} (seen : M → List ℕ) (is_clean : M → Bool) (old new : RecordStore M)
+    (history : List Entry)
+    → KeepsStoredUnits seen is_clean old new → AreRecords seen is_clean old history
+    → AreRecords seen is_clean new history
+records_kept seen is_clean old new history keeps are = λ going all.
+    (let was = are (keeps.going going) (keeps.clean going all) in
+    let log = log_records (batches_now seen old.journal) in
+    record {
+      full = was.full;
+      log = was.log;
+      same = λ a.
+          unit_of-append a (log_records (batches_now seen new.journal)) (all_decoded new.waiting)
+          ∙ ap (λ (u : UnitState). unit_run u (own_of a (all_decoded new.waiting))) (keeps.units going all a)
+          ∙ ap (λ (w : Batch). unit_run (unit_of log a) (own_of a (all_decoded w))) keeps.waiting
+          ∙ sym (unit_of-append a log (all_decoded old.waiting))
+          ∙ was.same a;
+    })
+
+-- what holds where there is none, if there is none
+pub where_none : {T : Type 0} (found : Option T) (none : Bool) (X : Type 0) → is_some found ≡ not none → none ≡ true
+    → IfNone found X → X
+where_none None none X is holds given = given
+where_none (Some x) none X is holds given =
+    absurd (let e : true ≡ false = is ∙ ap not holds in cc e)
 
 -- the record of a command, if it is noted, is that of its entry
 pub command_same : (recorded changes : Bool) (a : Address) (host : Host) (lun : ℕ) (cdb payload : List ℕ) (reply : Reply)

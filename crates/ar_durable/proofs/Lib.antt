@@ -1,2 +1,3 @@
+pub mod Discarding
 pub mod Keeping
 pub mod Replaying

@@ -29,7 +29,7 @@ redoes_both old middle new records more one two = record {
       ∙ ap (λ (l : List UnitEntry). own_of a (records_of old) ++ l) (sym (own_of-append a records more));
 }
 
--- behind the head there is nothing yet
+-- after the head there is nothing yet
 pub replayed_head : (batches : List Batch) (history : List Entry) → IsHeadAlone batches → history ≡ []
     → IsReplayed batches history
 replayed_head batches history only none =

@@ -1,13 +1,13 @@
 -- What a store holds, and what a crash leaves of it.
-use Rattle.std.specs.Prelude.{◌≡◌, ◌≢◌, ◌⊎◌, ℕ, Bool, true, false, List, [], ◌∷◌, ◌++◌, drop, IsTrue}
+use Rattle.std.specs.Prelude.{◌≡◌, ◌⊎◌, ℕ, Bool, true, false, List, [], ◌∷◌, ◌++◌, IsTrue}
 use Rattle.std.specs.Prelude.{Option, Some, None, Vec}
 use Rattle.std.specs.declared.alloc.Global.{Global}
-use Rattle.ar_unit.specs.Unit.{UnitState}
 use Rattle.ar_log.specs.Codec.{Batch}
 use Rattle.ar_log.specs.Log.{IsBeforeOrAfter}
 use Rattle.ar_journal.specs.Journal.{IsClean, LeavesJournal, batches_now, first_of, journal_batches, second_of}
 use Rattle.ar_journal.specs.declared.journal.Journal.{Journal}
 use Rattle.ar_record.specs.Reading.{all_decoded}
+use Rattle.ar_checkpoint.specs.Gradual.{is_other_clean}
 use Rattle.ar_checkpoint.specs.Successor.{log_records}
 use Rattle.ar_record.specs.Record.{RecordData}
 use Rattle.ar_record.specs.Replay.{unit_of}
@@ -15,36 +15,48 @@ use Rattle.ar_volume.specs.Sectors.{Address}
 use Rattle.ar_history.specs.declared.entry.Entry.{Entry}
 use Rattle.ar_history.specs.History.{replay}
 
--- the journal, and the records that wait for a commit, each as its bytes
+-- the journal, the records that wait for a commit, each as its bytes, and the medium that isn't appended to: the
+-- journal's spare or that of a successor which is being made
 pub record RecordStore (M : Type 0) : Type 0 where
   pub journal : Journal M
   pub waiting : Batch
+  pub other : Option M
 
 -- nothing is written any more
 abbrev pub is_given_up : {M : Type 0} → RecordStore M → Bool
 is_given_up store = store.journal.active.is_closed
 
+-- no read of a log has returned other bytes than were written
+pub record IsAllClean {M : Type 0} (is_clean : M → Bool) (store : RecordStore M) : Type 0 where
+  pub active : IsTrue (is_clean store.journal.active.media)
+  pub other : IsTrue (is_other_clean is_clean store.other)
+
 -- the records of a store: those in the journal, and those that wait
 abbrev pub stored_records : {M : Type 0} → (M → List ℕ) → RecordStore M → List RecordData
 stored_records seen store = log_records (batches_now seen store.journal) ++ all_decoded store.waiting
 
--- the first batch of a journal that is written is its head
-abbrev pub HasFirstBatch : {M : Type 0} → (M → List ℕ) → (M → Bool) → Journal M → Type 0
-HasFirstBatch seen is_clean journal =
-    journal.active.is_closed ≡ false → IsTrue (is_clean journal.active.media) → batches_now seen journal ≢ []
-
--- A record waits, behind the others, or the store is given up: it is where there is no encoding.
+-- A record waits, after the others, or the store is given up: it is where there is no encoding.
 abbrev pub Waits : {M : Type 0} → Option (Vec ℕ Global) → RecordStore M → RecordStore M → Type 0
 Waits None old new = is_given_up new ≡ true
 Waits (Some encoded) old new =
     (is_given_up new ≡ true)
-    ⊎ (new ≡ record { journal = old.journal; waiting = old.waiting ++ encoded.items ∷ [] })
+    ⊎ (new ≡ record old { waiting = old.waiting ++ encoded.items ∷ [] })
 
 -- the store has the same records, unless it is given up
 abbrev pub KeepsRecords : {M : Type 0} → (M → List ℕ) → (M → Bool) → RecordStore M → RecordStore M → Type 0
 KeepsRecords seen is_clean old new =
     is_given_up new ≡ false → IsTrue (is_clean old.journal.active.media)
     → (is_given_up old ≡ false) × (stored_records seen new ≡ stored_records seen old)
+
+-- Unless the store is given up, the records in its log make the same units, so that what was committed stays so, and
+-- the same records wait.
+pub record KeepsStoredUnits {M : Type 0} (seen : M → List ℕ) (is_clean : M → Bool)
+    (old new : RecordStore M) : Type 0 where
+  pub going : is_given_up new ≡ false → is_given_up old ≡ false
+  pub clean : is_given_up new ≡ false → IsAllClean is_clean new → IsAllClean is_clean old
+  pub units : is_given_up new ≡ false → IsAllClean is_clean new → (a : Address)
+      → unit_of (log_records (batches_now seen new.journal)) a ≡ unit_of (log_records (batches_now seen old.journal)) a
+  pub waiting : new.waiting ≡ old.waiting
 
 -- A crash at any moment from old to new leaves the batches of the journal from before, with the waiting records as one
 -- more or without.
@@ -56,12 +68,12 @@ MayLeave seen moment left_since is_clean old new =
     (IsBeforeOrAfter (batches_now seen old.journal) old.waiting)
 
 -- Every crash at this moment leaves files whose records make each unit what the history makes it.
-abbrev pub Lasts : {M : Type 0} → (M → List ℕ → Type 0) → (M → Bool) → Journal M → List Entry → Type 0
-Lasts may_leave is_clean journal history =
-    IsClean is_clean journal → (selector active spare : List ℕ) → may_leave journal.selector selector
-    → may_leave journal.active.media active → (a : Address)
+abbrev pub Lasts : {M : Type 0} → (M → List ℕ → Type 0) → (M → Bool) → RecordStore M → List Entry → Type 0
+Lasts may_leave is_clean store history =
+    IsTrue (is_clean store.journal.selector) → IsAllClean is_clean store → (selector active spare : List ℕ)
+    → may_leave store.journal.selector selector → may_leave store.journal.active.media active → (a : Address)
     → unit_of
-    (log_records (journal_batches selector (first_of journal.is_second active spare)
-    (second_of journal.is_second active spare)))
+    (log_records (journal_batches selector (first_of store.journal.is_second active spare)
+    (second_of store.journal.is_second active spare)))
     a
     ≡ replay history a

@@ -2,11 +2,12 @@
 // store is given up.
 ghost use Rattle.std.specs.Prelude.{◌≡◌, ◌∷◌, [], false, map, true};
 ghost use Rattle.ar_core.specs.declared.event.EventOf.TheVariants as events;
+ghost use Rattle.ar_core.specs.Step.{addr_in};
 ghost use Rattle.ar_extents.specs.Set.{CanCount};
 ghost use Rattle.ar_history.specs.Kept.{HistoryAgrees};
 ghost use Rattle.ar_history.specs.Seat.{SeatState};
-ghost use Rattle.ar_history.specs.Served.{AnswersCommand, DestagesUnit, Maintains, Operates, acknowledges};
-ghost use Rattle.ar_history.specs.Served.{asks_commit};
+ghost use Rattle.ar_history.specs.Served.{AnswersCommand, DestagesUnit, DiscardsSectors, Maintains, Operates};
+ghost use Rattle.ar_history.specs.Served.{acknowledges, asks_commit};
 ghost use Rattle.ar_durable.specs.Durable.{AreRecords};
 ghost use Rattle.ar_durable.specs.Store.{Lasts};
 
@@ -15,27 +16,34 @@ use crate::records::{
     encoded, encoded_command, is_acknowledged, is_added, is_forced, is_grown, is_made, is_noted,
     is_removed, note_if,
 };
+use ar_checkpoint::CheckpointError;
+use ar_compaction::{MAX_NAME, StoreHead};
 use ar_core::{Array, NewDisk, Outcome, UnitFlush};
-use ar_disks::{Addr, Disk};
-use ar_history::{CountedArray, Counts, LiveArray, OperationOf, Seat, Task};
+use ar_disks::{Addr, Disk, Host};
+use ar_history::{
+    CountedArray, Counts, LiveArray, OperationOf, Seat, StoreState, StoreStatus, Task,
+};
 use ar_log::LogError;
 use ar_media::Media;
 use ar_record::Record;
+use ar_recovery::is_recorded;
 use ar_scsi::Reply;
 use bytes::Bytes;
-use log::{Log, error};
+use log::{Log, error, info, warn};
 use std::alloc::Global;
 use std::marker::Model;
 use std::sync::ledger::{Blank, Ledger};
 use std::time::{Clock, Duration, Instant};
 
-/// When records are committed.
+/// When records are committed, and when the log is replaced.
 #[derive(Clone, Copy)]
 pub struct CommitPolicy {
     /// Each WRITE waits for its commit, and not only one with FORCE UNIT ACCESS.
     pub always: bool,
     /// Other records wait at most for about this long.
     pub every: Duration,
+    /// A log that is shorter than this, in bytes, isn't replaced while it is served.
+    pub least_log: usize,
 }
 
 /// How a commit has failed.
@@ -47,8 +55,17 @@ enum Failure {
     Final,
 }
 
+/// The most pieces of a checkpoint in a row.
+const MOST_PIECES: u32 = 64;
+
 /// Bytes that wait at most before a WRITE commits them.
 const MOST_BYTES: usize = 16 << 20;
+
+/// Milliseconds for which pieces of a checkpoint are made in a row, and after how many such turns it is one more: so a
+/// checkpoint ends, however much hosts commit meanwhile.
+const PIECES: u64 = 8;
+
+const TURNS: u64 = 32;
 
 /// An array, and the store of its records.
 #[derive(Drop)]
@@ -57,11 +74,18 @@ pub struct DurableArray<'a, D: Disk, L: Ledger, M: Media, R> {
     alloc: Global,
     counted: CountedArray<D, L>,
     store: Store<M>,
+    // The head of the log, if that is to be replaced once it is long.
+    head: Option<StoreHead>,
     policy: CommitPolicy,
     // When a commit was made last.
     committed: Option<Instant>,
     // How the last commit failed, if it did, which was logged then.
     failure: Option<Failure>,
+    // The length of the log at which a checkpoint begins.
+    longest: usize,
+    // The turns in which pieces of the checkpoint were made, and how many checkpoints have replaced the log.
+    turns: u64,
+    checkpoints: u64,
 }
 
 impl<'a, D: Disk, L: Ledger, M: Media, R> Model for DurableArray<'a, D, L, M, R> {
@@ -81,12 +105,14 @@ impl<'a, D: Disk, L: Ledger, M: Media, R> Model for DurableArray<'a, D, L, M, R>
 }
 
 impl<'a, D: Disk, L: Ledger, M: Media, R> DurableArray<'a, D, L, M, R> {
-    /// Goes on with an array of these records, and returns it with the seats of hosts 0 to 3, in order.
+    /// Goes on with an array of these records, and returns it with the seats of hosts 0 to 3, in order. With the head
+    /// of its log, that is replaced once it is long.
     pub fn resume(
         rt: &'a R,
         alloc: Global,
         blank: Blank,
         live: LiveArray<D>,
+        head: Option<StoreHead>,
         store: Store<M>,
         policy: CommitPolicy,
     ) -> (DurableArray<'a, D, L, M, R>, [Seat<L>; 4])
@@ -100,14 +126,19 @@ impl<'a, D: Disk, L: Ledger, M: Media, R> DurableArray<'a, D, L, M, R> {
         ensures hosts { map (λ (s : SeatState). s.host.number) result.1 ≡ 0 ∷ 1 ∷ 2 ∷ 3 ∷ [] }
     {
         let (counted, seats) = CountedArray::resume(alloc, blank, live);
+        let longest = policy.least_log;
         let durable = DurableArray {
             rt,
             alloc,
             counted,
             store,
+            head,
             policy,
             committed: None,
             failure: None,
+            longest,
+            turns: 0,
+            checkpoints: 0,
         };
         (durable, seats)
     }
@@ -144,6 +175,24 @@ impl<'a, D: Disk, L: Ledger, M: Media, R> DurableArray<'a, D, L, M, R> {
     /// Whether a commit has failed and none has succeeded since.
     pub fn has_failed(&self) -> bool {
         self.failure.is_some() || self.store.is_given_up()
+    }
+
+    /// Returns how the store is.
+    pub fn status(&self) -> StoreStatus {
+        let state = if self.store.is_given_up() {
+            StoreState::GivenUp
+        } else if self.failure.is_some() {
+            StoreState::Failing
+        } else {
+            StoreState::Sound
+        };
+        StoreStatus {
+            state,
+            log_bytes: self.store.log_len() as u64,
+            waiting_bytes: self.store.bytes() as u64,
+            commits: self.store.commits(),
+            checkpoints: self.checkpoints,
+        }
     }
 }
 
@@ -236,6 +285,17 @@ impl<'a, D: Disk + Drop, L: Ledger, M: Media, R> DurableArray<'a, D, L, M, R> {
     {
         self.counted.flush_unit(addr)
     }
+
+    /// Discards `count` sectors of a host's LUN from `lba` on as `CountedArray::discard` does, and notes it.
+    pub fn discard(&mut self, host: Host, lun: u8, lba: u64, count: u32) -> Reply
+        ensures { DiscardsSectors self.old.kept (addr_in host lun) lba count result self.new.kept }
+    {
+        let encoding = encoded(self.alloc, &Record::Unmap(Addr { host, lun }, lba, count));
+        let reply = self.counted.discard(host, lun, lba, count);
+        let noted = is_recorded(self.counted.array(), &reply);
+        note_if(&mut self.store, noted, encoding);
+        reply
+    }
 }
 
 impl<'a, D: Disk, L: Ledger, M: Media, R: Clock + Log> DurableArray<'a, D, L, M, R> {
@@ -243,7 +303,7 @@ impl<'a, D: Disk, L: Ledger, M: Media, R: Clock + Log> DurableArray<'a, D, L, M,
     /// the store is given up.
     pub fn commit(&mut self) -> bool
         ensures same { self.new.kept ≡ self.old.kept }
-        ensures committed { result ≡ true → Lasts M.may_leave M.is_clean self.new.store.journal self.new.kept.history }
+        ensures committed { result ≡ true → Lasts M.may_leave M.is_clean self.new.store self.new.kept.history }
     {
         let _kept = self.counted.array();
         let done = self.store.commit(self.alloc);
@@ -266,9 +326,9 @@ impl<'a, D: Disk, L: Ledger, M: Media, R: Clock + Log> DurableArray<'a, D, L, M,
     pub fn settle(&mut self, cdb: &[u8; 16], reply: &Reply) -> bool
         ensures same { self.new.kept ≡ self.old.kept }
         ensures settled { result ≡ true → asks_commit cdb.now reply.now ≡ true
-            → Lasts M.may_leave M.is_clean self.new.store.journal self.new.kept.history }
+            → Lasts M.may_leave M.is_clean self.new.store self.new.kept.history }
         ensures always { self.old.always ≡ true → result ≡ true → acknowledges cdb.now reply.now ≡ true
-            → Lasts M.may_leave M.is_clean self.new.store.journal self.new.kept.history }
+            → Lasts M.may_leave M.is_clean self.new.store self.new.kept.history }
         ensures failed { result ≡ false → acknowledges cdb.now reply.now ≡ true }
     {
         if !is_acknowledged(cdb, reply) {
@@ -299,6 +359,77 @@ impl<'a, D: Disk, L: Ledger, M: Media, R: Clock + Log> DurableArray<'a, D, L, M,
     }
 }
 
+impl<'a, D: Disk + Drop, L: Ledger, M: Media + Drop, R: Clock + Log> DurableArray<'a, D, L, M, R> {
+    /// Makes pieces of a checkpoint for some 8 ms, once the log is long enough for one. What the log makes of each unit
+    /// stays, whatever becomes of the checkpoint.
+    pub fn checkpoint_some(&mut self)
+        ensures { self.new.kept ≡ self.old.kept }
+    {
+        if !self.store.has_checkpoint() {
+            if self.store.log_len() < self.longest {
+                return;
+            }
+            self.turns = 0;
+        }
+        self.turns = self.turns.saturating_add(1);
+        let most = Duration::from_millis(PIECES.saturating_add(self.turns / TURNS));
+        let began = Instant::now(self.rt).ok();
+        for _ in 0..MOST_PIECES {
+            if !self.checkpoint_piece() || is_due(self.rt, began, most) {
+                return;
+            }
+        }
+    }
+
+    // Makes a piece of a checkpoint, and returns whether there is more to do.
+    fn checkpoint_piece(&mut self) -> bool
+        ensures { self.new.kept ≡ self.old.kept }
+    {
+        let Some(head) = self.head.take() else {
+            return false;
+        };
+        let mut head = head;
+        let goes_on = self.advance(&mut head);
+        self.head = Some(head);
+        goes_on
+    }
+
+    // Makes a piece of a checkpoint of a log with this head.
+    fn advance(&mut self, head: &mut StoreHead) -> bool
+        ensures { self.new.kept ≡ self.old.kept }
+    {
+        if self.store.is_given_up() || head.name.len() > MAX_NAME {
+            return false;
+        }
+        let before = self.store.log_len();
+        let done = self.store.advance(self.alloc, head);
+        let after = self.store.log_len();
+        log_piece(self.rt, before, after, &done);
+        match done {
+            Ok(false) => true,
+            Ok(true) => {
+                head.generation = head.generation.saturating_add(1);
+                self.checkpoints = self.checkpoints.saturating_add(1);
+                self.longest = longest_after(after, self.policy.least_log);
+                false
+            }
+            Err(_) => {
+                self.longest = before.saturating_mul(2);
+                false
+            }
+        }
+    }
+}
+
+// Logs what came of a checkpoint of a log of `before` bytes, which has `after` now.
+fn log_piece<R: Log>(rt: &R, before: usize, after: usize, done: &Result<bool, CheckpointError>) {
+    match done {
+        Ok(false) => {}
+        Ok(true) => info!(rt; "checkpoint: a log of {before} bytes replaced by one of {after}"),
+        Err(error) => warn!(rt; "the log isn't replaced: {error:?}"),
+    }
+}
+
 // Logs why a commit failed, unless the one before has failed as this one.
 fn log_change<R: Log>(rt: &R, before: Option<Failure>, is_final: bool, cause: LogError) -> Failure {
     if is_final {
@@ -311,6 +442,11 @@ fn log_change<R: Log>(rt: &R, before: Option<Failure>, is_final: bool, cause: Lo
         error!(rt; "the store can't be written: {cause:?}; no WRITE is acknowledged until it can");
     }
     Failure::ForNow
+}
+
+// The length at which a log of `len` bytes is replaced.
+fn longest_after(len: usize, least: usize) -> usize {
+    len.saturating_mul(2).max(least)
 }
 
 // Whether this much time has passed. It has where the clock can't be read.

@@ -44,7 +44,7 @@ pub enum RestartError {
     NoMemory,
 }
 
-/// Begins to read a store: returns its head, and what reads on behind it. Nothing is written.
+/// Begins to read a store: returns its head, and what reads on after it. Nothing is written.
 pub fn open_store<M: Media + Drop>(
     alloc: Global,
     files: JournalFiles<M>,
@@ -148,7 +148,7 @@ fn redo_all<D: Disk + Drop, M: Media, S: DiskSource<D>>(
     }
 }
 
-// Executes the records of a batch, of which the first has this number, and returns the number behind them.
+// Executes the records of a batch, of which the first has this number, and returns the number after them.
 fn redo_batch<D: Disk + Drop, S: DiskSource<D>>(
     alloc: Global,
     recovery: &mut Recovery<D>,

@@ -4,9 +4,9 @@ ghost use Rattle.ar_extents.specs.Set.{CanCount};
 ghost use Rattle.ar_history.specs.Served.{Operates};
 
 use crate::DurableArray;
-use ar_core::{Array, Outcome, UnitFlush};
-use ar_disks::{Addr, Disk};
-use ar_history::{Counts, OperableArray, Seat, ServedArray, Task, is_idle};
+use ar_core::{Allocation, Array, Outcome, UnitFlush};
+use ar_disks::{Addr, Disk, Host};
+use ar_history::{Counts, OperableArray, Seat, ServedArray, StoreStatus, Task, is_idle};
 use ar_media::Media;
 use ar_scsi::Reply;
 use bytes::Bytes;
@@ -14,7 +14,7 @@ use log::Log;
 use std::sync::ledger::Ledger;
 use std::time::Clock;
 
-impl<'a, D: Disk + Drop, L: Ledger, M: Media, R: Clock + Log> ServedArray<L>
+impl<'a, D: Disk + Drop, L: Ledger, M: Media + Drop, R: Clock + Log> ServedArray<L>
     for DurableArray<'a, D, L, M, R> {
     ghost use Rattle.std.specs.Prelude.{false, true};
     ghost use Rattle.ar_durable.specs.Store.{Lasts};
@@ -25,7 +25,7 @@ impl<'a, D: Disk + Drop, L: Ledger, M: Media, R: Clock + Log> ServedArray<L>
 
     ghost persists = { true };
 
-    ghost lasts = { λ durable. Lasts M.may_leave M.is_clean durable.store.journal durable.kept.history };
+    ghost lasts = { λ durable. Lasts M.may_leave M.is_clean durable.store durable.kept.history };
 
     fn counts(&self) -> Counts {
         DurableArray::counts(self)
@@ -39,12 +39,20 @@ impl<'a, D: Disk + Drop, L: Ledger, M: Media, R: Clock + Log> ServedArray<L>
         DurableArray::array(self).free_groups()
     }
 
+    fn allocation(&self, addr: Addr, rb: u32, most: u32) -> Allocation {
+        DurableArray::array(self).allocation(addr, rb, most)
+    }
+
     fn stored_entries(&self) -> usize {
         0
     }
 
     fn stored_room(&self) -> usize {
         0
+    }
+
+    fn store(&self) -> Option<StoreStatus> {
+        Some(DurableArray::status(self))
     }
 
     fn lend_memory(&mut self, memory: Vec<u8>) {
@@ -66,15 +74,20 @@ impl<'a, D: Disk + Drop, L: Ledger, M: Media, R: Clock + Log> ServedArray<L>
     fn work(&mut self, task: Task) -> bool {
         let outcome = DurableArray::background(self, task);
         self.commit_if_due();
+        self.checkpoint_some();
         !is_idle(&outcome)
     }
 
     fn flush_unit(&mut self, addr: Addr) -> UnitFlush {
         DurableArray::flush_unit(self, addr)
     }
+
+    fn discard(&mut self, host: Host, lun: u8, lba: u64, count: u32) -> Reply {
+        DurableArray::discard(self, host, lun, lba, count)
+    }
 }
 
-impl<'a, D: Disk + Drop, L: Ledger, M: Media, R: Clock + Log> OperableArray<L>
+impl<'a, D: Disk + Drop, L: Ledger, M: Media + Drop, R: Clock + Log> OperableArray<L>
     for DurableArray<'a, D, L, M, R> {
     type Disk = D;
 

@@ -1,9 +1,12 @@
 // A journal, and the records that wait for the next commit.
-ghost use Rattle.std.specs.Prelude.{◌≡◌, ◌++◌, ◌∷◌, [], OnOk, IfErr, IsTrue, false, true, length};
+ghost use Rattle.std.specs.Prelude.{◌≡◌, ◌≤◌, ◌++◌, ◌∷◌, [], OnOk, IfErr, IfOk, IsTrue, false, true, length};
 ghost use Rattle.ar_log.specs.Failure.{is_final};
 ghost use Rattle.ar_journal.specs.Journal.{IsReady};
-ghost use Rattle.ar_durable.specs.Store.{HasFirstBatch, KeepsRecords, MayLeave, RecordStore, Waits, is_given_up};
+ghost use Rattle.ar_checkpoint.specs.Gradual.{HasFirstBatch, IsReplaced, LeavesLogs};
+ghost use Rattle.ar_durable.specs.Store.{KeepsRecords, KeepsStoredUnits, MayLeave, RecordStore, Waits, is_given_up};
 
+use ar_checkpoint::{CheckpointError, GradualCheckpoint, make_piece};
+use ar_compaction::StoreHead;
 use ar_journal::Journal;
 use ar_log::LogError;
 use ar_media::Media;
@@ -21,19 +24,29 @@ pub struct Store<M: Media> {
     waiting: Vec<Vec<u8>>,
     // How many bytes wait.
     bytes: usize,
+    // How many commits have written records.
+    commits: u64,
+    // The checkpoint that is being made.
+    checkpoint: Option<GradualCheckpoint<M>>,
 }
 
 impl<M: Media> Model for Store<M> {
     ghost use Rattle.ar_log.specs.Codec.{items_of};
     ghost use Rattle.ar_journal.specs.Journal.{IsReady};
-    ghost use Rattle.ar_durable.specs.Store.{HasFirstBatch, RecordStore};
+    ghost use Rattle.ar_checkpoint.specs.Gradual.{GoesWithIf, HasFirstBatch, other_medium};
+    ghost use Rattle.ar_durable.specs.Store.{RecordStore};
 
     ghost Value = { RecordStore M };
 
-    ghost view = { λ store. record { journal = store.journal; waiting = items_of store.waiting.items } };
+    ghost view = { λ store. record {
+      journal = store.journal;
+      waiting = items_of store.waiting.items;
+      other = other_medium store.journal store.checkpoint;
+    } };
 
     ghost invariant = { λ store. IsReady M.seen M.may_leave M.is_clean store.journal
-        × HasFirstBatch M.seen M.is_clean store.journal };
+        × HasFirstBatch M.seen M.is_clean store.journal
+        × GoesWithIf M.seen M.may_leave M.is_clean store.journal store.checkpoint };
 }
 
 impl<M: Media> Store<M> {
@@ -41,12 +54,14 @@ impl<M: Media> Store<M> {
     pub fn new(alloc: Global, journal: Journal<M>) -> Store<M>
         requires ready { IsReady M.seen M.may_leave M.is_clean journal }
         requires head { HasFirstBatch M.seen M.is_clean journal }
-        ensures { result ≡ record { journal = journal; waiting = [] } }
+        ensures { result ≡ record { journal = journal; waiting = []; other = journal.spare } }
     {
         Store {
             journal,
             waiting: Vec::new(alloc),
             bytes: 0,
+            commits: 0,
+            checkpoint: None,
         }
     }
 
@@ -65,6 +80,21 @@ impl<M: Media> Store<M> {
     /// How many bytes wait for a commit.
     pub fn bytes(&self) -> usize {
         self.bytes
+    }
+
+    /// How many commits have written records.
+    pub fn commits(&self) -> u64 {
+        self.commits
+    }
+
+    /// The length of its log in bytes.
+    pub fn log_len(&self) -> usize {
+        self.journal.len()
+    }
+
+    /// Whether a checkpoint is being made.
+    pub fn has_checkpoint(&self) -> bool {
+        self.checkpoint.is_some()
     }
 
     /// Gives the store up: nothing is written to it any more.
@@ -105,6 +135,7 @@ impl<M: Media> Store<M> {
         ensures kept { IfErr result (λ e. is_final e ≡ false → is_given_up self.old ≡ false
             → (is_given_up self.new ≡ false) × (self.new.waiting ≡ self.old.waiting)) }
         ensures clean { M.is_clean self.new.journal.active.media ≡ M.is_clean self.old.journal.active.media }
+        ensures other { self.new.other ≡ self.old.other }
         ensures ready { IsReady M.seen M.may_leave M.is_clean self.new.journal }
         // A crash at any moment of the call leaves the records of the journal from before, with those that waited or
         // without.
@@ -116,6 +147,27 @@ impl<M: Media> Store<M> {
         self.journal.append(alloc, &self.waiting)?;
         self.waiting.clear();
         self.bytes = 0;
+        self.commits = self.commits.saturating_add(1);
         Ok(())
+    }
+}
+
+impl<M: Media + Drop> Store<M> {
+    /// Makes the next piece of a checkpoint, or begins one: a successor of the log with far fewer records that make the
+    /// same units. `head` is the store's head. Returns whether the successor has become the log.
+    ///
+    /// An error gives the checkpoint up. The log stays as it was or, where the selector can't be written, the store is
+    /// given up.
+    pub fn advance(&mut self, alloc: Global, head: &StoreHead) -> Result<bool, CheckpointError>
+        requires { length head.now.name.items ≤ 64 }
+        ensures units { KeepsStoredUnits M.seen M.is_clean self.old self.new }
+        ensures any_moment { LeavesLogs M.seen M.may_leave M.moment M.left_since M.is_clean self.old.journal
+            self.new.journal }
+        ensures replaced { IfOk result (λ done. done ≡ true
+            → IsReplaced M.seen M.may_leave M.moment M.left_since M.is_clean self.old.journal self.new.journal) }
+    {
+        let checkpoint = self.checkpoint.take();
+        self.checkpoint = make_piece(alloc, &mut self.journal, checkpoint, head)?;
+        Ok(self.checkpoint.is_none())
     }
 }

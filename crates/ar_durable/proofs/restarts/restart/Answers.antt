@@ -1,13 +1,13 @@
-use Rattle.std.proofs.Common.{◌≡◌, false, List, ℕ, IsTrue, append-nil, sym, ap, subst, ◌∙◌}
+use Rattle.std.proofs.Common.{List, [], ◌++◌, IsTrue, append-nil, refl, sym, ap, subst, ◌∙◌}
 use Rattle.ar_log.specs.Log.{batches_of}
 use Rattle.ar_journal.specs.Journal.{batches_now}
 use Rattle.ar_record.specs.Record.{RecordData}
 use Rattle.ar_record.specs.Replay.{own_of}
-use Rattle.ar_recovery.specs.Logging.{IsLogOf}
 use Rattle.ar_recovery.specs.Recovering.{IsRecovered}
 use Rattle.ar_recovery.proofs.Recovering.{recovered_is}
 use Rattle.ar_checkpoint.specs.Successor.{log_records}
-use Rattle.ar_durable.specs.Store.{RecordStore, is_given_up, stored_records}
+use Rattle.ar_durable.specs.Durable.{AreRecords}
+use Rattle.ar_durable.specs.Store.{RecordStore}
 use Rattle.ar_durable.proofs.restarts.restart.Goals as goal
 
 pub returns-in-Ok-clause-records : goal.returns-in-Ok-clause-records
@@ -16,16 +16,20 @@ returns-in-Ok-clause-records g c =
     let journal = c.in-Ok.journal in
     let history = c.in_ok-live.live.history in
     subst
-    (λ (s : RecordStore g.row.M.Denot). is_given_up s ≡ false → IsTrue (g.M.Media.is_clean s.journal.active.media)
-    → IsLogOf (stored_records seen s) history)
+    (λ (s : RecordStore g.row.M.Denot). AreRecords seen g.M.Media.is_clean s history)
     (sym c.new.ensures)
-    (λ going clean.
+    (λ going all.
+    let clean = all.active in
     let replayed = c.in_ok-live.ensures.replayed (c.in-Ok.ensures.clean clean) in
     let same = c.in-Ok.ensures.batches clean ∙ ap batches_of c.in_ok-live.ensures.reads.active.same in
     record {
-      own = λ a.
-          ap (λ (l : List RecordData). own_of a l) (append-nil (log_records (batches_now seen journal)) ∙ ap log_records same)
-          ∙ sym (replayed.redone.own a);
+      full = log_records (batches_now seen journal) ++ [];
+      log = record {
+        own = λ a.
+            ap (λ (l : List RecordData). own_of a l) (append-nil (log_records (batches_now seen journal)) ∙ ap log_records same)
+            ∙ sym (replayed.redone.own a);
+      };
+      same = λ a. refl;
     })
 
 pub returns-in-Ok-clause-units : goal.returns-in-Ok-clause-units
