@@ -175,7 +175,7 @@ module _ (text : List ℕ) (end : ℕ) (at : end ≡ position_or_len is_space te
   space_at : end < length text → get_or text end 0 ≡ 32
   space_at inside = ap (λ n. get_or text n 0) at ∙ eqb-true _ _ (passes_at_first is_space text 0 (omega (arith, at)))
 
-  -- it may be cut there, and behind a space
+  -- it may be cut there, and after a space
   pub cut_at : IsCharBoundary text end
   cut_at = (not_behind, λ inside wide. absurd (omega (arith, space_at inside)))
 

@@ -25,13 +25,13 @@ use Rattle.ar_language.specs.Left.{bytes_read, lines_begun, lines_left, IsBegunB
 use Rattle.ar_language.specs.Left.{IsLineRefused, GoesOn}
 use Rattle.ar_language.proofs.Parting.{lines_in-ended, lines_in-last, some_line, printable_has_no_end}
 
--- what comes behind the bytes that were read: nothing, where the end was met
+-- what comes after the bytes that were read: nothing, where the end was met
 abbrev behind : Bool → Bool → Option (List ℕ) → Option (List ℕ)
 behind at_end true inner = None
 behind true false inner = option_map (λ bytes. []) inner
 behind false false inner = inner
 
--- the lines that are left are those of what was read and of what comes behind it
+-- the lines that are left are those of what was read and of what comes after it
 left_is : (at_end no_room : Bool) (front buffered : List ℕ) (inner : Option (List ℕ))
     → lines_of (prepend_known front (bytes_left at_end buffered (cond no_room None (prepend_known buffered inner))))
     ≡ lines_of (prepend_known (front ++ buffered) (behind at_end no_room inner))
@@ -52,7 +52,7 @@ left_of {reads = reads} lines =
     left_is lines.is_at_end (reader_capacity lines.source == 0) _ (reader_buffer lines.source)
     (reads.remaining (reader_inner lines.source))
 
--- where nothing was asked, the same comes behind what was read
+-- where nothing was asked, the same comes after what was read
 beyond_stays : {R : Type 0} {reads : Ghosts R} (old new : Lines R reads) → IsUnasked old.source new.source
     → new.is_at_end ≡ old.is_at_end → beyond new ≡ beyond old
 beyond_stays {reads = reads} old new unasked ended =
@@ -155,7 +155,7 @@ kept_lines old new unasked ended same =
 
 -- ---- what the call comes to
 
--- none is left behind the end of the input, where all that was read is given
+-- none is left after the end of the input, where all that was read is given
 none_from : (no_room : Bool) (inner : Option (List ℕ))
     → IsAllTaken (lines_of (prepend_known [] (behind true no_room inner)))
 none_from true inner = tt
@@ -328,7 +328,7 @@ grows front (x ∷ xs) later rest n few some same none =
     ∙ length-append front (x ∷ xs) in
     omega arith
 
--- behind what was taken of a line, bytes that have no fault end none
+-- after what was taken of a line, bytes that have no fault end none
 right : (a b : Bool) → (a && b) ≡ true → b ≡ true
 right true b h = h
 right false b h = absurd (cc)
@@ -365,7 +365,7 @@ no_fault_there (x ∷ xs) kind whole is =
     let no = sym (is []) ∙ ap (λ l. line_fault (first_of l)) one ∙ sound_line line whole in
     cc
 
--- behind a million lines nothing of one is read that isn't refused
+-- after a million lines nothing of one is read that isn't refused
 pub none_behind : {R : Type 0} {reads : Ghosts R} (old new : Lines R reads) → old.given ≡ 1000000 → bytes_read old ≢ []
     → new.given ≡ old.given
     → bytes_read new ≡ bytes_read old → reader_buffer new.source ≡ [] → ⊥
@@ -412,7 +412,7 @@ begun_there lines begun = at lines.is_begun refl
         subst (λ l. AreThere l 1) (sym (left_of lines)) (some_there (bytes_read lines) (beyond lines) (begun.some is))
     at false is = none_there (lines_left lines)
 
--- behind lines that were taken
+-- after lines that were taken
 pub there_behind : (script left : Option (List (List ℕ))) (lines : List (List ℕ)) (n : ℕ) → Took script left lines
     → AreThere left n → AreThere script (length lines + n)
 there_behind None left lines n took there = tt

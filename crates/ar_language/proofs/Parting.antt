@@ -83,7 +83,7 @@ passed (x ∷ xs) = at (is_printable x) refl (passed xs)
         ∙ more
     at false is more = refl
 
--- the printable characters at the front, and what a look at the place behind them finds
+-- the printable characters at the front, and what a look at the place after them finds
 pub parted : (bytes : List ℕ) (len : ℕ) (found : Option (Bor ℕ)) → len ≡ prefix_len is_printable bytes
     → is_some found ≡ ltb len (length bytes)
     → IfSome found (λ byte. byte.now ≡ get_or bytes len byte.now) → IsPart bytes (take len bytes) (option_copied found)
@@ -102,7 +102,7 @@ parted bytes len (Some byte) front some same =
           ∙ ap (λ x. take len bytes ++ x ∷ []) (sym same),
     )
 
--- ---- what is wrong with a part and the byte behind it
+-- ---- what is wrong with a part and the byte after it
 
 not_shown : (part : List ℕ) (next : ℕ) → is_printable next ≡ false → list_all is_printable (part ++ next ∷ []) ≡ false
 not_shown part next hidden =
@@ -130,7 +130,7 @@ long_part room part behind shown full over =
     both true b h = refl
     both false b h = absurd (cc)
 
--- a bad character is told while it has room, and else that the line is too long
+-- a bad character is reported while it has room, and else that the line is too long
 pub bad_part : (room : ℕ) (part : List ℕ) (next : Option ℕ) → list_all is_printable part ≡ true
     → IfSome next (λ byte. is_printable byte ≡ false)
     → is_bad_next next ≡ true → part_fault room (with_bad part next)
@@ -157,7 +157,7 @@ bad_part room part (Some next) shown hidden bad = known (eqb next 10) bad
     known true h = absurd (cc)
     known false h = told (ltb (length part) room) refl
 
--- where there is none, the length is told
+-- where there is none, the length is reported
 pub too_long : (room : ℕ) (part : List ℕ) (next : Option ℕ) → list_all is_printable part ≡ true
     → is_bad_next next ≡ false → room < length part
     → part_fault room (with_bad part next) ≡ Some LineTooLong
@@ -191,7 +191,7 @@ hidden_within bytes = prefix_len-le-length _ bytes
 
 -- ---- a part of a line
 
--- a part and the end behind it leave the rest
+-- a part and the end after it leave the rest
 pub part_taken : (line buffered part rest : List ℕ) (next : Option ℕ) → IsPart buffered part next
     → IfSome next (λ byte. byte ≡ 10)
     → rest ≡ drop (length part + cond (is_some next) 1 0) buffered
@@ -203,7 +203,7 @@ part_taken line buffered part rest (Some next) parts ends is =
     ∙ sym (append_assoc line part (10 ∷ after)) ∙ ap (λ l. (line ++ part) ++ 10 ∷ l) (sym is)
 part_taken line buffered part rest None parts ends is = ap (λ l. line ++ l) parts.1 ∙ sym (append-nil (line ++ part))
 
--- and nothing, where no byte is behind it
+-- and nothing, where no byte is after it
 pub part_drained : (buffered part rest : List ℕ) (next : Option ℕ) → IsPart buffered part next
     → rest ≡ drop (length part + cond (is_some next) 1 0) buffered
     → is_some next ≡ false → rest ≡ []

@@ -1,4 +1,4 @@
--- No order has more than seven words, so that those behind the eighth count for nothing.
+-- No order has more than seven words, so that those after the eighth count for nothing.
 use Rattle.std.proofs.Common.{◌≡◌, ◌∙◌, ◌≤◌, ◌++◌, ◌==◌, ◌≢◌, ℕ, Bool, true, false, List, [], ◌∷◌, length, map, take}
 use Rattle.std.proofs.Common.{drop, codes, bytes_eq, Option, Result, Ok, Err, MatchBool, refl, sym, ap, subst}
 use Rattle.std.proofs.Common.{append-nil, length-append, inl, inr, take-append-drop, None, ◌||◌, arith}
@@ -147,7 +147,7 @@ read_more (name ∷ words) (m ∷ more) result full reads =
       reads.2,
     )
 
--- whether a word is empty is told from its text
+-- whether a word is empty follows from its text
 any_empty : (words : Words) → list_any (λ text. length text.now == 0) words
     ≡ list_any (λ text. length text == 0) (map (λ text. text.now) words)
 any_empty [] = refl

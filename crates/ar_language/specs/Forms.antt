@@ -142,7 +142,7 @@ pub record HasSectorsAndByte (Lba : List ℕ → Type 0) (words : Words) : Type 
   pub sectors : IsNumberOf 16 (word words 3)
   pub filled : IsBytePair (word words 4)
 
--- `write H L LBA COUNT BYTE` and `write16 H L LBA COUNT BYTE`, with `fua` behind them or without, by the blocks of
+-- `write H L LBA COUNT BYTE` and `write16 H L LBA COUNT BYTE`, with `fua` after them or without, by the blocks of
 -- WRITE (10) and of WRITE (16)
 abbrev pub AsksWrite : (ℕ → ℕ → Bool → List ℕ) → Words → Order → Type 0
 AsksWrite block words order =

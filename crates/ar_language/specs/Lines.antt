@@ -16,7 +16,7 @@ abbrev pub with_byte : ℕ → List (List ℕ) → List (List ℕ)
 with_byte byte [] = (byte ∷ []) ∷ []
 with_byte byte (line ∷ lines) = (byte ∷ line) ∷ lines
 
--- The lines of a text: what is before each of its line feeds (10), and what is behind the last of them, if anything.
+-- The lines of a text: what is before each of its line feeds (10), and what is after the last of them, if anything.
 abbrev pub lines_in : List ℕ → List (List ℕ)
 lines_in [] = []
 lines_in (byte ∷ bytes) = if byte == 10 then [] ∷ lines_in bytes else with_byte byte (lines_in bytes)
@@ -76,7 +76,7 @@ abbrev pub is_bad_next : Option ℕ → Bool
 is_bad_next None = false
 is_bad_next (Some next) = not (next == 10)
 
--- a part, and the byte behind it unless that is a line feed
+-- a part, and the byte after it unless that is a line feed
 abbrev pub with_bad : List ℕ → Option ℕ → List ℕ
 with_bad part None = part
 with_bad part (Some next) = if next == 10 then part else part ++ next ∷ []
@@ -122,7 +122,7 @@ abbrev pub is_lacking : Result Bool Fault → Bool
 is_lacking (Ok more) = not more
 is_lacking (Err fault) = false
 
--- the reader behind a buffer wasn't accessed
+-- the reader after a buffer wasn't accessed
 pub record IsUnasked {R A : Type 0} (old new : BufReader R A) : Type 0 where
   pub inner : reader_inner new ≡ reader_inner old
   pub capacity : reader_capacity new ≡ reader_capacity old

@@ -125,7 +125,7 @@ impl<R: Read + Drop> Lines<R> {
         Ok(())
     }
 
-    // Ends the line that was begun, if its end was met: a line feed, or the end of the input behind at least one byte.
+    // Ends the line that was begun, if its end was met: a line feed, or the end of the input after at least one byte.
     fn close(&mut self, has_end: bool) -> bool
         requires { self.old.is_begun ≡ true }
         ensures same { (self.new.source ≡ self.old.source) × (self.new.line.items ≡ self.old.line.items)
@@ -207,7 +207,7 @@ fn take_part<R: Read + Drop>(
     Ok(has_end)
 }
 
-// The printable characters at the front of what was read, and the byte behind them, if there is one.
+// The printable characters at the front of what was read, and the byte after them, if there is one.
 fn part_of(bytes: &[u8]) -> (&[u8], Option<u8>)
     ensures parts { IsPart bytes.now result.0.now result.1 }
     ensures room { length result.0.now + (if is_some result.1 then 1 else 0) ≤ length bytes.now }
@@ -226,7 +226,7 @@ fn printable_len(bytes: &[u8]) -> usize
         .unwrap_or(bytes.len())
 }
 
-// Appends printable characters to a line. The byte behind them, if one was read, has to be a line feed.
+// Appends printable characters to a line. The byte after them, if one was read, has to be a line feed.
 fn add_part(line: &mut Vec<u8>, part: &[u8], next: Option<u8>) -> Result<(), FaultKind>
     requires whole { IsLine line.old.items }
     requires room { 4096 ≤ vec_capacity line.old }

@@ -110,13 +110,13 @@ cell_svg scale place style = codes "<rect class='" ++ (style ++ (codes "' x='" +
     ++ (codes "' y='" ++ (decimal (top_at scale place.extent) ++ (codes "' width='" ++ (decimal 80
     ++ (codes "' height='" ++ (decimal scale.height ++ codes "'/>\n")))))))))
 
--- in a bar `count` blocks in a unit's colour, behind `from` blocks of other units: a slot is 1 wide
+-- in a bar `count` blocks in a unit's colour, after `from` blocks of other units: a slot is 1 wide
 abbrev pub piece_svg : ℕ → ℕ → List ℕ → List ℕ
 piece_svg from count colour =
     if count == 0 then [] else codes "<rect x='" ++ (decimal from ++ (codes "' width='" ++ (decimal count
     ++ (codes "' height='1' fill='" ++ (colour ++ codes "'/>")))))
 
--- given how many blocks there are of each unit, those of the unit with this index, behind those of the units before it
+-- given how many blocks there are of each unit, those of the unit with this index, after those of the units before it
 abbrev pub piece_at : List ℕ → ℕ → List ℕ
 piece_at blocks index = piece_svg (sum (take index blocks)) (slice_index blocks index) (colour_at index)
 

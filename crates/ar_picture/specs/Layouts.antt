@@ -42,7 +42,7 @@ left_at disk = 64 + 92 * disk
 abbrev pub top_at : Scale → ℕ → ℕ
 top_at scale extent = 124 + scale.pitch * extent
 
--- the left side of the legend, behind the columns of `disks` disks
+-- the left side of the legend, after the columns of `disks` disks
 abbrev pub legend_at : ℕ → ℕ
 legend_at disks = 84 + 92 * disks
 

@@ -155,7 +155,7 @@ fn write_pieces<W: Write>(out: &mut W, blocks: &[u32; UNITS_MAX]) -> io::Result<
     Ok(())
 }
 
-// Writes `count` blocks of a unit behind `from` others, in its colour.
+// Writes `count` blocks of a unit after `from` others, in its colour.
 fn write_piece<W: Write>(out: &mut W, from: u64, count: u32, colour: &str) -> io::Result<()>
     ensures text { OnOk result (Appends (W.contents out.old) (W.contents out.new) (piece_svg from count colour.now)) }
 {

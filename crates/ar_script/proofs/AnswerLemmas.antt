@@ -1,4 +1,4 @@
--- What an order and a line leave, once what was answered is told.
+-- What an order and a line leave, once what was answered is given.
 use Rattle.std.proofs.Common.{◌≡◌, ◌≢◌, ◌∙◌, inl, inr, ℕ, List, sym, subst, refl, ap, IsErr, Option, Some, Result, Ok}
 use Rattle.std.proofs.Common.{Err, IfErr, OnOk}
 use Rattle.ar_volume.specs.Image.{ArrayState}

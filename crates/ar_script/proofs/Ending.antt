@@ -54,7 +54,7 @@ taken_all (Some all) None lines took none = absurd took
 taken_all (Some all) (Some left) lines took none =
     sym (took ∙ ap (λ (l : List (List ℕ)). lines ++ l) none ∙ append-nil lines)
 
--- ---- what is told
+-- ---- what is reported
 
 first_at : (lines : List (List ℕ)) → get_or lines 0 [] ≡ first_of lines
 first_at [] = refl
@@ -101,7 +101,7 @@ so_next (Some all) (Some left) lines n kind took count many told =
     too_many some is = let more = some_more lines left n count some in let same =
         ap (λ (l : List (List ℕ)). length l) took in omega arith
 
--- what is told of the next line, where that was taken
+-- what is reported of the next line, where that was taken
 so_taken : (script left rest : Option (List (List ℕ))) (lines : List (List ℕ)) (line : List ℕ) (n : ℕ)
     (kind : FaultKind) → Took script left lines → length lines ≡ n
     → Took left rest (line ∷ []) → NeedsMemory line × (kind ≡ NoMemory) ⊎ SaysWrong line kind → IsSo script (n + 1) kind
@@ -188,7 +188,7 @@ writes_ended script left rest old new n before far after written kept next none 
       appends = appends_kept before far after done.text written.appends kept;
     }
 
--- where no write fault is told, none was met
+-- where no write fault is reported, none was met
 not_output : (kind : FaultKind) (n : ℕ) (fault : Fault) → fault ≡ Line n kind
     → is_write_fault {T = Unit {0}} (Err fault) ≡ false → kind ≢ WriteFault
 not_output kind n fault is told write =
@@ -326,7 +326,7 @@ plays_ended script left rest old new n begun done next none few most within =
 abbrev IsNear : List (List ℕ) → ℕ → FaultKind → Type 0
 IsNear met m kind = (m ≡ length met + 1) ⊎ ((m ≡ length met) × IsLostAt (line_at met m) kind)
 
--- at a fault that is told of the line after the last that was met, or of that one
+-- at a fault that is reported of the line after the last that was met, or of that one
 pub plays_stopped : (script left : Option (List (List ℕ))) (old new : ArrayState) (n begun m : ℕ) (kind : FaultKind)
     (fault : Fault)
     → (done : PlaysAll script left old new n) → fault ≡ Line m kind → IsNear done.lines m kind → IsSo script m kind
@@ -347,7 +347,7 @@ plays_stopped script left old new n begun m kind fault done is after so few most
       most = (let all = done.all in omega arith);
     })
 
--- that answers couldn't be written is told of the last line that was met, or of the next
+-- that answers couldn't be written is reported of the last line that was met, or of the next
 begun_near : (n begun : ℕ) → n ≤ begun → begun ≤ n + 1 → (max begun 1 ≡ n + 1) ⊎ (max begun 1 ≡ n)
 begun_near zero begun few most = inl (omega arith)
 begun_near (suc n) begun few most = at (begun - suc n) refl
@@ -464,7 +464,7 @@ pub begun_as : (old new : ℕ) (begun : Bool) → new ≡ old + 1 → begun ≡ 
 begun_as old new true count closed = absurd (cc)
 begun_as old new false count closed = omega arith
 
--- ---- which line is told
+-- ---- which line is reported
 
 -- of what was reached: a line that was begun is there
 there_reached : (lines : List (List ℕ)) (begun n : ℕ) (kind : FaultKind) → begun ≤ length lines
@@ -530,7 +530,7 @@ there_given (Some all) left new old mid n line done took =
     subst (λ k. AreThere (Some all) k) (add-zero (length (done.lines ++ line ∷ [])) ∙ len)
     (there_behind (Some all) new (done.lines ++ line ∷ []) 0 taken (none_there new))
 
--- ---- why it is told
+-- ---- why it is reported
 
 -- the next line couldn't be gone on to
 pub told_next : {R : Type 0} {reads : Ghosts R} (lines : Lines R reads) (result : Result (Unit {0}) Fault)

@@ -104,7 +104,7 @@ written_more bytes rest next place count old mid new before some few equal longe
       left = shorter;
     }
 
--- the bytes behind a run
+-- the bytes after a run
 pub behind : (rest : List ℕ) (count : ℕ) → take (length rest - count) (drop count rest) ≡ drop count rest
 behind rest count = take_all (length rest - count) (drop count rest) (omega (arith, length-drop count rest))
 

@@ -64,7 +64,7 @@ taken_text (Err refused) = done_text (Err refused.0)
 abbrev pub hex_byte : ℕ → List ℕ
 hex_byte byte = digit_glyph true (byte / 16) ∷ digit_glyph true (byte % 16) ∷ []
 
--- runs, each by its length and its byte, behind one more byte, which extends the first run if that is of its value
+-- runs, each by its length and its byte, after one more byte, which extends the first run if that is of its value
 abbrev pub onto_runs : ℕ → List (ℕ × ℕ) → List (ℕ × ℕ)
 onto_runs byte [] = (1, byte) ∷ []
 onto_runs byte (run ∷ runs) = if byte == run.1 then (suc run.0, byte) ∷ runs else (1, byte) ∷ run ∷ runs

@@ -162,7 +162,7 @@ fn answer_all<R: Read + Drop, W: Write + Drop>(
     ensures ended { OnOk result (lines.new.is_at_end ≡ true) }
     ensures reached { IfErr result (IsReached (lines_begun lines.new)) }
     ensures told { IfErr result (IsToldOf lines.new) }
-    // Unless a write fault is reported, all answers are written, in order, behind what the writer had: to all lines, or
+    // Unless a write fault is reported, all answers are written, in order, after what the writer had: to all lines, or
     // to those before the fault.
     ensures written { tells_write_fault result ≡ false → writer_buffer out.new ≡ [] }
     ensures grows { AnswersScript (lines_left lines.old) result runner.old runner.new

@@ -3,7 +3,7 @@ use Rattle.std.proofs.Common.{refl, sym, ap, get_or-take, get_or-drop, length-ta
 use Rattle.std.proofs.lemmas.Bool.{ltb-true, ltb-false}
 use Rattle.ar_script.proofs.runs.far_len.Goals as goal
 
--- the bytes at the front and those behind them
+-- the bytes at the front and those after them
 joined : (bytes : List ℕ) (byte front more room : ℕ) → ((k : ℕ) → k < front → get_or bytes k 0 ≡ byte) → more ≤ room
     → ((k : ℕ) → k < more → get_or (take room (drop front bytes)) k 0 ≡ byte) → (k : ℕ) → k < front + more
     → get_or bytes k 0 ≡ byte

@@ -1,4 +1,4 @@
--- It is told whether the bytes so far are this one.
+-- Whether the bytes so far are this one.
 use Rattle.std.proofs.Common.{◌≡◌, ◌<◌, ◌↔◌, ℕ, IsTrue, get_or}
 use Rattle.ar_script.proofs.runs.is_all_of.Given as goal
 
