@@ -27,7 +27,7 @@ split (x ∷ xs) b (y ∷ ys) d len e =
     let front : xs ≡ ys = rest.0 in
     (cc, rest.1)
 
--- the same with more behind the first
+-- the same with more after the first
 split_more : (a b c d more : List ℕ) → length a ≡ length c → (a ++ b) ++ more ≡ c ++ d → (a ≡ c) × (b ++ more ≡ d)
 split_more a b c d more len e = split a (b ++ more) c d len (sym (append_assoc a b more) ∙ e)
 

@@ -286,7 +286,7 @@ pub steps_stopped : {P O : Type 0} (commands : Commands P) (announces : Announce
 steps_stopped commands announces reports host count end first between last stepped step =
     record { count = count; between = between; answered = stepped; finish = stopped end step }
 
--- a login behind which the reader's limit was lifted
+-- a login after which the reader's limit was lifted
 pub admitted_at : {P : Type 0} (host : Host) (logins : Logins P) (s0 s1 s2 : SourceState) (w0 w1 : SinkState)
     (p0 p1 : P)
     → s2 ≡ s1 → IsAdmitted host logins s0 s1 w0 w1 p0 p1 → IsAdmitted host logins s0 s2 w0 w1 p0 p1

@@ -1,4 +1,4 @@
--- One step of a session: a frame is read, executed at the port, and its reply written, before and behind an observer.
+-- One step of a session: a frame is read, executed at the port, and its reply written, before and after an observer.
 use Rattle.std.specs.Prelude.{◌≡◌, ◌⊎◌, ◌<◌, ◌≤◌, ◌+◌, max, ℕ, zero, suc, false, List, [], ◌++◌, length, take}
 use Rattle.ar_disks.specs.declared.address.Host.{Host}
 use Rattle.ar_scsi.specs.declared.reply.Reply.{Reply}
@@ -201,7 +201,7 @@ pub record RunsInSteps {P O : Type 0} (commands : Commands P) (announces : Annou
   pub answered : HasStepped commands announces reports host count first between
   pub finish : Finishes commands announces reports host count between last end
 
--- A host's session behind its login, step by step, from the observer that it was given to the one that it left. No
+-- A host's session after its login, step by step, from the observer that it was given to the one that it left. No
 -- command is counted before the first step, so that they have the numbers 1, 2, 3 ..
 pub record RunsObserved {P O : Type 0} (commands : Commands P) (announces : Announces O) (reports : Reports O)
     (host : Host) (source source' : SourceState) (sink sink' : SinkState) (port port' : P) (observer observer' : O)

@@ -61,7 +61,7 @@ pub record IsAdmitted {P : Type 0} (host : Host) (logins : Logins P) (source sou
   pub read : Reading source source' login false
   pub written : Writing sink sink' (0x00 ∷ []) false
 
--- An observed session: the login of a host was accepted, and behind it each command was announced with its number, the
+-- An observed session: the login of a host was accepted, and after it each command was announced with its number, the
 -- first one with 1, before it was executed, and reported with it once its reply was written or its write had faulted.
 pub record IsObserved {P O : Type 0} (logins : Logins P) (commands : Commands P) (announces : Announces O)
     (reports : Reports O) (source source' : SourceState) (sink sink' : SinkState) (port port' : P)

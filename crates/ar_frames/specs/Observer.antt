@@ -9,7 +9,7 @@ use Rattle.ar_frames.specs.declared.frame.Request.{Request}
 abbrev pub Announces : Type 0 → Type 1
 Announces O = O → Host → ℕ → Request → O → Type 0
 
--- what the call behind a reply does: the observer before, the host, the command's number, how far the reply was
+-- what the call after a reply does: the observer before, the host, the command's number, how far the reply was
 -- written, the observer after
 abbrev pub Reports : Type 0 → Type 1
 Reports O = O → Host → ℕ → Sent → O → Type 0

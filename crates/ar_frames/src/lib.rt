@@ -16,6 +16,7 @@ mod login;
 mod memory;
 mod observer;
 mod port;
+mod progress;
 mod receive;
 mod reply;
 mod session;
@@ -30,6 +31,7 @@ pub use login::LOGIN_NAME;
 pub use memory::{MemSink, MemSource};
 pub use observer::{Gate, NoGate, Observer};
 pub use port::{Login, Port};
+pub use progress::{Progress, SessionCount, Stage};
 pub use session::{MOST_FRAMES, serve_gated, serve_observed, serve_session};
 pub use stream::{Sink, Source};
 

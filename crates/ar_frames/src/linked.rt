@@ -5,11 +5,11 @@ ghost use Rattle.std.specs.Io.KnownBytes.{IsAtEnd, WriteAppends};
 ghost use Rattle.ar_disks.specs.Disk.{counted};
 ghost use Rattle.ar_frames.specs.Stream.{Reading, Writing, moved};
 
+use crate::progress::Progress;
 use crate::stream::{Sink, Source};
 use std::io::{self, ErrorKind, IoSlice, Read, Write};
 use std::net::TcpStream;
 use std::sync::Arc;
-use std::sync::atomic::{AtomicBool, Ordering};
 
 /// A std writer that takes two pieces by one call.
 pub trait PairWrite: Write {
@@ -39,8 +39,8 @@ impl PairWrite for &TcpStream {
 #[derive(Drop)]
 pub struct Linked<S> {
     stream: S,
-    // Set once the login is accepted, if the time of the login is limited.
-    has_login: Option<Arc<AtomicBool>>,
+    // How far the session has come, if its time is limited by that.
+    progress: Option<Arc<Progress>>,
     read_faults: u64,
     write_faults: u64,
 }
@@ -56,21 +56,20 @@ impl<S> Linked<S> {
     {
         Linked {
             stream,
-            has_login: None,
+            progress: None,
             read_faults: 0,
             write_faults: 0,
         }
     }
 
-    /// A source over a stream that limits the time of its session's login until `has_login` is set: it is set once the
-    /// login is accepted.
-    pub fn with_login(stream: S, has_login: Arc<AtomicBool>) -> Linked<S>
+    /// A source over a stream that limits the time of its session by how far it has come, which is noted there.
+    pub fn with_progress(stream: S, progress: Arc<Progress>) -> Linked<S>
         ensures stream { result.stream ≡ stream }
         ensures sound { (result.read_faults ≡ 0) × (result.write_faults ≡ 0) }
     {
         Linked {
             stream,
-            has_login: Some(has_login),
+            progress: Some(progress),
             read_faults: 0,
             write_faults: 0,
         }
@@ -84,10 +83,17 @@ impl<S> Linked<S> {
         stream
     }
 
-    // Sets the flag of an accepted login, if there is one.
+    // Notes an accepted login.
     fn note_login(&self) {
-        if let Some(has_login) = &self.has_login {
-            has_login.store(true, Ordering::SeqCst);
+        if let Some(progress) = &self.progress {
+            progress.note_entry();
+        }
+    }
+
+    // Notes a session for discovery.
+    fn note_discovery(&self) {
+        if let Some(progress) = &self.progress {
+            progress.note_discovery();
         }
     }
 
@@ -140,6 +146,12 @@ impl<R: Read> Source for Linked<R> {
         ensures { self.new ≡ self.old }
     {
         self.note_login();
+    }
+
+    fn limit_discovery(&mut self)
+        ensures { self.new ≡ self.old }
+    {
+        self.note_discovery();
     }
 }
 

@@ -1,4 +1,4 @@
-// The login of a session. The port is given commands only behind a login that it has accepted.
+// The login of a session. The port is given commands only after a login that it has accepted.
 //
 //     login  | 'ARAIDHO1':8 | host:1 |  ->  reply  | 00 accepted, 01 refused |
 ghost use Rattle.std.specs.Prelude.{◌≡◌, ◌↔◌, ◌<◌, IsTrue, take, ◌∷◌, [], false, true};

@@ -15,7 +15,7 @@ pub trait Observer {
     /// number, the request, the observer after.
     ghost announces: { Announces Self };
 
-    /// What the call behind a reply does, as the observer specifies it: the observer before, the host, the command's
+    /// What the call after a reply does, as the observer specifies it: the observer before, the host, the command's
     /// number, how far the reply was written, the observer after.
     ghost reports: { Reports Self };
 

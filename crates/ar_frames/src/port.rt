@@ -1,4 +1,4 @@
-// The interface from a session to the array. A port executes one host's commands, and only behind an accepted login.
+// The interface from a session to the array. A port executes one host's commands, and only after an accepted login.
 ghost use Rattle.std.specs.Prelude.{◌≡◌, ◌<◌, ◌↔◌, ℕ, Bool, true, false, List};
 ghost use Rattle.ar_scsi.specs.declared.reply.Reply.{Reply};
 ghost use Rattle.ar_frames.specs.Frame.{IsReply};

@@ -52,7 +52,7 @@ pub fn serve_gated<R: Source, W: Sink, P: Port, G: Gate>(
 }
 
 /// Runs one session as `serve_session` does, and calls `observer` before each command that is given to the port and
-/// behind its reply, with the number that the command has in the session, from 1.
+/// after its reply, with the number that the command has in the session, from 1.
 pub fn serve_observed<R: Source, W: Sink, P: Port, O: Observer>(
     alloc: Global,
     reader: &mut R,

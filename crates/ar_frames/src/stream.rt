@@ -23,6 +23,11 @@ pub trait Source {
     fn lift_login_limit(&mut self)
         ensures { state self.new ≡ state self.old }
     {}
+
+    /// Limits the time of the whole session, if the stream limits that of its login: it is one for discovery.
+    fn limit_discovery(&mut self)
+        ensures { state self.new ≡ state self.old }
+    {}
 }
 
 /// A stream of bytes to write to.

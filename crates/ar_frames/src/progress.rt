@@ -1,0 +1,97 @@
+// How far the session of a connection has come. The session notes it, and its streams and its door look at it: so that
+// one that doesn't log in is not waited for without end, and isn't counted.
+use std::net::{Shutdown, TcpStream};
+use std::sync::Arc;
+use std::sync::atomic::{AtomicU64, Ordering};
+
+/// A stage of a session.
+#[derive(Clone, Copy, Debug, PartialEq, Eq)]
+pub enum Stage {
+    /// No login was accepted, and no request has come whole.
+    Silent,
+    /// One for discovery was.
+    Discovery,
+    /// A login was accepted, or a request has come.
+    Entered,
+}
+
+// The stages as numbers.
+const SILENT: u64 = 0;
+
+const DISCOVERY: u64 = 1;
+
+const ENTERED: u64 = 2;
+
+/// Counts the sessions of a door up to its last one, which closes it.
+#[derive(Drop)]
+pub struct SessionCount {
+    entered: AtomicU64,
+    most: u64,
+    // The socket at which the door listens.
+    socket: TcpStream,
+}
+
+/// The stage of a connection's session.
+#[derive(Drop)]
+pub struct Progress {
+    stage: AtomicU64,
+    count: Option<Arc<SessionCount>>,
+}
+
+impl SessionCount {
+    /// No session of `most`, at the door that listens at this socket.
+    pub fn new(most: u64, socket: TcpStream) -> SessionCount {
+        SessionCount {
+            entered: AtomicU64::new(0),
+            most,
+            socket,
+        }
+    }
+
+    /// Whether the last session has entered.
+    pub fn is_complete(&self) -> bool {
+        self.entered.load(Ordering::SeqCst) >= self.most
+    }
+
+    // Counts a session. With the last one, no more connection is accepted, and the wait for one ends.
+    fn count(&self) {
+        let others = self.entered.fetch_add(1, Ordering::SeqCst);
+        if others.saturating_add(1) >= self.most {
+            let _closed = self.socket.shutdown(Shutdown::Both);
+        }
+    }
+}
+
+impl Progress {
+    /// That of a connection that was opened now, which may be counted.
+    pub fn new(count: Option<Arc<SessionCount>>) -> Progress {
+        Progress {
+            stage: AtomicU64::new(SILENT),
+            count,
+        }
+    }
+
+    /// The stage.
+    pub fn stage(&self) -> Stage {
+        match self.stage.load(Ordering::SeqCst) {
+            SILENT => Stage::Silent,
+            DISCOVERY => Stage::Discovery,
+            _ => Stage::Entered,
+        }
+    }
+
+    /// Notes that the session is one for discovery.
+    pub fn note_discovery(&self) {
+        self.stage.store(DISCOVERY, Ordering::SeqCst);
+    }
+
+    /// Notes that the login was accepted, or that a request has come. It counts once.
+    pub fn note_entry(&self) {
+        let former = self.stage.swap(ENTERED, Ordering::SeqCst);
+        if let Some(count) = &self.count {
+            if former != ENTERED {
+                count.count();
+            }
+        }
+    }
+}
