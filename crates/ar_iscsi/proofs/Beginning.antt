@@ -101,7 +101,7 @@ login_from logins source sink so_far text port reason new first none runs =
     }) reason new)
     first runs)
 
--- a full feature phase behind a login whose reader's limit was lifted
+-- a full feature phase after a login whose reader's limit was lifted
 pub feature_behind : {P : Type 0} (commands : Commands P) (resets : UnitResets P) (address : List ℕ)
     (state : LoginState)
     (s0 s1 s2 : SourceState) (w0 w1 : SinkState) (p0 p1 : P) (reason : FeatureEnd)

@@ -9,7 +9,7 @@ use Rattle.ar_iscsi.specs.declared.response.TargetPdu.TheVariants as pdu
 use Rattle.ar_iscsi.specs.Pdu.{IsPdu, header_word, ahs_len, segment_len, padding_len}
 use Rattle.ar_iscsi.specs.Response.{header_of, header_by, padding, bytes_of_words, ResponsesArePdus}
 
--- a header of these bytes and words, behind the length of the data
+-- a header of these bytes and words, after the length of the data
 header_len : (a b c d len : ℕ) (lun : Lun) (tag fifth : ℕ) (numbers : SequenceNumbers) (ninth tenth last : ℕ)
     → length (header_by (a ∷ b ∷ c ∷ d ∷ []) len lun tag fifth numbers ninth tenth last) ≡ 48
 unfolding header_of

@@ -1,4 +1,4 @@
--- A text item by item: the first one ends at the first zero byte, and the last one is what no zero byte is behind.
+-- A text item by item: the first one ends at the first zero byte, and the last one is what no zero byte is after.
 use Rattle.std.proofs.Common.{◌≡◌, ◌∙◌, ℕ, ◌+◌, ◌<◌, ◌≤◌, Bool, true, false, cond, ltb, List, [], ◌∷◌, ◌++◌, refl, sym}
 use Rattle.std.proofs.Common.{ap, append-nil, append_assoc, length, take, drop, arith, Option, Some, None, unwrap_or}
 use Rattle.std.specs.Prelude.{◌==◌, ◌||◌, bytes_eq}

@@ -3,7 +3,7 @@ use Rattle.std.proofs.Common.{◌≡◌, ℕ, List, [], ◌++◌, append-nil, sy
 use Rattle.ar_frames.proofs.Frames.{split}
 use Rattle.ar_iscsi.specs.Pdu.{IsPdu, NoPduBeginsAnother, ahs_len, segment_len, padding_len}
 
--- the parts of two lists that are put together of parts of one length, with more behind the first
+-- the parts of two lists that are put together of parts of one length, with more after the first
 split_more : (a b c d more : List ℕ) → length a ≡ length c → (a ++ b) ++ more ≡ c ++ d → (a ≡ c) × (b ++ more ≡ d)
 split_more a b c d more len e = split a (b ++ more) c d len (sym (append_assoc a b more) ∙ e)
 

@@ -29,7 +29,7 @@ receives_front a b c base front buffer limit (Nothing reason) first rest = recor
   ended = rest.ended;
 }
 
--- a PDU that is cut behind more than its header
+-- a PDU that is cut after more than its header
 cut_behind : (limit : ℕ) (header front part : List ℕ) → length header ≡ 48 → segment_len header ≤ limit
     → length front + length part < rest_len header → IsCutPdu limit ((header ++ front) ++ part)
 cut_behind limit header front part header_is within short =
@@ -41,7 +41,7 @@ some_bytes : (header front part : List ℕ) → length header ≡ 48 → 0 < len
 some_bytes header front part header_is =
     omega (arith, length-append (header ++ front) part, length-append header front, header_is)
 
--- input ended inside a PDU, behind its header and `front`: less than `wanted` more bytes came, which it has at least
+-- input ended inside a PDU, after its header and `front`: less than `wanted` more bytes came, which it has at least
 pub stops_cut : (a b : SourceState) (limit : ℕ) (header front part : List ℕ) (wanted : ℕ) → length header ≡ 48
     → segment_len header ≤ limit
     → length front + wanted ≤ rest_len header → length part < wanted → Reading a b part false → IsAtEnd b.left

@@ -14,7 +14,7 @@ words_more (w ∷ ws) (suc i) within =
     ap (λ (l : List ℕ). big_bytes 4 w ++ l) (words_more ws i (omega (arith, within)))
     ∙ sym (append_assoc (big_bytes 4 w) (bytes_of_words (take i ws)) (big_bytes 4 (get_or ws i 0)))
 
--- the front of a header and one word behind it
+-- the front of a header and one word after it
 pub front_more : (header rest : List ℕ) (at w : ℕ) → at ≤ length header
     → take (at + 4) (take at header ++ (big_bytes 4 w ++ rest)) ≡ take at header ++ big_bytes 4 w
 front_more header rest at w within =

@@ -25,7 +25,7 @@ pub record FeatureSpot : Type 0 where
   pub spot : Spot
   pub waiting : List WaitingPdu
 
--- a PDU is kept behind those that wait, and not answered
+-- a PDU is kept after those that wait, and not answered
 pub record KeepsPdu {P : Type 0} (header carried : List ℕ) (old : FeatureSpot) (port : P) (out : List ℕ)
     (new : FeatureSpot)
     (port' : P) (end : TurnEnd) : Type 0 where
@@ -62,7 +62,7 @@ pub record AnswersNow {P : Type 0} (resets : UnitResets P) (request : TaskManage
       (pdu.TaskManagementResponse request.task_tag response) [] managed.spot.bytes out new.spot end Next
   pub waiting_same : new.waiting ≡ managed.waiting
 
--- it is done, and its response is kept behind those that wait: it has to be counted in CmdSN's order
+-- it is done, and its response is kept after those that wait: it has to be counted in CmdSN's order
 pub record AnswersLater {P : Type 0} (resets : UnitResets P) (header carried : List ℕ) (request : TaskManagement)
     (old : FeatureSpot) (port : P) (out : List ℕ) (new : FeatureSpot) (port' : P) (end : TurnEnd) : Type 0 where
   pub managed : FeatureSpot
@@ -78,7 +78,7 @@ pub record IsIgnored {P : Type 0} (old : FeatureSpot) (port : P) (out : List ℕ
   pub waiting_same : new.waiting ≡ old.waiting
   pub port_same : port' ≡ port
 
--- a task management request that was read: `waits` says that it is the next in CmdSN's order behind those that wait
+-- a task management request that was read: `waits` says that it is the next in CmdSN's order after those that wait
 abbrev pub ManagementTurn : {P : Type 0} → UnitResets P → List ℕ → List ℕ → TaskManagement → Bool → FeatureSpot → P
     → List ℕ → FeatureSpot → P → TurnEnd → Type 0
 ManagementTurn resets header carried request waits old port out new port' end =

@@ -7,7 +7,7 @@ use Rattle.ar_iscsi.specs.declared.request.Lun.{Lun}
 use Rattle.ar_iscsi.specs.declared.request.ScsiCommand.{ScsiCommand}
 use Rattle.ar_iscsi.specs.declared.response.SequenceNumbers.{SequenceNumbers}
 
--- the serial number behind another (RFC 1982)
+-- the serial number after another (RFC 1982)
 abbrev pub next_sn : ℕ → ℕ
 next_sn n = (n + 1) % 2 ^ 32
 

@@ -14,7 +14,7 @@ ahs_len header = 4 * slice_index header 4
 abbrev pub segment_len : List ℕ → ℕ
 segment_len header = header_word 1 header % 2 ^ 24
 
--- the length of the padding behind a data segment: it ends on a whole word (RFC 7143, 11.2.3)
+-- the length of the padding after a data segment: it ends on a whole word (RFC 7143, 11.2.3)
 abbrev pub padding_len : ℕ → ℕ
 padding_len len = (4 - len % 4) % 4
 

@@ -27,7 +27,7 @@ pub record Place (S P : Type 0) : Type 0 where
   pub spot : S
   pub port : P
 
--- A whole PDU was read, and nothing behind it; it did what a turn says, and the answer was written, whole or up to a
+-- A whole PDU was read, and nothing after it; it did what a turn says, and the answer was written, whole or up to a
 -- write fault.
 pub record ServesPdu {S P E : Type 0} (turns : Turns S P E) (old new : Place S P) (left : E) (sent : Sent)
     : Type 0 where
@@ -41,7 +41,7 @@ pub record ServesPdu {S P E : Type 0} (turns : Turns S P E) (old new : Place S P
   pub turn : turns header carried old.spot old.port out new.spot new.port left
   pub sending : Sending old.sink new.sink out sent
 
--- what a step of a phase may be: the moment before, the moment behind it, how it leaves the phase, and how far its
+-- what a step of a phase may be: the moment before, the moment after it, how it leaves the phase, and how far its
 -- answer was written
 abbrev pub PhaseSteps : Type 0 → Type 0 → Type 0 → Type 1
 PhaseSteps S P E = Place S P → Place S P → E → Sent → Type 0

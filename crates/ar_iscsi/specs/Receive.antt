@@ -54,7 +54,7 @@ StopsPdu end.End limit bytes = bytes ≡ []
 StopsPdu end.Cut limit bytes = IsCutPdu limit bytes × (0 < length bytes)
 -- a read faulted, before or inside a PDU
 StopsPdu end.Read limit bytes = IsCutPdu limit bytes
--- a header was read whose data segment is longer than `limit`, and nothing behind it
+-- a header was read whose data segment is longer than `limit`, and nothing after it
 StopsPdu (end.TooLong n) limit bytes = (length bytes ≡ 48) × (segment_len bytes ≡ n) × (limit < n)
 
 -- a read faulted
@@ -71,21 +71,21 @@ IsInputLeft end.Cut left = IsAtEnd left
 IsInputLeft end.Read left = ⊤
 IsInputLeft (end.TooLong n) left = ⊤
 
--- a PDU with this header was read behind its first bytes `base`; its data segment is in front in the buffer
+-- a PDU with this header was read after its first bytes `base`; its data segment is in front in the buffer
 pub record ReadsPdu (base : List ℕ) (limit : ℕ) (old new : SourceState) (header buffer : List ℕ) : Type 0 where
   pub rest : List ℕ
   pub is_pdu : IsPdu header (take (segment_len header) buffer) (base ++ rest)
   pub within : segment_len header ≤ limit
   pub read : Reading old new rest false
 
--- no whole PDU was read behind `base`, for this reason
+-- no whole PDU was read after `base`, for this reason
 pub record ReadsNoPdu (base : List ℕ) (limit : ℕ) (old new : SourceState) (reason : ReceiveEnd) : Type 0 where
   pub rest : List ℕ
   pub stops : StopsPdu reason limit (base ++ rest)
   pub read : Reading old new rest (is_end_by_fault reason)
   pub ended : IsInputLeft reason new.left
 
--- what was received behind the first bytes `base` of a PDU, into a buffer of `limit` bytes
+-- what was received after the first bytes `base` of a PDU, into a buffer of `limit` bytes
 abbrev pub ReceivesPdu : List ℕ → ℕ → SourceState → SourceState → List ℕ → Received → Type 0
 ReceivesPdu base limit old new buffer (Pdu header) = ReadsPdu base limit old new header buffer
 ReceivesPdu base limit old new buffer (Nothing reason) = ReadsNoPdu base limit old new reason

@@ -20,7 +20,7 @@ abbrev pub bytes_of_words : List ℕ → List ℕ
 bytes_of_words [] = []
 bytes_of_words (w ∷ ws) = big_bytes 4 w ++ bytes_of_words ws
 
--- a header: its first four bytes, and the eleven words behind them
+-- a header: its first four bytes, and the eleven words after them
 unfoldable pub header_of : List ℕ → List ℕ → List ℕ
 header_of first others = first ++ bytes_of_words others
 

@@ -83,7 +83,7 @@ pub data IsFeature {P : Type 0} (commands : Commands P) (resets : UnitResets P) 
       (record { source = source'; sink = sink'; spot = spot; port = idle' }) → port' ≡ port
       → IsFeature commands resets address state source source' sink sink' port port' reason
 
--- a login, and the full feature phase behind it
+-- a login, and the full feature phase after it
 pub record IsWholeSession {P : Type 0} (logins : Logins P) (commands : Commands P) (resets : UnitResets P)
     (address : List ℕ)
     (source source' : SourceState)

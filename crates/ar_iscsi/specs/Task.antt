@@ -117,7 +117,7 @@ pub record GetsBusy (flow : Flow) (limits : Limits) (command : ScsiCommand) (ask
 abbrev pub burst_len : Limits → ℕ → ℕ → ℕ
 burst_len limits wanted have = min (wanted - have) (max limits.max_burst 512)
 
--- R2T number `asked`, counted from 0, was sent for the bytes behind `have`
+-- R2T number `asked`, counted from 0, was sent for the bytes after `have`
 pub record AsksFrom (flow : Flow) (limits : Limits) (command : ScsiCommand) (wanted have asked : ℕ) (out out' : List ℕ)
     (after : Flow) : Type 0 where
   pub after_is : after ≡ asking flow command wanted (next_sn asked) (have + burst_len limits wanted have)

@@ -14,11 +14,11 @@ use Rattle.ar_iscsi.specs.declared.keys.KeyAnswer.TheVariants as says
 abbrev pub item_name : List ℕ → List ℕ
 item_name item = before_first (λ b. b == 61) item
 
--- the value of an item: what is behind its first "="
+-- the value of an item: what is after its first "="
 abbrev pub item_value : List ℕ → List ℕ
 item_value item = after_first (λ b. b == 61) item
 
--- the number of digits, behind those whose number is `n`; none if it passes 2^24 before its last digit
+-- the number of digits, after those whose number is `n`; none if it passes 2^24 before its last digit
 abbrev pub numeral_from : ℕ → List ℕ → Option ℕ
 numeral_from n [] = Some n
 numeral_from n (c ∷ cs) = if is_ascii_digit c && nat_lt n 16777216 then numeral_from (n * 10 + (c - 48)) cs else None
@@ -27,7 +27,7 @@ numeral_from n (c ∷ cs) = if is_ascii_digit c && nat_lt n 16777216 then numera
 abbrev pub hex_value : ℕ → ℕ
 hex_value c = if nat_le c 57 then c - 48 else (if nat_le c 70 then c - 55 else c - 87)
 
--- the number of hexadecimal digits, behind those whose number is `n`; none if it passes 2^24 before its last digit
+-- the number of hexadecimal digits, after those whose number is `n`; none if it passes 2^24 before its last digit
 abbrev pub hexadecimal_from : ℕ → List ℕ → Option ℕ
 hexadecimal_from n [] = Some n
 hexadecimal_from n (c ∷ cs) =
@@ -45,7 +45,7 @@ hexadecimal_number digits = if length digits == 0 then None else hexadecimal_fro
 abbrev pub is_hexadecimal : List ℕ → Bool
 is_hexadecimal digits = bytes_eq (take 2 digits) (codes "0x") || bytes_eq (take 2 digits) (codes "0X")
 
--- a number: in hexadecimal behind 0x or 0X, and otherwise in decimal (RFC 7143, 6.1)
+-- a number: in hexadecimal after 0x or 0X, and otherwise in decimal (RFC 7143, 6.1)
 abbrev pub numeral : List ℕ → Option ℕ
 numeral digits = if is_hexadecimal digits then hexadecimal_number (drop 2 digits) else decimal_number digits
 

@@ -50,8 +50,8 @@ StaysSilent old out new end = AnswersBy out new end [] old.flow old.bytes Next
 abbrev pub is_numbered : ℕ → Bool
 is_numbered code = (code == 0x00) || ((code == 0x01) || ((code == 0x02) || ((code == 0x04) || (code == 0x06))))
 
--- behind the Reject of a numbered PDU the session ends, as ErrorRecoveryLevel 0 has it: its CmdSN doesn't count as
--- received, so it leaves a gap in front of those that were sent behind it (RFC 7143, 7.3)
+-- after the Reject of a numbered PDU the session ends, as ErrorRecoveryLevel 0 has it: its CmdSN doesn't count as
+-- received, so it leaves a gap in front of those that were sent after it (RFC 7143, 7.3)
 abbrev pub rejected_end : List ℕ → TurnEnd
 rejected_end header = if is_numbered (slice_index_or header 0 0 % 128) then Rejected else Next
 
@@ -95,7 +95,7 @@ IsDone commands limits flow command payload asked port port' out after =
     Completes commands flow limits command payload asked port port' [] out after
     ⊎ ((0 < length payload) × (port' ≡ port) × GetsBusy flow limits command asked [] out after)
 
--- Data are asked for behind those that a command carries or, out of memory for them, it got BUSY.
+-- Data are asked for after those that a command carries or, out of memory for them, it got BUSY.
 abbrev pub StartsData : Limits → Flow → ScsiCommand → ℕ → List ℕ → List ℕ → Spot → Type 0
 StartsData limits flow command wanted carried out new =
     (AsksFrom flow limits command wanted (length carried) 0 [] out new.flow × (new.bytes ≡ carried))

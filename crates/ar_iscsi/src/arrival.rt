@@ -56,7 +56,7 @@ pub(crate) fn take_arrival<P: ResetPort>(
     take_turn(work, alloc, port, address, header, carried)
 }
 
-// Does what a task management request asks for that was read. `is_behind`: it is the next in CmdSN's order behind those
+// Does what a task management request asks for that was read. `is_behind`: it is the next in CmdSN's order after those
 // that wait, so that its response waits, too.
 fn take_management<P: ResetPort>(
     work: &mut Work,
@@ -94,7 +94,7 @@ fn take_management<P: ResetPort>(
     Ok(TurnEnd::Next)
 }
 
-// Does what a task management request asks for, and keeps its response behind those that wait.
+// Does what a task management request asks for, and keeps its response after those that wait.
 fn answer_later<P: ResetPort>(
     work: &mut Work,
     waiting: &mut Vec<WaitingPdu>,

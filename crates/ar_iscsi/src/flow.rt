@@ -103,7 +103,7 @@ impl Flow {
         }
     }
 
-    /// The state after an R2T for a command: `len` bytes are asked for behind `have` ones, of `wanted` in all.
+    /// The state after an R2T for a command: `len` bytes are asked for after `have` ones, of `wanted` in all.
     pub fn asking(self, command: ScsiCommand, wanted: u32, asked: u32, burst_end: u32) -> Flow
         ensures { result ≡ state.asking self command wanted asked burst_end }
     {

@@ -247,7 +247,7 @@ fn declared_own(own: u32, least: u32, most: u32, offer: Option<u32>) -> KeyAnswe
     }
 }
 
-/// Reads a number: in hexadecimal behind 0x or 0X, and otherwise in decimal (RFC 7143, 6.1). None: there is no digit,
+/// Reads a number: in hexadecimal after 0x or 0X, and otherwise in decimal (RFC 7143, 6.1). None: there is no digit,
 /// another byte, or the number passes 2^24 before its last digit.
 pub fn numeral(digits: &[u8]) -> Option<u32>
     ensures { result ≡ text.numeral digits.now }

@@ -1,4 +1,4 @@
-// Receives PDUs. The length of a data segment is checked before anything behind the header is read, and additional
+// Receives PDUs. The length of a data segment is checked before anything after the header is read, and additional
 // header segments are dropped: those that the RFC has are for commands of other kinds.
 ghost use Rattle.std.specs.Prelude.{◌≡◌, ◌≤◌, ◌++◌, ℕ, List, [], length, take};
 ghost use Rattle.ar_iscsi.specs.Pdu.{ahs_len, segment_len};
@@ -30,8 +30,8 @@ pub enum Received {
     Nothing(ReceiveEnd),
 }
 
-/// Reads a PDU, and its data segment into the front of `buffer`, whose length is the limit for it. Nothing behind the
-/// PDU is read, and nothing behind a header with a longer data segment.
+/// Reads a PDU, and its data segment into the front of `buffer`, whose length is the limit for it. Nothing after the
+/// PDU is read, and nothing after a header with a longer data segment.
 pub fn receive_pdu<R: Source>(reader: &mut R, buffer: &mut [u8]) -> Received
     ensures { ReceivesPdu [] (length buffer.new) (R.state reader.old) (R.state reader.new) buffer.new result }
 {
@@ -79,7 +79,7 @@ fn receive_segment<R: Source>(
     }
 }
 
-// Reads the padding behind a data segment, which is in `buffer`.
+// Reads the padding after a data segment, which is in `buffer`.
 fn receive_padding<R: Source>(
     reader: &mut R,
     buffer: &[u8],

@@ -123,7 +123,7 @@ pub fn put_pdu(
     put_padding(out, segment.len())
 }
 
-// Appends the padding behind a data segment of `len` bytes.
+// Appends the padding after a data segment of `len` bytes.
 fn put_padding(out: &mut Vec<u8>, len: usize) -> Result<(), AllocError>
     ensures { OnOk result (out.new.items ≡ out.old.items ++ wire.padding (padding_len len)) }
 {
@@ -135,7 +135,7 @@ fn put_padding(out: &mut Vec<u8>, len: usize) -> Result<(), AllocError>
     }
 }
 
-// Encodes a header of its first four bytes and the eleven words behind them.
+// Encodes a header of its first four bytes and the eleven words after them.
 fn header_of(first: [u8; 4], words: &[u32; 11]) -> [u8; 48]
     ensures { result ≡ wire.header_of first words.now }
 {

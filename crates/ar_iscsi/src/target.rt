@@ -26,7 +26,7 @@ pub enum IscsiEnd {
     Feature(FeatureEnd),
 }
 
-/// A port without units, behind a session for discovery. It refuses a login, and begins with one.
+/// A port without units, after a session for discovery. It refuses a login, and begins with one.
 #[derive(Clone, Copy, Debug, Drop)]
 pub struct NoUnits {
     has_login: bool,
@@ -64,7 +64,7 @@ impl ResetPort for NoUnits {
     }
 }
 
-/// Serves one connection to the target: a login, and a normal session or one for discovery behind it. It holds a buffer
+/// Serves one connection to the target: a login, and a normal session or one for discovery after it. It holds a buffer
 /// of 256 KiB, the data of one WRITE, one answer at a time, and up to 16 PDUs that wait, of up to 256 KiB each.
 /// `address` is the target's own, as `127.0.0.1:3260`.
 pub fn serve_target<R: Source, W: Sink, P: ResetPort>(
@@ -121,7 +121,7 @@ fn serve_buffered<R: Source, W: Sink, P: ResetPort>(
     };
     match log_in(alloc, reader, writer, port, &mut work, buffer) {
         LoginEnd::Entered => {
-            reader.lift_login_limit();
+            lift_limit(reader, work.state.so_far.kind);
             let state = work.state;
             let reason = serve_entered(alloc, reader, writer, port, address, state, buffer);
             IscsiEnd::Feature(reason)
@@ -130,7 +130,17 @@ fn serve_buffered<R: Source, W: Sink, P: ResetPort>(
     }
 }
 
-// Serves the full feature phase behind a login.
+// Lifts the limit on the time of the login. A session for discovery has one for all of it.
+fn lift_limit<R: Source>(reader: &mut R, kind: SessionKind)
+    ensures { R.state reader.new ≡ R.state reader.old }
+{
+    match kind {
+        SessionKind::Normal => reader.lift_login_limit(),
+        _ => reader.limit_discovery(),
+    }
+}
+
+// Serves the full feature phase after a login.
 fn serve_entered<R: Source, W: Sink, P: ResetPort>(
     alloc: Global,
     reader: &mut R,

@@ -187,7 +187,7 @@ pub fn refuse(
     Ok(flow.answered())
 }
 
-/// Asks for more data of a command: appends R2T number `asked`, counted from 0, for those behind the first `have`.
+/// Asks for more data of a command: appends R2T number `asked`, counted from 0, for those after the first `have`.
 pub fn ask(
     flow: Flow,
     limits: &Limits,

@@ -30,7 +30,7 @@ pub(crate) fn place_of(byte: u8, text: &[u8]) -> usize
     text.iter().position(|b| *b == byte).unwrap_or(text.len())
 }
 
-// What is behind the byte at this place of a text.
+// What is after the byte at this place of a text.
 pub(crate) fn behind(text: &[u8], place: usize) -> &[u8]
     requires { place < length text.now }
     ensures is { result.now ≡ drop (place + 1) text.now }
@@ -62,7 +62,7 @@ pub(crate) fn item_name(item: &[u8]) -> &[u8]
     &item[..place_of(b'=', item)]
 }
 
-// The value of an item: what is behind its first `=`.
+// The value of an item: what is after its first `=`.
 pub(crate) fn item_value(item: &[u8]) -> &[u8]
     ensures { result.now ≡ text.item_value item.now }
 {

@@ -117,7 +117,7 @@ pub(crate) fn respond(
 }
 
 // Rejects a PDU for a reason, with its header. It isn't counted, so that one with a CmdSN leaves a gap in front of
-// those that were sent behind it: the session ends.
+// those that were sent after it: the session ends.
 fn reject(work: &mut Work, header: &[u8; 48], reason: u8) -> Result<TurnEnd, AllocError>
     requires empty { work.old.out.items ≡ [] }
     ensures rejected { IfOk result (λ ended. turn.IsRejected header.now reason
@@ -130,7 +130,7 @@ fn reject(work: &mut Work, header: &[u8; 48], reason: u8) -> Result<TurnEnd, All
     respond(work, flow, TargetPdu::Reject { reason }, header, end)
 }
 
-// How a session goes on behind a Reject.
+// How a session goes on after a Reject.
 fn rejected_end(header: &[u8; 48]) -> TurnEnd
     ensures { result ≡ turn.rejected_end header.now }
 {

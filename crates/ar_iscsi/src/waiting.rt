@@ -1,4 +1,4 @@
-// PDUs that wait: while the data of a WRITE are collected, those behind it in CmdSN's order are kept unopened, as if
+// PDUs that wait: while the data of a WRITE are collected, those after it in CmdSN's order are kept unopened, as if
 // they hadn't been read, and are done in order once the WRITE is. They aren't counted before that, so that MaxCmdSN
 // bounds how many there are.
 ghost use Rattle.std.specs.Prelude.{◌≡◌, ◌<◌, ◌++◌, ◌∷◌, [], OnOk};
@@ -10,7 +10,7 @@ use crate::turn::shared_copy;
 use crate::waiting_pdu::{WaitingPdu, WaitingState};
 use std::alloc::{AllocError, Global};
 
-/// Whether a PDU that has been read waits behind `count` others.
+/// Whether a PDU that has been read waits after `count` others.
 pub(crate) fn waits(flow: &Flow, count: usize, pdu: &InitiatorPdu) -> bool
     ensures { result ≡ rule.waits flow.now count pdu.now }
 {
@@ -22,7 +22,7 @@ pub(crate) fn waits(flow: &Flow, count: usize, pdu: &InitiatorPdu) -> bool
     }
 }
 
-// The CmdSN that is expected behind `count` PDUs that wait.
+// The CmdSN that is expected after `count` PDUs that wait.
 fn sn_behind(flow: &Flow, count: usize) -> u32
     requires { count < 16 }
     ensures { result ≡ rule.sn_behind flow.now count }
@@ -57,7 +57,7 @@ pub(crate) fn is_next_waiting(flow: &Flow, waiting: &[WaitingPdu]) -> bool
     flow.collecting.is_none() && !waiting.is_empty()
 }
 
-/// Keeps a PDU behind the others that wait.
+/// Keeps a PDU after the others that wait.
 pub(crate) fn keep(
     waiting: &mut Vec<WaitingPdu>,
     alloc: Global,

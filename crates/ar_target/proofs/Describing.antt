@@ -3,7 +3,7 @@ use Rattle.std.proofs.Common.{◌≡◌, ◌∙◌, ℕ, ◌+◌, List, [], ◌�
 use Rattle.ar_target.specs.declared.operations.Operation.{Operation}
 use Rattle.ar_target.specs.Operations.{cdb_len, one_command, usage_of}
 
--- four bytes in front are taken with more behind them
+-- four bytes in front are taken with more after them
 taken_4 : (a b c d n : ℕ) (l : List ℕ) → take (4 + n) (a ∷ b ∷ c ∷ d ∷ l) ≡ a ∷ b ∷ c ∷ d ∷ take n l
 taken_4 a b c d n l =
     let e : 4 + n ≡ suc (suc (suc (suc n))) = omega arith in ap (λ (k : ℕ). take k (a ∷ b ∷ c ∷ d ∷ l)) e

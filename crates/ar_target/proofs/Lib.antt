@@ -1,7 +1,9 @@
 pub mod Attending
 pub mod Describing
+pub mod Descriptors
 pub mod Finding
 pub mod Given
 pub mod Names
+pub mod Pieces
 pub mod Synchronizing
 pub mod Taking

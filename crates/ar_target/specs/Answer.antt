@@ -60,10 +60,11 @@ block_exponent sectors =
     else 11)))))))
 
 -- READ CAPACITY (16) data (SBC-3, READ CAPACITY (16) command): the address of the last block in eight bytes, the block
--- length, 512, no protection, how long physical blocks are, and zeros
+-- length, 512, no protection, how long physical blocks are, LBPME and LBPRZ (blocks can be
+-- unmapped, and read as zeros then), and zeros
 unfoldable pub long_capacity_data : ℕ → ℕ → List ℕ
 long_capacity_data sectors last =
-    big_bytes 8 last ++ (0x00 ∷ 0x00 ∷ 0x02 ∷ 0x00 ∷ 0x00 ∷ block_exponent sectors ∷ replicate 18 0)
+    big_bytes 8 last ++ (0x00 ∷ 0x00 ∷ 0x02 ∷ 0x00 ∷ 0x00 ∷ block_exponent sectors ∷ 0xC0 ∷ replicate 17 0)
 
 -- to READ CAPACITY (16)
 abbrev pub long_capacity_answer : ℕ → ℕ → Reply → Reply
@@ -80,20 +81,26 @@ report_data PortGroups = port_groups
 abbrev pub report_answer : TargetReport → ℕ → Reply → Reply
 report_answer report len told = from_last_block (λ last. good (take len (report_data report))) (last_block told) told
 
--- standard INQUIRY data, as far as they go, with TPGS 01b in byte 5 (target port groups, whose states hosts don't set)
--- and CMDQUE in byte 7 (SPC-4, Standard INQUIRY data)
-abbrev pub over_target_port : List ℕ → List ℕ
-over_target_port bytes = slice_set (slice_set bytes 5 0x10) 7 0x02
+-- bytes 36 to 73 of standard INQUIRY data: the first of eight VERSION DESCRIPTORS, at 58, are SAM-3 (0060h), iSCSI
+-- (0960h), SPC-3 (0300h) and SBC-3 (04C0h), each with no version claimed (SPC-4, Standard INQUIRY data)
+abbrev pub version_descriptors : List ℕ
+version_descriptors =
+    replicate 22 0 ++ (0x00 ∷ 0x60 ∷ 0x09 ∷ 0x60 ∷ 0x03 ∷ 0x00 ∷ 0x04 ∷ 0xC0 ∷ []) ++ replicate 8 0
+
+-- standard INQUIRY data that go on to byte 73 (ADDITIONAL LENGTH 69), with TPGS 01b in byte 5 (target port groups,
+-- whose states hosts don't set) and CMDQUE in byte 7 (SPC-4, Standard INQUIRY data)
+unfoldable pub over_target_port : List ℕ → List ℕ
+over_target_port bytes = slice_set (slice_set (slice_set (bytes ++ version_descriptors) 4 0x45) 5 0x10) 7 0x02
 
 -- to INQUIRY of the standard data, by whether there is a unit
-abbrev pub standard_answer_by : Option Bool → Reply → Reply
-standard_answer_by None told = told
-standard_answer_by (Some false) told = told
-standard_answer_by (Some true) told = good (over_target_port told.payload)
+abbrev pub standard_answer_by : Option Bool → ℕ → Reply → Reply
+standard_answer_by None len told = told
+standard_answer_by (Some false) len told = told
+standard_answer_by (Some true) len told = good (take len (over_target_port told.payload))
 
--- to INQUIRY of the standard data: the port's own but for two bytes
-abbrev pub standard_answer : Reply → Reply
-standard_answer told = standard_answer_by (presence_of told) told
+-- to INQUIRY of the standard data: the port's own but for three bytes, and what the device server adds
+abbrev pub standard_answer : ℕ → Reply → Reply
+standard_answer len told = standard_answer_by (presence_of told) len told
 
 -- MISCOMPARE, MISCOMPARE DURING VERIFY OPERATION (SPC-4, ASC and ASCQ assignments)
 abbrev pub miscompare : Sense

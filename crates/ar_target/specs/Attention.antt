@@ -31,7 +31,7 @@ is_pending pending lun = unwrap_or (slice_get pending lun) false
 -- REPORT LUNS and REQUEST SENSE commands)
 abbrev pub reports : Request → List ℕ → Bool
 reports request.Given cdb = not (operation_code cdb == 0x12)
-reports request.StandardData cdb = false
+reports (request.StandardData len) cdb = false
 reports (request.InvalidAtTarget sense) cdb = false
 reports (request.Vpd page len) cdb = false
 reports (request.ReportLuns len) cdb = false

@@ -8,6 +8,7 @@ use Rattle.ar_target.specs.declared.attributes.Attributes.{Attributes}
 use Rattle.ar_target.specs.declared.reset_port.ResetOutcome.{ResetOutcome}
 use Rattle.ar_target.specs.declared.reset_port.ResetOutcome.TheVariants.{Done, NoUnit}
 use Rattle.ar_target.specs.Attention.{KeepsReport, all_pending, attention_reply, due, owes_report, settled}
+use Rattle.ar_target.specs.DiscardPort.{ThinUnits}
 use Rattle.ar_target.specs.FlushPort.{UnitFlushes}
 use Rattle.ar_target.specs.Request.{request_of}
 use Rattle.ar_target.specs.Serving.{MeetsCommand}
@@ -30,25 +31,25 @@ pub record LogsInAs {P : Type 0} (logins : Logins P) (old : ServerState P) (host
 
 -- A command is answered by what its CDB asks for, unless its unit has yet to report that the session is new or that it
 -- was reset, and the command reports that. Where the report can't be made, it stays due, and nothing else is done.
-pub data ServesAsDevice {P : Type 0} (commands : Commands P) (flushes : UnitFlushes P) (old : ServerState P) (lun : ℕ)
-    (cdb payload : List ℕ) : Reply → ServerState P → Type 0 where
+pub data ServesAsDevice {P : Type 0} (commands : Commands P) (flushes : UnitFlushes P) (thin : ThinUnits P)
+    (old : ServerState P) (lun : ℕ) (cdb payload : List ℕ) : Reply → ServerState P → Type 0 where
   nothing_due :
       (reply : Reply) (port : P) → owes_report old.pending lun (request_of cdb) cdb ≡ false
-      → MeetsCommand commands flushes old.attributes old.port lun cdb payload reply port
-      → ServesAsDevice commands flushes old lun cdb payload reply (record old { port = port })
+      → MeetsCommand commands flushes thin old.attributes old.port lun cdb payload reply port
+      → ServesAsDevice commands flushes thin old lun cdb payload reply (record old { port = port })
   no_unit :
       (reply : Reply) (mid port : P) → owes_report old.pending lun (request_of cdb) cdb ≡ true
       → LooksFor commands old.port lun false mid
-      → MeetsCommand commands flushes old.attributes mid lun cdb payload reply port
-      → ServesAsDevice commands flushes old lun cdb payload reply (record old { port = port })
+      → MeetsCommand commands flushes thin old.attributes mid lun cdb payload reply port
+      → ServesAsDevice commands flushes thin old lun cdb payload reply (record old { port = port })
   reported :
       (port : P) → owes_report old.pending lun (request_of cdb) cdb ≡ true → LooksFor commands old.port lun true port
-      → ServesAsDevice commands flushes old lun cdb payload (attention_reply (request_of cdb))
+      → ServesAsDevice commands flushes thin old lun cdb payload (attention_reply (request_of cdb))
       (record { attributes = old.attributes; pending = settled old.pending lun; port = port })
   still_due :
       (reply : Reply) (port : P) → owes_report old.pending lun (request_of cdb) cdb ≡ true
       → KeepsReport commands old.port lun (request_of cdb) reply port
-      → ServesAsDevice commands flushes old lun cdb payload reply (record old { port = port })
+      → ServesAsDevice commands flushes thin old lun cdb payload reply (record old { port = port })
 
 -- the outcome of a reset by whether INQUIRY states that there is a unit: one that can't be asked may be there
 abbrev pub reset_outcome : Option Bool → ResetOutcome

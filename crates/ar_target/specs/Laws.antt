@@ -16,7 +16,7 @@ use Rattle.ar_target.specs.Vpd.{unit_name, serial_number, vendor_designator, naa
 -- a request gives the port the CDB that came, untouched
 abbrev pub GivesCdb : Request → Type 0
 GivesCdb Given = ⊤
-GivesCdb StandardData = ⊤
+GivesCdb (StandardData len) = ⊤
 GivesCdb other = ⊥
 
 -- each CDB that is a command to the array is given to the port

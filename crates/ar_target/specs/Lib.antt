@@ -1,11 +1,16 @@
 pub mod Answer
 pub mod Attention
 pub mod DeviceServer
+pub mod DiscardPort
+pub mod Discarding
 pub mod FlushPort
 pub mod Laws
+pub mod LbaStatus
 pub mod Luns
 pub mod Mode
 pub mod Operations
+pub mod Provisioning
+pub mod Ranges
 pub mod Request
 pub mod ResetPort
 pub mod Serving

@@ -21,7 +21,7 @@ pages_len InformationalExceptions = 12
 pages_len All = 56
 
 -- The mode parameter header, by whether it is the long one, and the lengths of what follows (SPC-3, Mode parameter
--- header formats): MODE DATA LENGTH counts the bytes behind itself; no medium type; the device-specific parameter has
+-- header formats): MODE DATA LENGTH counts the bytes after itself; no medium type; the device-specific parameter has
 -- DPOFUA, and not WP (SBC-2, Mode parameter header); then the length of the descriptor
 abbrev pub mode_header : Bool → ℕ → ℕ → List ℕ
 mode_header false descriptor pages = (3 + descriptor + pages) ∷ 0x00 ∷ 0x10 ∷ descriptor ∷ []

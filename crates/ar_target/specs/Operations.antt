@@ -42,7 +42,7 @@ usage_short code =
     else (if code == 0x1D then Some (usage_6 0x1D 0xE4 0x00 0xFF 0xFF)
     else None)))))))
 
--- those of 10 bytes: RDPROTECT or WRPROTECT, DPO, FUA and BYTCHK are in byte 1
+-- those of 10 bytes: RDPROTECT or WRPROTECT, DPO, FUA and BYTCHK are in byte 1, or ANCHOR and UNMAP
 abbrev pub usage_middle : ℕ → Option (List ℕ)
 usage_middle code =
     if code == 0x25 then Some usage_capacity
@@ -51,8 +51,10 @@ usage_middle code =
     else (if code == 0x2E then Some (usage_10 0x2E 0xF6 0xFF 0xFF 0xFF)
     else (if code == 0x2F then Some (usage_10 0x2F 0xF6 0xFF 0xFF 0xFF)
     else (if code == 0x35 then Some (usage_10 0x35 0x00 0xFF 0xFF 0xFF)
+    else (if code == 0x41 then Some (usage_10 0x41 0xFE 0xFF 0xFF 0xFF)
+    else (if code == 0x42 then Some (usage_10 0x42 0x01 0x00 0x00 0xFF)
     else (if code == 0x5A then Some (usage_10 0x5A 0x08 0xFF 0x00 0xFF)
-    else None))))))
+    else None))))))))
 
 -- those of 12 and 16 bytes without a SERVICE ACTION
 abbrev pub usage_long : ℕ → Option (List ℕ)
@@ -62,15 +64,19 @@ usage_long code =
     else (if code == 0x8E then Some (usage_16 0x8E 0xF6 0x00)
     else (if code == 0x8F then Some (usage_16 0x8F 0xF6 0x00)
     else (if code == 0x91 then Some (usage_16 0x91 0x00 0x00)
+    else (if code == 0x93 then Some (usage_16 0x93 0xFF 0x00)
     else (if code == 0xA0 then Some (usage_12 0xA0 0x00 0xFF 0x00 0x00)
     else (if code == 0xA8 then Some (usage_12 0xA8 0xF8 0xFF 0xFF 0xFF)
     else (if code == 0xAA then Some (usage_12 0xAA 0xF8 0xFF 0xFF 0xFF)
-    else None)))))))
+    else None))))))))
 
--- those with a SERVICE ACTION: READ CAPACITY (16), REPORT TARGET PORT GROUPS, and this command
+-- those with a SERVICE ACTION: READ CAPACITY (16), GET LBA STATUS, REPORT TARGET PORT GROUPS, and this command
 abbrev pub usage_with_action : ℕ → ℕ → Option (List ℕ)
 usage_with_action code action =
-    if (code == 0x9E) then (if action == 0x10 then Some (usage_16 0x9E 0x10 0x01) else None)
+    if (code == 0x9E) then
+    (if action == 0x10 then Some (usage_16 0x9E 0x10 0x01)
+    else (if action == 0x12 then Some (usage_16 0x9E 0x12 0x00)
+    else None))
     else (if action == 0x0A then Some (usage_12 0xA3 0xEA 0x00 0x00 0x00)
     else (if action == 0x0C then Some (usage_12 0xA3 0x0C 0x07 0xFF 0xFF)
     else None))
@@ -109,14 +115,16 @@ short_commands =
 -- of those of 10 bytes
 abbrev pub middle_commands : List ℕ
 middle_commands =
-    plain 0x25 ++ (plain 0x28 ++ (plain 0x2A ++ (plain 0x2E ++ (plain 0x2F ++ (plain 0x35 ++ plain 0x5A)))))
+    plain 0x25 ++ (plain 0x28 ++ (plain 0x2A ++ (plain 0x2E ++ (plain 0x2F ++ (plain 0x35 ++ (plain 0x41
+    ++ (plain 0x42 ++ plain 0x5A)))))))
 
 -- of those of 16 and 12 bytes
 abbrev pub long_commands : List ℕ
 long_commands =
-    plain 0x88 ++ (plain 0x8A ++ (plain 0x8E ++ (plain 0x8F ++ (plain 0x91 ++ (with_action 0x9E 0x10 ++ (plain 0xA0
-    ++ (with_action 0xA3 0x0A ++ (with_action 0xA3 0x0C ++ (plain 0xA8 ++ plain 0xAA)))))))))
+    plain 0x88 ++ (plain 0x8A ++ (plain 0x8E ++ (plain 0x8F ++ (plain 0x91 ++ (plain 0x93
+    ++ (with_action 0x9E 0x10 ++ (with_action 0x9E 0x12 ++ (plain 0xA0 ++ (with_action 0xA3 0x0A
+    ++ (with_action 0xA3 0x0C ++ (plain 0xA8 ++ plain 0xAA)))))))))))
 
--- the answer for all commands: COMMAND DATA LENGTH, 26 descriptors of 8 bytes
+-- the answer for all commands: COMMAND DATA LENGTH, 30 descriptors of 8 bytes
 unfoldable pub all_commands : List ℕ
-all_commands = 0x00 ∷ 0x00 ∷ 0x00 ∷ 0xD0 ∷ (short_commands ++ (middle_commands ++ long_commands))
+all_commands = 0x00 ∷ 0x00 ∷ 0x00 ∷ 0xF0 ∷ (short_commands ++ (middle_commands ++ long_commands))

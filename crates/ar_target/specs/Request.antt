@@ -11,12 +11,14 @@ use Rattle.ar_scsi.specs.Sense.{invalid_field_in_cdb}
 use Rattle.ar_target.specs.declared.request.VpdPage.{VpdPage}
 use Rattle.ar_target.specs.declared.request.VpdPage.TheVariants.{SupportedPages, UnitSerialNumber, DeviceIdentification}
 use Rattle.ar_target.specs.declared.request.VpdPage.TheVariants.{BlockLimits, BlockDeviceCharacteristics}
+use Rattle.ar_target.specs.declared.request.VpdPage.TheVariants.{LogicalBlockProvisioning}
 use Rattle.ar_target.specs.declared.request.ModePages.{ModePages}
 use Rattle.ar_target.specs.declared.request.ModePages.TheVariants.{ErrorRecovery, Caching, Control}
 use Rattle.ar_target.specs.declared.request.ModePages.TheVariants.{InformationalExceptions, All}
 use Rattle.ar_target.specs.declared.request.TargetReport.TheVariants.{AllOperations, OneOperation, PortGroups}
 use Rattle.ar_target.specs.declared.request.Request.{Request}
 use Rattle.ar_target.specs.declared.request.Request.TheVariants as request
+use Rattle.ar_target.specs.Provisioning.{unmap_request, write_same_10_request, write_same_16_request}
 use Rattle.ar_target.specs.Translation.{transfer_request}
 
 -- ILLEGAL REQUEST, SAVING PARAMETERS NOT SUPPORTED (SPC-3, MODE SENSE (6) command, Saved values)
@@ -35,7 +37,8 @@ vpd_page_of code =
     else (if code == 0x83 then Some DeviceIdentification
     else (if code == 0xB0 then Some BlockLimits
     else (if code == 0xB1 then Some BlockDeviceCharacteristics
-    else None))))
+    else (if code == 0xB2 then Some LogicalBlockProvisioning
+    else None)))))
 
 -- an INQUIRY for a page that is supported; any other is the port's
 abbrev pub vpd_request : Option VpdPage → ℕ → Request
@@ -45,7 +48,7 @@ vpd_request (Some page) len = request.Vpd page len
 -- INQUIRY, 6 bytes (SPC-3, INQUIRY command)
 abbrev pub inquiry_request : List ℕ → Request
 inquiry_request cdb =
-    if not (evpd cdb == 1) then request.StandardData
+    if not (evpd cdb == 1) then request.StandardData (allocation_length cdb)
     else (if naca 5 cdb == 1 then request.Given
     else vpd_request (vpd_page_of (page_code cdb)) (allocation_length cdb))
 
@@ -117,9 +120,16 @@ abbrev pub long_capacity_valid : List ℕ → Bool
 long_capacity_valid cdb =
     (byte 1 cdb % 32 == 0x10) && not (naca 15 cdb == 1) && ((bit 14 0 cdb == 1) || (logical_block_address_16 cdb == 0))
 
--- SERVICE ACTION IN (16), 16 bytes (SPC-3, Service action CDBs)
+-- GET LBA STATUS: the address of the first block, and ALLOCATION LENGTH (SBC-3, GET LBA STATUS command)
+abbrev pub lba_status_request : List ℕ → Request
+lba_status_request cdb =
+    where_fields_valid (not (naca 15 cdb == 1)) (request.LbaStatus (number 2 8 cdb) (number 10 4 cdb))
+
+-- SERVICE ACTION IN (16), 16 bytes: GET LBA STATUS, 12h, or READ CAPACITY (16) (SPC-3, Service action CDBs)
 abbrev pub service_action_in_16_request : List ℕ → Request
-service_action_in_16_request cdb = where_fields_valid (long_capacity_valid cdb) (request.LongCapacity (number 10 4 cdb))
+service_action_in_16_request cdb =
+    if byte 1 cdb % 32 == 0x12 then lba_status_request cdb
+    else where_fields_valid (long_capacity_valid cdb) (request.LongCapacity (number 10 4 cdb))
 
 -- SYNCHRONIZE CACHE (10), 10 bytes; IMMED and SYNC_NV may be ignored (SBC-2, SYNCHRONIZE CACHE (10) command)
 abbrev pub synchronize_cache_10_request : List ℕ → Request
@@ -133,9 +143,16 @@ synchronize_cache_16_request cdb =
     where_fields_valid (not (naca 15 cdb == 1))
     (request.Synchronize (logical_block_address_16 cdb) (transfer_length_16 cdb))
 
--- START STOP UNIT, 6 bytes: whatever it asks for, the unit stays ready (SBC-2, START STOP UNIT command)
+-- the unit is to stop, and what its cache has is to be written before: START, bit 0 of byte 4, and NO_FLUSH, bit 2, are
+-- 0 (SBC-3, START STOP UNIT command)
+abbrev pub stops_flushed : List ℕ → Bool
+stops_flushed cdb = (bit 4 0 cdb == 0) && (bit 4 2 cdb == 0)
+
+-- START STOP UNIT, 6 bytes: whatever it asks for, the unit stays ready; a stop flushes all of it
 abbrev pub start_stop_unit_request : List ℕ → Request
-start_stop_unit_request cdb = where_fields_valid (not (naca 5 cdb == 1)) request.StartStop
+start_stop_unit_request cdb =
+    where_fields_valid (not (naca 5 cdb == 1))
+    (if stops_flushed cdb then request.Synchronize 0 0 else request.StartStop)
 
 -- SEND DIAGNOSTIC, 6 bytes: the default self-test, or nothing; SELF-TEST CODE, bits 7 to 5 of byte 1, and PARAMETER LIST
 -- LENGTH are 0 (SPC-4, SEND DIAGNOSTIC command)
@@ -195,7 +212,10 @@ request_of cdb =
     else (if operation_code cdb == 0x1B then start_stop_unit_request cdb
     else (if operation_code cdb == 0x1D then send_diagnostic_request cdb
     else (if operation_code cdb == 0xA3 then maintenance_in_request cdb
-    else transfer_request cdb))))))))))
+    else (if operation_code cdb == 0x42 then unmap_request cdb
+    else (if operation_code cdb == 0x41 then write_same_10_request cdb
+    else (if operation_code cdb == 0x93 then write_same_16_request cdb
+    else transfer_request cdb)))))))))))))
 
 -- the fields of a request that is answered are in range: a list of LUNs has room for one
 abbrev pub SuitsRequest : Request → Type 0

@@ -11,6 +11,9 @@ use Rattle.ar_target.specs.declared.request.Request.{Request}
 use Rattle.ar_target.specs.declared.request.Request.TheVariants as request
 use Rattle.ar_target.specs.Answer.{invalid_answer, vpd_answer, mode_answer, long_capacity_answer, sense_answer}
 use Rattle.ar_target.specs.Answer.{ready_answer, report_answer, standard_answer, verify_answer}
+use Rattle.ar_target.specs.DiscardPort.{ThinUnits}
+use Rattle.ar_target.specs.LbaStatus.{GetsLbaStatus}
+use Rattle.ar_target.specs.Discarding.{Unmaps, WritesSame}
 use Rattle.ar_target.specs.FlushPort.{UnitFlushes}
 use Rattle.ar_target.specs.Luns.{ReportsLuns, lun_list}
 use Rattle.ar_target.specs.Request.{request_of}
@@ -50,51 +53,58 @@ pub data Synchronizes {P : Type 0} (commands : Commands P) (flushes : UnitFlushe
       → last_block told ≡ Some last → is_behind last lba count ≡ false → FlushesAtPort flushes mid lun reply new
       → Synchronizes commands flushes lba count old lun reply new
 
--- an INQUIRY of the standard data was given to the port as it came, and the reply is what is made of what the port told
-pub record ReturnsStandard {P : Type 0} (commands : Commands P) (cdb payload : List ℕ) (old : P) (lun : ℕ)
-    (reply : Reply) (new : P) : Type 0 where
+-- an INQUIRY of the standard data was given to the port as it came, and the reply is what is made of what the port
+-- returned
+pub record ReturnsStandard {P : Type 0} (commands : Commands P) (len : ℕ) (cdb payload : List ℕ) (old : P)
+    (lun : ℕ) (reply : Reply) (new : P) : Type 0 where
   pub told : Reply
   pub given : commands old lun cdb payload told new
-  pub returned : IsReturned (standard_answer told) reply
+  pub returned : IsReturned (standard_answer len told) reply
 
 -- What is done with each request at the port, and its reply.
-abbrev pub MeetsRequest : {P : Type 0} → Commands P → UnitFlushes P → Attributes → Request → P → ℕ → List ℕ → List ℕ
-    → Reply → P → Type 0
-MeetsRequest commands flushes attributes request.Given old lun cdb payload reply new =
+abbrev pub MeetsRequest : {P : Type 0} → Commands P → UnitFlushes P → ThinUnits P → Attributes → Request → P
+    → ℕ → List ℕ → List ℕ → Reply → P → Type 0
+MeetsRequest commands flushes thin attributes request.Given old lun cdb payload reply new =
     commands old lun cdb payload reply new
-MeetsRequest commands flushes attributes request.StandardData old lun cdb payload reply new =
-    ReturnsStandard commands cdb payload old lun reply new
-MeetsRequest commands flushes attributes (request.Transfer own) old lun cdb payload reply new =
+MeetsRequest commands flushes thin attributes (request.StandardData len) old lun cdb payload reply new =
+    ReturnsStandard commands len cdb payload old lun reply new
+MeetsRequest commands flushes thin attributes (request.Transfer own) old lun cdb payload reply new =
     commands old lun own payload reply new
-MeetsRequest commands flushes attributes (request.Verify read compares) old lun cdb payload reply new =
+MeetsRequest commands flushes thin attributes (request.Verify read compares) old lun cdb payload reply new =
     ReturnsBy commands read (verify_answer compares payload) old lun reply new
-MeetsRequest commands flushes attributes (request.InvalidAtTarget sense) old lun cdb payload reply new =
+MeetsRequest commands flushes thin attributes (request.InvalidAtTarget sense) old lun cdb payload reply new =
     (reply ≡ check sense) × (new ≡ old)
-MeetsRequest commands flushes attributes (request.InvalidAtUnit sense) old lun cdb payload reply new =
+MeetsRequest commands flushes thin attributes (request.InvalidAtUnit sense) old lun cdb payload reply new =
     ReturnsBy commands capacity_cdb (invalid_answer sense) old lun reply new
-MeetsRequest commands flushes attributes (request.Vpd page len) old lun cdb payload reply new =
+MeetsRequest commands flushes thin attributes (request.Vpd page len) old lun cdb payload reply new =
     ReturnsBy commands inquiry_cdb (vpd_answer attributes lun page len) old lun reply new
-MeetsRequest commands flushes attributes (request.ReportLuns len) old lun cdb payload reply new =
+MeetsRequest commands flushes thin attributes (request.ReportLuns len) old lun cdb payload reply new =
     ReportsLuns commands len old reply new
-MeetsRequest commands flushes attributes (request.ReportWellKnown len) old lun cdb payload reply new =
+MeetsRequest commands flushes thin attributes (request.ReportWellKnown len) old lun cdb payload reply new =
     IsReturned (good (take len (lun_list []))) reply × (new ≡ old)
-MeetsRequest commands flushes attributes (request.ModeSense sense) old lun cdb payload reply new =
+MeetsRequest commands flushes thin attributes (request.ModeSense sense) old lun cdb payload reply new =
     ReturnsBy commands capacity_cdb (mode_answer attributes.write_back sense) old lun reply new
-MeetsRequest commands flushes attributes (request.RequestSense len) old lun cdb payload reply new =
+MeetsRequest commands flushes thin attributes (request.RequestSense len) old lun cdb payload reply new =
     ReturnsBy commands ready_cdb (sense_answer len) old lun reply new
-MeetsRequest commands flushes attributes (request.LongCapacity len) old lun cdb payload reply new =
+MeetsRequest commands flushes thin attributes (request.LongCapacity len) old lun cdb payload reply new =
     ReturnsBy commands capacity_cdb (long_capacity_answer attributes.block_sectors len) old lun reply new
-MeetsRequest commands flushes attributes (request.Synchronize lba count) old lun cdb payload reply new =
+MeetsRequest commands flushes thin attributes (request.LbaStatus lba len) old lun cdb payload reply new =
+    GetsLbaStatus commands thin.runs attributes.block_sectors lba len old lun reply new
+MeetsRequest commands flushes thin attributes (request.Synchronize lba count) old lun cdb payload reply new =
     Synchronizes commands flushes lba count old lun reply new
-MeetsRequest commands flushes attributes request.StartStop old lun cdb payload reply new =
+MeetsRequest commands flushes thin attributes (request.Unmap len) old lun cdb payload reply new =
+    Unmaps commands thin.discards attributes.block_sectors len old lun payload reply new
+MeetsRequest commands flushes thin attributes (request.WriteSame same) old lun cdb payload reply new =
+    WritesSame commands thin.discards attributes.block_sectors same old lun payload reply new
+MeetsRequest commands flushes thin attributes request.StartStop old lun cdb payload reply new =
     ReturnsBy commands ready_cdb ready_answer old lun reply new
-MeetsRequest commands flushes attributes request.SelfTest old lun cdb payload reply new =
+MeetsRequest commands flushes thin attributes request.SelfTest old lun cdb payload reply new =
     ReturnsBy commands ready_cdb ready_answer old lun reply new
-MeetsRequest commands flushes attributes (request.Report report len) old lun cdb payload reply new =
+MeetsRequest commands flushes thin attributes (request.Report report len) old lun cdb payload reply new =
     ReturnsBy commands capacity_cdb (report_answer report len) old lun reply new
 
 -- what a device server does with a command: what its CDB asks for
-abbrev pub MeetsCommand : {P : Type 0} → Commands P → UnitFlushes P → Attributes → P → ℕ → List ℕ → List ℕ → Reply → P
-    → Type 0
-MeetsCommand commands flushes attributes old lun cdb payload reply new =
-    MeetsRequest commands flushes attributes (request_of cdb) old lun cdb payload reply new
+abbrev pub MeetsCommand : {P : Type 0} → Commands P → UnitFlushes P → ThinUnits P → Attributes → P → ℕ → List ℕ
+    → List ℕ → Reply → P → Type 0
+MeetsCommand commands flushes thin attributes old lun cdb payload reply new =
+    MeetsRequest commands flushes thin attributes (request_of cdb) old lun cdb payload reply new

@@ -1,5 +1,5 @@
 -- What a port tells in answer to a command of the device server's own, and what follows from it.
-use Rattle.std.specs.Prelude.{◌≡◌, ◌≢◌, ◌⊎◌, ℕ, ◌/◌, ◌^◌, ◌==◌, Bool, not, nat_lt, if◌then◌else◌, List, []}
+use Rattle.std.specs.Prelude.{◌≡◌, ◌≢◌, ◌⊎◌, ℕ, ◌/◌, ◌^◌, ◌==◌, Bool, true, false, not, nat_lt, if◌then◌else◌, List, []}
 use Rattle.std.specs.Prelude.{◌∷◌, length, slice_index, Option, Some, None}
 use Rattle.byteorder.specs.Endian.{big_number}
 use Rattle.ar_scsi.specs.declared.reply.Reply.{Reply}
@@ -67,12 +67,18 @@ abbrev pub from_last_block : (ℕ → Reply) → Option ℕ → Reply → Reply
 from_last_block answer None told = handed_on told
 from_last_block answer (Some last) told = answer last
 
+-- the status is GOOD
+abbrev pub is_good : Status → Bool
+is_good Good = true
+is_good CheckCondition = false
+is_good Busy = false
+
 -- the reply is `table`, or BUSY in place of one with data, whose allocation may fail
 abbrev pub IsReturned : Reply → Reply → Type 0
 IsReturned table reply = (reply ≡ table) ⊎ ((reply ≡ busy) × (table.payload ≢ []))
 
 -- The port was given this command of the device server's own, without data, and the reply is what `answer` makes of
--- what the port told.
+-- what the port returned.
 pub record ReturnsBy {P : Type 0} (commands : Commands P) (cdb : List ℕ) (answer : Reply → Reply) (old : P) (lun : ℕ)
     (reply : Reply) (new : P) : Type 0 where
   pub told : Reply

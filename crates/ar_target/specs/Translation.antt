@@ -91,9 +91,12 @@ returned_by (Ok TestReady) = 0
 returned_by (Ok Capacity) = 0
 returned_by (Err sense) = 0
 
--- the bytes of data that a request takes from its host: those of the WRITE that it means, or those that VERIFY compares
+-- the bytes of data that a request takes from its host: those of the WRITE that it means, those that VERIFY compares,
+-- an UNMAP's list, or a WRITE SAME's block
 abbrev pub taken_by_request : Request → List ℕ → ℕ
 taken_by_request request.Given cdb = taken_by (reading cdb)
 taken_by_request (request.Transfer own) cdb = taken_by (reading own)
 taken_by_request (request.Verify own true) cdb = returned_by (reading own)
+taken_by_request (request.Unmap len) cdb = len
+taken_by_request (request.WriteSame same) cdb = if same.has_block then 512 else 0
 taken_by_request other cdb = 0

@@ -7,6 +7,7 @@ use Rattle.ar_target.specs.declared.attributes.Attributes.{Attributes}
 use Rattle.ar_target.specs.declared.request.VpdPage.{VpdPage}
 use Rattle.ar_target.specs.declared.request.VpdPage.TheVariants.{SupportedPages, UnitSerialNumber, DeviceIdentification}
 use Rattle.ar_target.specs.declared.request.VpdPage.TheVariants.{BlockLimits, BlockDeviceCharacteristics}
+use Rattle.ar_target.specs.declared.request.VpdPage.TheVariants.{LogicalBlockProvisioning}
 
 -- the hexadecimal digit of a number below 16, in ASCII
 unfoldable pub hex_digit : ℕ → ℕ
@@ -27,7 +28,7 @@ serial_number array host lun = hex_digits (unit_name array host lun)
 
 -- Supported VPD pages (SPC-3, Supported VPD pages): the codes of the pages, ascending
 abbrev pub supported_pages : List ℕ
-supported_pages = 0x00 ∷ 0x00 ∷ 0x00 ∷ 0x05 ∷ 0x00 ∷ 0x80 ∷ 0x83 ∷ 0xB0 ∷ 0xB1 ∷ []
+supported_pages = 0x00 ∷ 0x00 ∷ 0x00 ∷ 0x06 ∷ 0x00 ∷ 0x80 ∷ 0x83 ∷ 0xB0 ∷ 0xB1 ∷ 0xB2 ∷ []
 
 -- the same at a LUN without a unit: PERIPHERAL QUALIFIER 011b, PERIPHERAL DEVICE TYPE 1Fh, and this page alone (SPC-3,
 -- INQUIRY command and Standard INQUIRY data)
@@ -55,8 +56,8 @@ naa_designator array host lun = (0x01 ∷ 0x03 ∷ 0x00 ∷ 0x08 ∷ 0x30 ∷ 0x
 abbrev pub port_name : ℕ → List ℕ
 port_name host = codes "iqn.2026-11.example.autoraid:host" ++ ((48 + host % 10) ∷ codes ",t,0x0001")
 
--- designators of the target port, over iSCSI (PIV, PROTOCOL IDENTIFIER 5h): relative target port 1, target port group 1,
--- and the port's name with a zero byte (SPC-4, Relative target port, Target port group and SCSI name string
+-- designators of the target port, over iSCSI (PIV, PROTOCOL IDENTIFIER 5h): relative target port 1, target port group
+-- 1, and the port's name with a zero byte (SPC-4, Relative target port, Target port group and SCSI name string
 -- designator formats)
 abbrev pub port_designators : ℕ → List ℕ
 port_designators host =
@@ -83,13 +84,28 @@ port_groups =
 abbrev pub optimal_sectors : ℕ → ℕ
 optimal_sectors block = if block == 0 then 0 else max block (2048 - 2048 % block)
 
--- Block Limits (SBC-2, Block Limits VPD page, as long as the standard data claim no SBC-3): OPTIMAL TRANSFER LENGTH
--- GRANULARITY is the array's block, MAXIMUM TRANSFER LENGTH 65,535 blocks, OPTIMAL TRANSFER LENGTH about 1 MiB
+-- the first half of Block Limits: WSNZ (WRITE SAME of no blocks is refused), OPTIMAL TRANSFER LENGTH GRANULARITY is the
+-- array's block, MAXIMUM TRANSFER LENGTH 65,535 blocks, OPTIMAL TRANSFER LENGTH about 1 MiB, MAXIMUM UNMAP LBA COUNT
+-- 2^20 blocks in up to 256 descriptors, and OPTIMAL UNMAP GRANULARITY the array's block
+abbrev pub transfer_limits : ℕ → List ℕ
+transfer_limits block =
+    (0x00 ∷ 0xB0 ∷ 0x00 ∷ 0x3C ∷ 0x01 ∷ 0x00 ∷ [])
+    ++ (to_be_bytes w16 block
+    ++ ((0x00 ∷ 0x00 ∷ 0xFF ∷ 0xFF ∷ to_be_bytes w32 (optimal_sectors block))
+    ++ (0x00 ∷ 0x00 ∷ 0x00 ∷ 0x00 ∷ 0x00 ∷ 0x10 ∷ 0x00 ∷ 0x00 ∷ 0x00 ∷ 0x00 ∷ 0x01 ∷ 0x00 ∷ 0x00 ∷ 0x00
+    ∷ to_be_bytes w16 block)))
+
+-- Block Limits (SBC-3, Block Limits VPD page): the second half has UGAVALID, UNMAP GRANULARITY ALIGNMENT 0, and MAXIMUM
+-- WRITE SAME LENGTH 2^20 blocks
 unfoldable pub block_limits : ℕ → List ℕ
-block_limits block_sectors =
-    (0x00 ∷ 0xB0 ∷ 0x00 ∷ 0x0C ∷ 0x00 ∷ 0x00 ∷ [])
-    ++ (to_be_bytes w16 block_sectors
-    ++ (0x00 ∷ 0x00 ∷ 0xFF ∷ 0xFF ∷ to_be_bytes w32 (optimal_sectors block_sectors)))
+block_limits block =
+    transfer_limits block
+    ++ ((0x80 ∷ 0x00 ∷ 0x00 ∷ 0x00 ∷ 0x00 ∷ 0x00 ∷ 0x00 ∷ 0x00 ∷ 0x00 ∷ 0x10 ∷ []) ++ replicate 22 0)
+
+-- Logical Block Provisioning (SBC-3, Logical Block Provisioning VPD page): LBPU, LBPWS and LBPWS10, blocks are unmapped
+-- by UNMAP and by either WRITE SAME; LBPRZ, they read as zeros; PROVISIONING TYPE 010b, thin
+abbrev pub logical_block_provisioning : List ℕ
+logical_block_provisioning = 0x00 ∷ 0xB2 ∷ 0x00 ∷ 0x04 ∷ 0x00 ∷ 0xE4 ∷ 0x02 ∷ 0x00 ∷ []
 
 -- Block Device Characteristics (SBC-3, Block Device Characteristics VPD page): MEDIUM ROTATION RATE 0001h, a medium
 -- that doesn't rotate; no nominal form factor
@@ -103,3 +119,4 @@ vpd_data attributes lun UnitSerialNumber = unit_serial_number attributes.array a
 vpd_data attributes lun DeviceIdentification = device_identification attributes.array attributes.host lun
 vpd_data attributes lun BlockLimits = block_limits attributes.block_sectors
 vpd_data attributes lun BlockDeviceCharacteristics = block_device_characteristics
+vpd_data attributes lun LogicalBlockProvisioning = logical_block_provisioning

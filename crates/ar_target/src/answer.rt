@@ -1,5 +1,5 @@
 // The answers that are made of one reply of the port.
-ghost use Rattle.std.specs.Prelude.{◌≡◌, ◌<◌, ◌≤◌, take, length};
+ghost use Rattle.std.specs.Prelude.{◌≡◌, ◌<◌, ◌≤◌, IfOk, take, length};
 ghost use Rattle.ar_scsi.specs.Reply.{good, check};
 ghost use Rattle.ar_frames.specs.Frame.{IsReply, most_data};
 ghost use Rattle.ar_target.specs.Answer as answer;
@@ -13,13 +13,13 @@ use crate::operations::{all_commands, one_command};
 use crate::request::{ModeSense, TargetReport, VpdPage};
 use crate::told::{cut_reply, handed_on, last_block, presence};
 use crate::vpd::{
-    PORT_GROUPS, absent_pages, block_device_characteristics, block_limits, device_identification,
-    supported_pages, unit_serial_number,
+    LOGICAL_BLOCK_PROVISIONING, PORT_GROUPS, absent_pages, block_device_characteristics,
+    block_limits, device_identification, supported_pages, unit_serial_number,
 };
 use ar_scsi::{Reply, Sense, Status, sense18};
 use byteorder::{BigEndian, ByteOrder};
 use bytes::Bytes;
-use std::alloc::Global;
+use std::alloc::{AllocError, Global};
 
 const NO_SENSE: Sense = Sense {
     key: 0x00,
@@ -90,6 +90,7 @@ fn page_reply(alloc: Global, attributes: &Attributes, lun: u8, page: VpdPage, le
         VpdPage::BlockDeviceCharacteristics => {
             cut_reply(alloc, &block_device_characteristics(), len)
         }
+        VpdPage::LogicalBlockProvisioning => cut_reply(alloc, &LOGICAL_BLOCK_PROVISIONING, len),
     }
 }
 
@@ -142,6 +143,7 @@ fn long_capacity_data(block_sectors: u16, last: u32) -> [u8; 32]
     let mut bytes = [0; 32];
     bytes[10] = 0x02;
     bytes[13] = block_exponent(block_sectors);
+    bytes[14] = 0xC0;
     BigEndian::write_u64(&mut bytes, u64::from(last));
     bytes
 }
@@ -198,52 +200,51 @@ fn report_reply(alloc: Global, report: TargetReport, len: usize) -> Reply
     }
 }
 
-/// The answer to INQUIRY of the standard data: the port's own but for target port groups and queues.
-pub(crate) fn answer_standard(alloc: Global, told: Reply) -> Reply
+/// What standard INQUIRY data have from byte 36 on: four VERSION DESCRIPTORS at 58, SAM-3, iSCSI, SPC-3 and SBC-3.
+const VERSION_DESCRIPTORS: [u8; 38] = [
+    0, 0, 0, 0, 0, 0, 0, 0, 0, 0, 0, 0, 0, 0, 0, 0, 0, 0, 0, 0, 0, 0, 0x00, 0x60, 0x09, 0x60, 0x03,
+    0x00, 0x04, 0xC0, 0, 0, 0, 0, 0, 0, 0, 0,
+];
+
+/// The answer to INQUIRY of the standard data: the port's own, with target port groups, queues and versions.
+pub(crate) fn answer_standard(alloc: Global, len: u16, told: Reply) -> Reply
     requires { IsReply told }
-    ensures answer { IsReturned (answer.standard_answer told) result }
+    ensures answer { IsReturned (answer.standard_answer len told) result }
     ensures reply { IsReply result }
 {
     match presence(&told) {
-        Some(true) => standard_cut(alloc, told.payload.as_slice()),
+        Some(true) => standard_reply(alloc, len, told.payload.as_slice()),
         Some(false) | None => told,
     }
 }
 
-// The same of data that may be none.
-fn standard_cut(alloc: Global, told: &[u8]) -> Reply
-    requires { length told.now ≤ most_data }
-    ensures answer { IsReturned (good (answer.over_target_port told.now)) result }
+// GOOD with standard INQUIRY data of a unit at a target port, or BUSY if out of memory. Without bytes to return nothing
+// is allocated.
+fn standard_reply(alloc: Global, len: u16, told: &[u8]) -> Reply
+    ensures answer { IsReturned (good (take len (answer.over_target_port told.now))) result }
     ensures reply { IsReply result }
 {
-    if told.is_empty() {
-        Reply::good(Bytes::new())
-    } else {
-        standard_reply(alloc, told)
+    if len == 0 {
+        return Reply::good(Bytes::new());
+    }
+    match over_target_port(alloc, told) {
+        Ok(bytes) => cut_reply(alloc, &bytes, usize::from(len)),
+        Err(_) => Reply::busy(),
     }
 }
 
-// GOOD with standard INQUIRY data of a unit behind a target port, or BUSY if out of memory.
-fn standard_reply(alloc: Global, told: &[u8]) -> Reply
-    requires some { 0 < length told.now }
-    requires short { length told.now ≤ most_data }
-    ensures answer { IsReturned (good (answer.over_target_port told.now)) result }
-    ensures reply { IsReply result }
+// Standard INQUIRY data of a unit at a target port. Fails if out of memory.
+#[tactic(auto, unfolding(crate::specs::Answer::over_target_port))]
+fn over_target_port(alloc: Global, told: &[u8]) -> Result<Vec<u8>, AllocError>
+    ensures data { IfOk result (λ bytes. bytes.items ≡ answer.over_target_port told.now) }
 {
     let mut bytes = Vec::new(alloc);
-    if bytes.extend_from_slice(told).is_err() {
-        return Reply::busy();
-    }
-    if bytes.len() > 5 {
-        bytes[5] = 0x10;
-    }
-    if bytes.len() > 7 {
-        bytes[7] = 0x02;
-    }
-    match Bytes::from_vec(bytes) {
-        Ok(payload) => Reply::good(payload),
-        Err(_) => Reply::busy(),
-    }
+    bytes.extend_from_slice(told)?;
+    bytes.extend_from_slice(&VERSION_DESCRIPTORS)?;
+    bytes[4] = 0x45;
+    bytes[5] = 0x10;
+    bytes[7] = 0x02;
+    Ok(bytes)
 }
 
 /// VERIFY: MISCOMPARE, MISCOMPARE DURING VERIFY OPERATION.
@@ -253,7 +254,7 @@ pub const MISCOMPARE: Sense = Sense {
     ascq: 0x00,
 };
 
-/// The answer to VERIFY by what the READ of its blocks told; it compares them with the data that came, or not.
+/// The answer to VERIFY by what the READ of its blocks returned; it compares them with the data that came, or not.
 #[tactic(auto, unfolding(crate::specs::Answer::verify_answer))]
 pub(crate) fn answer_verify(compares: bool, sent: &[u8], told: Reply) -> Reply
     requires { IsReply told }

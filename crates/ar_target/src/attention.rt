@@ -51,7 +51,7 @@ fn reports(request: Request, cdb: &[u8; 16]) -> bool
 {
     match request {
         Request::Given => cdb[0] != 0x12,
-        Request::StandardData => false,
+        Request::StandardData { .. } => false,
         Request::InvalidAtTarget(_) => false,
         Request::Vpd { .. } => false,
         Request::ReportLuns { .. } => false,

@@ -4,7 +4,7 @@ ghost use Rattle.ar_target.specs.DeviceServer.{reset_outcome};
 
 use crate::attention::{Report, make_all_due, make_due, make_report, owes_report, settle};
 use crate::attributes::Attributes;
-use crate::flush_port::FlushPort;
+use crate::discard_port::DiscardPort;
 use crate::request::request_of;
 use crate::reset_port::{ResetOutcome, ResetPort};
 use crate::serve::serve;
@@ -49,7 +49,7 @@ impl<P> DeviceServer<P> {
     }
 }
 
-impl<P: FlushPort> Port for DeviceServer<P> {
+impl<P: DiscardPort> Port for DeviceServer<P> {
     ghost use Rattle.ar_target.specs.DeviceServer.{LogsInAs, ServesAsDevice};
 
     ghost has_login = { λ server. P.has_login server.port };
@@ -59,6 +59,7 @@ impl<P: FlushPort> Port for DeviceServer<P> {
         (record { attributes = new.attributes; pending = new.pending; port = new.port }) };
 
     ghost commands = { λ old lun cdb payload reply new. ServesAsDevice P.commands P.flushes
+        (record { discards = P.discards; runs = P.runs })
         (record { attributes = old.attributes; pending = old.pending; port = old.port }) lun cdb payload reply
         (record { attributes = new.attributes; pending = new.pending; port = new.port }) };
 
@@ -93,7 +94,7 @@ impl<P: FlushPort> Port for DeviceServer<P> {
     }
 }
 
-impl<P: FlushPort> ResetPort for DeviceServer<P> {
+impl<P: DiscardPort> ResetPort for DeviceServer<P> {
     ghost use Rattle.ar_target.specs.DeviceServer.{ResetsUnits};
 
     ghost resets = { λ old lun outcome new. ResetsUnits P.commands

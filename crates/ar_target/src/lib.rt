@@ -1,7 +1,7 @@
 //! What initiators ask of a device server beyond the array's commands, as a `Port` over a `Port`: vital product data,
-//! REPORT LUNS, MODE SENSE, REQUEST SENSE, READ CAPACITY (16), SYNCHRONIZE CACHE, VERIFY, reports on the target, and
-//! other forms of READ and WRITE. Each answer is a function of what the port below tells. It uses no thread, no socket
-//! and no array.
+//! REPORT LUNS, MODE SENSE, REQUEST SENSE, READ CAPACITY (16), GET LBA STATUS, SYNCHRONIZE CACHE, VERIFY, UNMAP, WRITE
+//! SAME, reports on the target, and other forms of READ and WRITE. Each answer is a function of what the port below
+//! tells. It uses no thread, no socket and no array.
 #![tactic(auto)]
 
 ghost use Rattle.ar_target.specs.Laws.{CommandsAreGiven, NamesDiffer, GoodIsFlushed};
@@ -10,10 +10,15 @@ mod answer;
 mod attention;
 mod attributes;
 mod device_server;
+mod discard_port;
+mod discarding;
 mod flush_port;
+mod lba_status;
 mod luns;
 mod mode;
 mod operations;
+mod provisioning;
+mod ranges;
 mod request;
 mod reset_port;
 mod serve;
@@ -25,8 +30,12 @@ pub use answer::MISCOMPARE;
 pub use attention::RESET_OCCURRED;
 pub use attributes::Attributes;
 pub use device_server::DeviceServer;
+pub use discard_port::{BlockRun, DiscardPort};
 pub use flush_port::{FlushOutcome, FlushPort};
 pub use operations::Operation;
+pub use provisioning::{
+    BlockRange, INVALID_FIELD_IN_PARAMETER_LIST, PARAMETER_LIST_LENGTH_ERROR, WriteSame,
+};
 pub use request::{
     ModePages, ModeSense, Request, SAVING_PARAMETERS_NOT_SUPPORTED, TargetReport, VpdPage,
     request_of,

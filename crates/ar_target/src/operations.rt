@@ -14,11 +14,11 @@ pub struct Operation {
 
 /// All commands: COMMAND DATA LENGTH, and a descriptor of eight bytes for each.
 #[tactic(auto, unfolding(crate::specs::Operations::all_commands))]
-pub(crate) fn all_commands() -> [u8; 212]
+pub(crate) fn all_commands() -> [u8; 244]
     ensures { result ≡ table.all_commands }
 {
     [
-        0x00, 0x00, 0x00, 0xD0, //
+        0x00, 0x00, 0x00, 0xF0, //
         0x00, 0, 0, 0x00, 0, 0, 0, 6, //
         0x03, 0, 0, 0x00, 0, 0, 0, 6, //
         0x08, 0, 0, 0x00, 0, 0, 0, 6, //
@@ -33,13 +33,17 @@ pub(crate) fn all_commands() -> [u8; 212]
         0x2E, 0, 0, 0x00, 0, 0, 0, 10, //
         0x2F, 0, 0, 0x00, 0, 0, 0, 10, //
         0x35, 0, 0, 0x00, 0, 0, 0, 10, //
+        0x41, 0, 0, 0x00, 0, 0, 0, 10, //
+        0x42, 0, 0, 0x00, 0, 0, 0, 10, //
         0x5A, 0, 0, 0x00, 0, 0, 0, 10, //
         0x88, 0, 0, 0x00, 0, 0, 0, 16, //
         0x8A, 0, 0, 0x00, 0, 0, 0, 16, //
         0x8E, 0, 0, 0x00, 0, 0, 0, 16, //
         0x8F, 0, 0, 0x00, 0, 0, 0, 16, //
         0x91, 0, 0, 0x00, 0, 0, 0, 16, //
+        0x93, 0, 0, 0x00, 0, 0, 0, 16, //
         0x9E, 0, 0, 0x10, 0, 1, 0, 16, //
+        0x9E, 0, 0, 0x12, 0, 1, 0, 16, //
         0xA0, 0, 0, 0x00, 0, 0, 0, 12, //
         0xA3, 0, 0, 0x0A, 0, 1, 0, 12, //
         0xA3, 0, 0, 0x0C, 0, 1, 0, 12, //
@@ -153,6 +157,8 @@ fn usage_middle(code: u8) -> Option<[u8; 16]>
         0x2E => Some(usage_10(0x2E, 0xF6, 0xFF, 0xFF, 0xFF)),
         0x2F => Some(usage_10(0x2F, 0xF6, 0xFF, 0xFF, 0xFF)),
         0x35 => Some(usage_10(0x35, 0x00, 0xFF, 0xFF, 0xFF)),
+        0x41 => Some(usage_10(0x41, 0xFE, 0xFF, 0xFF, 0xFF)),
+        0x42 => Some(usage_10(0x42, 0x01, 0x00, 0x00, 0xFF)),
         0x5A => Some(usage_10(0x5A, 0x08, 0xFF, 0x00, 0xFF)),
         _ => None,
     }
@@ -167,6 +173,7 @@ fn usage_long(code: u8) -> Option<[u8; 16]>
         0x8E => Some(usage_16(0x8E, 0xF6, 0x00)),
         0x8F => Some(usage_16(0x8F, 0xF6, 0x00)),
         0x91 => Some(usage_16(0x91, 0x00, 0x00)),
+        0x93 => Some(usage_16(0x93, 0xFF, 0x00)),
         0xA0 => Some(usage_12(0xA0, 0x00, 0xFF, 0x00, 0x00)),
         0xA8 => Some(usage_12(0xA8, 0xF8, 0xFF, 0xFF, 0xFF)),
         0xAA => Some(usage_12(0xAA, 0xF8, 0xFF, 0xFF, 0xFF)),
@@ -180,6 +187,8 @@ fn usage_with_action(code: u8, action: u16) -> Option<[u8; 16]>
     if code == 0x9E {
         if action == 0x10 {
             Some(usage_16(0x9E, 0x10, 0x01))
+        } else if action == 0x12 {
+            Some(usage_16(0x9E, 0x12, 0x00))
         } else {
             None
         }

@@ -6,6 +6,7 @@ ghost use Rattle.ar_scsi.specs.Field as field;
 ghost use Rattle.ar_target.specs.Request as table;
 
 use crate::operations::Operation;
+use crate::provisioning::{WriteSame, unmap_request, write_same_10_request, write_same_16_request};
 use crate::translation::transfer_request;
 use ar_scsi::{Sense, allocation_length};
 use byteorder::{BigEndian, ByteOrder};
@@ -19,10 +20,12 @@ pub enum VpdPage {
     UnitSerialNumber,
     /// 83h: names of the unit.
     DeviceIdentification,
-    /// B0h: the largest transfer, and the best multiple of blocks.
+    /// B0h: the largest transfer, discard and WRITE SAME, and the best multiple of blocks.
     BlockLimits,
     /// B1h: the medium doesn't rotate.
     BlockDeviceCharacteristics,
+    /// B2h: blocks can be unmapped, and read as zeros then.
+    LogicalBlockProvisioning,
 }
 
 /// The mode pages that a MODE SENSE asks for.
@@ -70,8 +73,9 @@ pub enum TargetReport {
 pub enum Request {
     /// A command for the port, untouched.
     Given,
-    /// INQUIRY of the standard data, which the port returns but for what it doesn't know of: queues and target ports.
-    StandardData,
+    /// INQUIRY of the standard data, which the port returns but for what it doesn't know of: queues, target ports and
+    /// versions of standards.
+    StandardData { len: u16 },
     /// A command that means this one of the array's own.
     Transfer([u8; 16]),
     /// VERIFY of the blocks that this READ returns: it compares them with the data that come with it, or reads them.
@@ -92,8 +96,14 @@ pub enum Request {
     RequestSense { len: u8 },
     /// READ CAPACITY (16).
     LongCapacity { len: u32 },
-    /// SYNCHRONIZE CACHE (10) or (16) of `count` blocks from `lba` on, or of all behind it if `count` is 0.
+    /// GET LBA STATUS from this block on.
+    LbaStatus { lba: u64, len: u32 },
+    /// SYNCHRONIZE CACHE (10) or (16) of `count` blocks from `lba` on, or of all after it if `count` is 0.
     Synchronize { lba: u64, count: u32 },
+    /// UNMAP with a PARAMETER LIST LENGTH of `len` bytes.
+    Unmap { len: u16 },
+    /// WRITE SAME (10) or (16).
+    WriteSame(WriteSame),
     /// START STOP UNIT.
     StartStop,
     /// SEND DIAGNOSTIC of the default self-test, or of nothing.
@@ -127,46 +137,49 @@ pub fn request_of(cdb: &[u8; 16]) -> Request
         0x1B => start_stop_unit(cdb),
         0x1D => send_diagnostic(cdb),
         0xA3 => maintenance_in(cdb),
+        0x42 => unmap_request(cdb),
+        0x41 => write_same_10_request(cdb),
+        0x93 => write_same_16_request(cdb),
         _ => transfer_request(cdb),
     }
 }
 
-// Whether bit `place` of a byte is 1.
-fn flag(byte: u8, place: u32) -> bool
+/// Whether bit `place` of a byte is 1.
+pub(crate) fn flag(byte: u8, place: u32) -> bool
     requires { place < 8 }
     ensures { result ≡ (bit_at byte place == 1) }
 {
     byte >> place & 1 == 1
 }
 
-// NACA, bit 2 of the CONTROL byte.
-fn naca(control: u8) -> bool
+/// NACA, bit 2 of the CONTROL byte.
+pub(crate) fn naca(control: u8) -> bool
     ensures { result ≡ (bit_at control 2 == 1) }
 {
     flag(control, 2)
 }
 
-// The number in the two bytes from byte `i` on.
+/// The number in the two bytes from byte `i` on.
 #[tactic(auto, unfolding(ar_scsi::specs::Field::number))]
-fn number_16(cdb: &[u8; 16], i: usize) -> u16
+pub(crate) fn number_16(cdb: &[u8; 16], i: usize) -> u16
     requires { i ≤ 14 }
     ensures { result ≡ field.number i 2 cdb.now }
 {
     BigEndian::read_u16(&cdb[i..])
 }
 
-// The number in the four bytes from byte `i` on.
+/// The number in the four bytes from byte `i` on.
 #[tactic(auto, unfolding(ar_scsi::specs::Field::number))]
-fn number_32(cdb: &[u8; 16], i: usize) -> u32
+pub(crate) fn number_32(cdb: &[u8; 16], i: usize) -> u32
     requires { i ≤ 12 }
     ensures { result ≡ field.number i 4 cdb.now }
 {
     BigEndian::read_u32(&cdb[i..])
 }
 
-// The number in the eight bytes from byte `i` on.
+/// The number in the eight bytes from byte `i` on.
 #[tactic(auto, unfolding(ar_scsi::specs::Field::number))]
-fn number_64(cdb: &[u8; 16], i: usize) -> u64
+pub(crate) fn number_64(cdb: &[u8; 16], i: usize) -> u64
     requires { i ≤ 8 }
     ensures { result ≡ field.number i 8 cdb.now }
 {
@@ -190,7 +203,9 @@ fn inquiry(cdb: &[u8; 16]) -> Request
     ensures suits { table.SuitsRequest result }
 {
     if !flag(cdb[1], 0) {
-        return Request::StandardData;
+        return Request::StandardData {
+            len: allocation_length(cdb),
+        };
     }
     if naca(cdb[5]) {
         return Request::Given;
@@ -214,6 +229,7 @@ fn vpd_page_of(code: u8) -> Option<VpdPage>
         0x83 => Some(VpdPage::DeviceIdentification),
         0xB0 => Some(VpdPage::BlockLimits),
         0xB1 => Some(VpdPage::BlockDeviceCharacteristics),
+        0xB2 => Some(VpdPage::LogicalBlockProvisioning),
         _ => None,
     }
 }
@@ -291,10 +307,22 @@ fn request_sense(cdb: &[u8; 16]) -> Request
     }
 }
 
-// SERVICE ACTION IN (16), of which READ CAPACITY (16) is supported.
+// GET LBA STATUS.
+fn lba_status(cdb: &[u8; 16]) -> Request
+    ensures { result ≡ table.lba_status_request cdb.now }
+{
+    let lba = number_64(cdb, 2);
+    let len = number_32(cdb, 10);
+    where_fields_valid(!naca(cdb[15]), Request::LbaStatus { lba, len })
+}
+
+// SERVICE ACTION IN (16), of which GET LBA STATUS and READ CAPACITY (16) are supported.
 fn service_action_in_16(cdb: &[u8; 16]) -> Request
     ensures { result ≡ table.service_action_in_16_request cdb.now }
 {
+    if cdb[1] % 32 == 0x12 {
+        return lba_status(cdb);
+    }
     let valid_address = flag(cdb[14], 0) || number_64(cdb, 2) == 0;
     let valid = cdb[1] % 32 == 0x10 && !naca(cdb[15]) && valid_address;
     let len = number_32(cdb, 10);
@@ -317,11 +345,16 @@ fn synchronize_cache_16(cdb: &[u8; 16]) -> Request
     where_fields_valid(!naca(cdb[15]), Request::Synchronize { lba, count })
 }
 
-// START STOP UNIT: the unit is always ready, whatever is asked for.
+// START STOP UNIT: the unit is always ready, whatever is asked for. A stop flushes it, unless NO_FLUSH is set.
 fn start_stop_unit(cdb: &[u8; 16]) -> Request
     ensures { result ≡ table.start_stop_unit_request cdb.now }
 {
-    where_fields_valid(!naca(cdb[5]), Request::StartStop)
+    let request = if !flag(cdb[4], 0) && !flag(cdb[4], 2) {
+        Request::Synchronize { lba: 0, count: 0 }
+    } else {
+        Request::StartStop
+    };
+    where_fields_valid(!naca(cdb[5]), request)
 }
 
 // SEND DIAGNOSTIC: the default self-test, or nothing; no parameters, and no other self-test.

@@ -9,7 +9,10 @@ use crate::answer::{
     answer_vpd, refuse,
 };
 use crate::attributes::Attributes;
+use crate::discard_port::DiscardPort;
+use crate::discarding::{unmap, write_same};
 use crate::flush_port::{FlushOutcome, FlushPort};
+use crate::lba_status::lba_status;
 use crate::luns::{list_reply, report_luns};
 use crate::request::Request;
 use crate::told::{CAPACITY, INQUIRY, READY, ask, handed_on, last_block};
@@ -19,7 +22,7 @@ use std::alloc::Global;
 
 /// Does what a request asks for at the unit of `lun`. `cdb` is its command block, and `payload` the data that came with
 /// it, which the device server's own requests ignore.
-pub(crate) fn serve<P: FlushPort>(
+pub(crate) fn serve<P: DiscardPort>(
     alloc: Global,
     port: &mut P,
     attributes: &Attributes,
@@ -30,14 +33,18 @@ pub(crate) fn serve<P: FlushPort>(
 ) -> Reply
     requires logged { P.has_login port.old ≡ true }
     requires suits { SuitsRequest request }
-    ensures answers { serving.MeetsRequest P.commands P.flushes attributes.now request port.old lun cdb.now payload
-        result port.new }
+    ensures answers { serving.MeetsRequest P.commands P.flushes (record { discards = P.discards; runs = P.runs })
+        attributes.now request port.old lun cdb.now payload result port.new }
     ensures reply { IsReply result }
     ensures stays { P.has_login port.new ≡ true }
 {
     match request {
         Request::Given => port.command(lun, cdb, payload),
-        Request::StandardData => answer_standard(alloc, port.command(lun, cdb, payload)),
+        Request::StandardData { len } => answer_standard(
+            alloc,
+            len,
+            port.command(lun, cdb, payload),
+        ),
         Request::Transfer(own) => port.command(lun, &own, payload),
         Request::Verify { read, compares } => {
             answer_verify(compares, payload.as_slice(), ask(port, lun, &read))
@@ -62,7 +69,17 @@ pub(crate) fn serve<P: FlushPort>(
             let block_sectors = attributes.block_sectors;
             answer_capacity(alloc, block_sectors, len, ask(port, lun, &CAPACITY))
         }
+        Request::LbaStatus { lba, len } => {
+            lba_status(alloc, port, attributes.block_sectors, lba, len, lun)
+        }
         Request::Synchronize { lba, count } => synchronize(port, lun, lba, count),
+        Request::Unmap { len } => {
+            unmap(port, attributes.block_sectors, len, lun, payload.as_slice())
+        }
+        Request::WriteSame(same) => {
+            let block_sectors = attributes.block_sectors;
+            write_same(alloc, port, block_sectors, same, lun, payload.as_slice())
+        }
         Request::StartStop | Request::SelfTest => ask(port, lun, &READY),
         Request::Report { of, len } => answer_report(alloc, of, len, ask(port, lun, &CAPACITY)),
     }

@@ -85,6 +85,16 @@ pub(crate) fn handed_on(told: Reply) -> Reply
     }
 }
 
+/// Whether a reply is GOOD.
+pub(crate) fn is_good(reply: &Reply) -> bool
+    ensures { result ≡ spec.is_good reply.now.status }
+{
+    match reply.status {
+        Status::Good => true,
+        Status::CheckCondition | Status::Busy => false,
+    }
+}
+
 /// GOOD with the first `len` of `bytes`, or BUSY if out of memory.
 pub(crate) fn cut_reply(alloc: Global, bytes: &[u8], len: usize) -> Reply
     requires { min len (length bytes.now) ≤ most_data }

@@ -152,7 +152,8 @@ fn write_and_verify_by(check: u8, write: [u8; 16]) -> Request
     }
 }
 
-/// The number of bytes that a command block takes from its host: those of the blocks that it writes, or compares.
+/// The number of bytes that a command block takes from its host: those of the blocks that it writes, or compares, or of
+/// an UNMAP's list.
 pub fn data_out_len(cdb: &[u8; 16]) -> u32
     ensures len { result ≡ table.taken_by_request (request_of cdb.now) cdb.now }
     ensures short { result < 2 ^ 25 }
@@ -164,6 +165,8 @@ pub fn data_out_len(cdb: &[u8; 16]) -> u32
             read,
             compares: true,
         } => returned_by(&read),
+        Request::Unmap { len } => u32::from(len),
+        Request::WriteSame(same) if same.has_block => 512,
         _ => 0,
     }
 }

@@ -3,10 +3,10 @@ ghost use Rattle.std.specs.Prelude.{◌≡◌, ◌<◌};
 ghost use Rattle.ar_target.specs.Vpd as page;
 
 /// Supported VPD pages (SPC-3, Supported VPD pages).
-pub(crate) fn supported_pages() -> [u8; 9]
+pub(crate) fn supported_pages() -> [u8; 10]
     ensures { result ≡ page.supported_pages }
 {
-    [0x00, 0x00, 0x00, 0x05, 0x00, 0x80, 0x83, 0xB0, 0xB1]
+    [0x00, 0x00, 0x00, 0x06, 0x00, 0x80, 0x83, 0xB0, 0xB1, 0xB2]
 }
 
 /// Supported VPD pages at a LUN without a unit: this page alone.
@@ -114,32 +114,34 @@ fn optimal_sectors(block: u16) -> u32
     block.max(2048 - 2048 % block)
 }
 
-/// Block Limits (SBC-2, Block Limits VPD page), for an array with blocks of `block_sectors` sectors.
+/// Block Limits (SBC-3, Block Limits VPD page), for an array with blocks of `block_sectors` sectors.
 #[tactic(auto, unfolding(crate::specs::Vpd::block_limits))]
-pub(crate) fn block_limits(block_sectors: u16) -> [u8; 16]
+pub(crate) fn block_limits(block_sectors: u16) -> [u8; 64]
     ensures { result ≡ page.block_limits block_sectors }
 {
-    let granularity = block_sectors.to_be_bytes();
+    let mut bytes = [0; 64];
+    bytes[..32].copy_from_slice(&transfer_limits(block_sectors));
+    bytes[32] = 0x80;
+    bytes[41] = 0x10;
+    bytes
+}
+
+// The first half of the page: WSNZ, the limits of a transfer and of an UNMAP.
+fn transfer_limits(block_sectors: u16) -> [u8; 32]
+    ensures { result ≡ page.transfer_limits block_sectors }
+{
+    let block = block_sectors.to_be_bytes();
     let optimal = optimal_sectors(block_sectors).to_be_bytes();
     [
-        0x00,
-        0xB0,
-        0x00,
-        0x0C,
-        0x00,
-        0x00,
-        granularity[0],
-        granularity[1],
-        0x00,
-        0x00,
-        0xFF,
-        0xFF,
-        optimal[0],
-        optimal[1],
-        optimal[2],
-        optimal[3],
+        0x00, 0xB0, 0x00, 0x3C, 0x01, 0x00, block[0], block[1], //
+        0x00, 0x00, 0xFF, 0xFF, optimal[0], optimal[1], optimal[2], optimal[3], //
+        0x00, 0x00, 0x00, 0x00, 0x00, 0x10, 0x00, 0x00, //
+        0x00, 0x00, 0x01, 0x00, 0x00, 0x00, block[0], block[1],
     ]
 }
+
+/// Logical Block Provisioning (SBC-3, Logical Block Provisioning VPD page): LBPU, LBPWS, LBPWS10 and LBPRZ; thin.
+pub(crate) const LOGICAL_BLOCK_PROVISIONING: [u8; 8] = [0, 0xB2, 0, 4, 0, 0xE4, 2, 0];
 
 /// Block Device Characteristics (SBC-3, Block Device Characteristics VPD page).
 #[tactic(auto, unfolding(crate::specs::Vpd::block_device_characteristics))]

@@ -11,6 +11,6 @@ returns-in-Entered g c = record {
   };
   login = login_from g.P.Port.logins _ _ c.new.result c.new-2.result.items _ _ _ c.new.ensures c.new-2.ensures.items
       c.in-Entered.ensures.runs;
-  feature = feature_behind g.P.Port.commands g.P.ResetPort.resets _ _ _ _ _ _ _ _ _ _ c.lift_login_limit.ensures
+  feature = feature_behind g.P.Port.commands g.P.ResetPort.resets _ _ _ _ _ _ _ _ _ _ c.lift_limit.ensures
       c.serve_entered-reason.ensures;
 }
