@@ -1,7 +1,7 @@
 -- A line, as its bytes come.
 use Rattle.std.proofs.Common.{◌≡◌, ◌≢◌, ◌∙◌, ◌+◌, ◌-◌, ◌<◌, ◌&&◌, ◌++◌, ℕ, zero, suc, Bool, true, false, cond, ltb}
 use Rattle.std.proofs.Common.{List, [], ◌∷◌, length, Option, Some, None, is_some, refl, sym, ap, subst, append-nil}
-use Rattle.std.proofs.Common.{length-append, inl, inr, arith}
+use Rattle.std.proofs.Common.{length-append, arith}
 use Rattle.std.proofs.lemmas.List.{take_all}
 use Rattle.std.proofs.lemmas.List.Elements.{All-append}
 use Rattle.std.proofs.lemmas.List.Folds.{list_all-append}
@@ -16,7 +16,7 @@ use Rattle.ar_language.specs.declared.fault.FaultKind.TheVariants.{LineTooLong, 
 use Rattle.ar_language.proofs.Parting.{fault_of}
 use Rattle.ar_language.proofs.Going.{sound_line}
 use Rattle.ar_operator.specs.declared.input.Next.TheVariants.{Byte, End, Fault}
-use Rattle.ar_operator.specs.Lines.{seen_behind, ByteIsRead, TakesPart, KeepsLine, LineIsRead, LineSoFar}
+use Rattle.ar_operator.specs.Lines.{seen_behind, ByteIsRead, EndsInLine, TakesPart, KeepsLine, LineIsRead, LineSoFar}
 
 -- ---- what is kept of a line
 
@@ -34,7 +34,7 @@ tells_fault line text kind byte tells = record {
   text_is = λ none. absurd (cc);
 }
 
--- what is wrong with a byte behind a sound text
+-- what is wrong with a byte after a sound text
 wrong_next : (line text : List ℕ) (kind : FaultKind) (byte : ℕ) → IsLine text → KeepsLine line text None
     → part_fault (4096 - length text) (byte ∷ []) ≡ Some kind → KeepsLine (line ++ byte ∷ []) text (Some kind)
 wrong_next line text kind byte whole tells wrong = record {
@@ -151,27 +151,22 @@ module _ (old mid new : SourceState) (text : List ℕ) (fault : Option FaultKind
   comes_whole next = record {
     line = so_far.line;
     takes = record
-        { one = so_far.one; read = inl (Reading-trans old mid new so_far.line (10 ∷ []) false so_far.read next) };
+        { one = so_far.one; read = Reading-trans old mid new so_far.line (10 ∷ []) false so_far.read next };
     tells = so_far.tells;
   }
 
   pub line_ended : (byte : ℕ) → byte ≡ 10 → ByteIsRead mid (Byte byte) new → LineIsRead old text fault new
   line_ended byte is next = comes_whole (subst (λ b. ByteIsRead mid (Byte b) new) is next)
 
-  -- the line ends with the input
-  pub comes_last : 0 < count → ByteIsRead mid End new → LineIsRead old text fault new
-  comes_last some next = record {
-    line = so_far.line;
-    takes = record {
-      one = so_far.one;
-      read = inr (
-        Reading-same old new (so_far.line ++ []) so_far.line false (append-nil so_far.line)
-            (Reading-trans old mid new so_far.line [] false so_far.read next.0),
-        next.1,
-        λ none. absurd (let nothing = ap length none in let many = so_far.count_is in omega arith),
-      );
-    };
-    tells = so_far.tells;
+  -- the input ends in the line
+  pub comes_part : 0 < count → ByteIsRead mid End new → EndsInLine old new
+  comes_part some next = record {
+    part = so_far.line;
+    one = so_far.one;
+    some = λ none. absurd (let nothing = ap length none in let many = so_far.count_is in omega arith);
+    read = Reading-same old new (so_far.line ++ []) so_far.line false (append-nil so_far.line)
+        (Reading-trans old mid new so_far.line [] false so_far.read next.0);
+    ends = next.1;
   }
 
   -- there is no line

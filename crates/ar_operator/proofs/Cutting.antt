@@ -1,4 +1,4 @@
--- No order has more than two arguments, so that those behind the seventh count for nothing.
+-- No order has more than two arguments, so that those after the seventh count for nothing.
 use Rattle.std.proofs.Common.{◌≡◌, ◌∙◌, ◌<◌, ◌≤◌, ◌==◌, ℕ, Bool, true, false, List, [], ◌∷◌, length, take, codes}
 use Rattle.std.proofs.Common.{bytes_eq, Option, Some, None, Result, Ok, Err, MatchBool, refl, sym, ap, subst, arith}
 use Rattle.std.proofs.Common.{ltb, map}
@@ -9,8 +9,8 @@ use Rattle.ar_language.specs.Forms.{Words, is_silent, value}
 use Rattle.ar_operator.specs.declared.order.LineFault.{LineFault}
 use Rattle.ar_operator.specs.declared.order.OperatorOrder.{OperatorOrder}
 use Rattle.ar_operator.specs.declared.order.OperatorOrder.TheVariants.{Fail}
-use Rattle.ar_operator.specs.Orders.{HasFuse, IsFuse, AsksFuse, argument, ReadsArguments, ReadsAlone, ReadsOperatorWord}
-use Rattle.ar_operator.specs.Orders.{ReadsOperatorWords, ReadsOperatorLine, ReadsFirstWord, text_of}
+use Rattle.ar_operator.specs.Orders.{HasForce, HasFuse, IsFuse, AsksFuse, argument, ReadsArguments, ReadsAlone, ReadsOperatorWord}
+use Rattle.ar_operator.specs.Orders.{ReadsOperatorWords, ReadsOperatorLine, ReadsFirstWord, ReadsOut, text_of}
 
 -- a name that is this text is read as it
 pub named : (line name text : List ℕ) (arguments : List (List ℕ)) (r : Result (Option OperatorOrder) LineFault)
@@ -44,6 +44,9 @@ module _ (line name : List ℕ) (xs ys : List (List ℕ)) (r : Result (Option Op
   no_fuse : (l : List (List ℕ)) → 3 ≤ length l → ¬ HasFuse l
   no_fuse l many = λ has. let count = has.count in absurd (omega arith)
 
+  no_force : (l : List (List ℕ)) → 3 ≤ length l → ¬ HasForce l
+  no_force l many = λ has. let count = has.count in absurd (omega arith)
+
   no_alone : (l : List (List ℕ)) → 3 ≤ length l → ¬ (length l ≡ 0)
   no_alone l many = λ none. absurd (omega arith)
 
@@ -55,11 +58,18 @@ module _ (line name : List ℕ) (xs ys : List (List ℕ)) (r : Result (Option Op
   fuse : ReadsArguments (HasFuse xs) (AsksFuse xs) r → ReadsArguments (HasFuse ys) (AsksFuse ys) r
   fuse = alike (HasFuse xs) (HasFuse ys) (AsksFuse xs) (AsksFuse ys) r (no_fuse xs some) (no_fuse ys more)
 
+  out : ReadsOut line xs r → ReadsOut line ys r
+  out reads = record {
+    forced = λ has. absurd (no_force ys more has);
+    shared = λ _. reads.shared (no_force xs some);
+  }
+
   any_word : ReadsOperatorWord line name xs r → ReadsOperatorWord line name ys r
   any_word =
       row (bytes_eq name (codes "sessions")) _ _ _ _ (alone _) (row (bytes_eq name (codes "counts")) _ _ _ _ (alone _)
+      (row (bytes_eq name (codes "out")) _ _ _ _ out
       (row (bytes_eq name (codes "fail")) _ _ _ _ fuse (row (bytes_eq name (codes "help")) _ _ _ _ (alone _)
-      (row (bytes_eq name (codes "stop")) _ _ _ _ (alone _) (λ shared. shared)))))
+      (row (bytes_eq name (codes "stop")) _ _ _ _ (alone _) (λ shared. shared))))))
 
 -- the first seven arguments decide
 by_first : (line name : List ℕ) (arguments : List (List ℕ)) (r : Result (Option OperatorOrder) LineFault)

@@ -1,6 +1,6 @@
 -- A conversation, as its lines come.
 use Rattle.std.proofs.Common.{◌≡◌, ◌∙◌, ◌+◌, ◌≤◌, ℕ, Bool, true, false, List, [], ◌∷◌, ◌++◌, Option, Some, None, Result}
-use Rattle.std.proofs.Common.{refl, sym, ap, subst, length-append, arith}
+use Rattle.std.proofs.Common.{refl, sym, ap, subst, length-append, inl, inr, arith}
 use Rattle.ar_frames.specs.Stream.{SourceState, SinkState}
 use Rattle.ar_frames.proofs.Streams.{Reading-none}
 use Rattle.ar_frames.specs.declared.fill.Sent.{Sent}
@@ -14,11 +14,11 @@ use Rattle.ar_operator.specs.declared.conversation.OperatorEnd.TheVariants as en
 use Rattle.ar_operator.specs.declared.conversation.LineResult.{LineResult}
 use Rattle.ar_operator.specs.declared.conversation.LineResult.TheVariants.{Answered}
 use Rattle.ar_operator.specs.Controller.{OperatorAnswers}
-use Rattle.ar_operator.specs.Lines.{KeepsLine, LineIsRead, seen_behind}
+use Rattle.ar_operator.specs.Lines.{EndsInLine, KeepsLine, LineIsRead, seen_behind}
 use Rattle.ar_operator.proofs.Coming.{piece_empty}
 use Rattle.ar_operator.specs.Talk.{ClosesTalk, OperatorTalk, Converses, HasTalked, ReadsBytes, Replies, LineIsAnswered}
 use Rattle.ar_operator.specs.Talk.{line_result_by, ConversationState, LeavesOpen, RespondsToLine, Talks, NextIsAnswered}
-use Rattle.ar_operator.specs.Talk.{is_unreadable, line_result_behind}
+use Rattle.ar_operator.specs.Talk.{CutIsAnswered, SendsCut, cut_end, is_unreadable, line_result_behind}
 
 -- what is kept of a line's bytes says what they are read as
 kept : (line text : List ℕ) (fault : Option FaultKind) (read : Result (Option OperatorOrder) LineFault)
@@ -77,10 +77,14 @@ module _ {C : Type 0} (answers : OperatorAnswers C) where
       at false is true Whole responds = record { line = comes.line; responds = responds }
       at true is false Whole responds = record { line = comes.line; unreadable = is; responds = responds }
       at false is false Whole responds = (comes.line, record { responds = responds; is_text = is })
-      at true is true (Part n) responds = record { line = comes.line; stop = true; count = n; responds = responds }
-      at false is true (Part n) responds = record { line = comes.line; stop = true; count = n; responds = responds }
-      at true is false (Part n) responds = record { line = comes.line; stop = false; count = n; responds = responds }
-      at false is false (Part n) responds = record { line = comes.line; stop = false; count = n; responds = responds }
+      at true is true (Part n) responds =
+          inl (record { line = comes.line; stop = true; count = n; responds = responds })
+      at false is true (Part n) responds =
+          inl (record { line = comes.line; stop = true; count = n; responds = responds })
+      at true is false (Part n) responds =
+          inl (record { line = comes.line; stop = false; count = n; responds = responds })
+      at false is false (Part n) responds =
+          inl (record { line = comes.line; stop = false; count = n; responds = responds })
 
   -- the same, with the result by its equation
   pub next_behind : (source source' : SourceState) (sink sink' : SinkState) (old new : C) (text : List ℕ)
@@ -94,6 +98,26 @@ module _ {C : Type 0} (answers : OperatorAnswers C) where
       let after : ConversationState C = record { source = source'; sink = sink'; controller = new } in
       subst (λ r. NextIsAnswered answers before r after) (sym is)
       (next_is_answered source source' sink sink' old new text fault result comes answered)
+
+  -- a line that was cut
+  cut_closes : (source source' : SourceState) (sink sink' : SinkState) (held : C) (sent : Sent)
+      → EndsInLine source source' → SendsCut sink sink' sent
+      → ClosesTalk answers (record { source = source; sink = sink; controller = held }) (cut_end sent)
+      (record { source = source'; sink = sink'; controller = held })
+  cut_closes source source' sink sink' held Whole ends sends =
+      record { ends = ends; sends = sends; controller = refl }
+  cut_closes source source' sink sink' held (Part n) ends sends =
+      inr (n, record { ends = ends; sends = sends; controller = refl })
+
+  pub next_cut : (source source' : SourceState) (sink sink' : SinkState) (held : C) (result : LineResult)
+      → EndsInLine source source' → CutIsAnswered sink result sink'
+      → NextIsAnswered answers (record { source = source; sink = sink; controller = held }) result
+      (record { source = source'; sink = sink'; controller = held })
+  next_cut source source' sink sink' held result ends answered =
+      let before : ConversationState C = record { source = source; sink = sink; controller = held } in
+      let after : ConversationState C = record { source = source'; sink = sink'; controller = held } in
+      subst (λ r. NextIsAnswered answers before r after) (sym answered.result_is)
+      (cut_closes source source' sink sink' held answered.sent ends answered.sends)
 
   -- one more line
   talks_more : (lines : List (List ℕ)) (line : List ℕ) (old middle new : ConversationState C)

@@ -1,4 +1,5 @@
 pub mod Controller
+pub mod Early
 pub mod Executing
 pub mod Faults
 pub mod Lines

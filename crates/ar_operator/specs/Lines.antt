@@ -1,5 +1,5 @@
 -- Lines of a stream, byte by byte.
-use Rattle.std.specs.Prelude.{◌≡◌, ◌≢◌, ◌⊎◌, ℕ, Bool, true, false, List, [], ◌∷◌, ◌++◌, length, Option, None}
+use Rattle.std.specs.Prelude.{◌≡◌, ◌≢◌, ℕ, Bool, true, false, List, [], ◌∷◌, ◌++◌, length, Option, None}
 use Rattle.std.specs.Io.KnownBytes.{IsAtEnd, prepend_known}
 use Rattle.ar_frames.specs.Stream.{SourceState, Reading}
 use Rattle.ar_language.specs.Lines.{HasNoEnd, line_fault}
@@ -27,12 +27,18 @@ HasNextByte old ready.Some piece new = Reading old new [] false × (piece ≢ []
 HasNextByte old ready.End piece new = Reading old new [] false × IsAtEnd new.left
 HasNextByte old ready.Fault piece new = Reading old new [] true
 
--- a line was read: with its LF or, at the end of the input, without, and then it isn't empty
+-- a line was read, with its LF
 pub record TakesLine (old new : SourceState) (line : List ℕ) : Type 0 where
   pub one : HasNoEnd line
-  pub read :
-      Reading old new (line ++ 10 ∷ []) false
-      ⊎ (Reading old new line false × IsAtEnd new.left × (line ≢ []))
+  pub read : Reading old new (line ++ 10 ∷ []) false
+
+-- the input ended in a line
+pub record EndsInLine (old new : SourceState) : Type 0 where
+  pub part : List ℕ
+  pub one : HasNoEnd part
+  pub some : part ≢ []
+  pub read : Reading old new part false
+  pub ends : IsAtEnd new.left
 
 -- a part of a line was read, and then a read faulted, or none
 pub record TakesPart (old new : SourceState) (faulted : Bool) : Type 0 where
@@ -55,6 +61,7 @@ pub record LineIsRead (old : SourceState) (text : List ℕ) (fault : Option Faul
 abbrev pub LineReadIs : SourceState → LineRead → List ℕ → Option FaultKind → SourceState → Type 0
 LineReadIs old line_read.Line text fault new = LineIsRead old text fault new
 LineReadIs old line_read.End text fault new = Reading old new [] false × IsAtEnd new.left
+LineReadIs old line_read.Cut text fault new = EndsInLine old new
 LineReadIs old line_read.Fault text fault new = TakesPart old new true
 LineReadIs old line_read.Endless text fault new = TakesPart old new false
 

@@ -14,7 +14,7 @@ use Rattle.ar_language.specs.Words.{IsNumber}
 use Rattle.ar_language.specs.Forms.{IsNumberOf, ReadsLine, Words, is_silent, value}
 use Rattle.ar_script.specs.Orders.{IsView}
 use Rattle.ar_operator.specs.declared.order.OperatorOrder.{OperatorOrder}
-use Rattle.ar_operator.specs.declared.order.OperatorOrder.TheVariants.{Act, Ask, Sessions, Counts, Fail, Help, Stop}
+use Rattle.ar_operator.specs.declared.order.OperatorOrder.TheVariants.{Act, Ask, ForceOut, Sessions, Counts, Fail, Help, Stop}
 use Rattle.ar_operator.specs.declared.order.LineFault.{LineFault}
 use Rattle.ar_operator.specs.declared.order.LineFault.TheVariants.{Line, NotOperatorWord}
 
@@ -94,15 +94,28 @@ ReadsArguments Form Asked (Err fault) = (fault ≡ Line BadArgument) × (¬ Form
 abbrev pub ReadsAlone : List (List ℕ) → OperatorOrder → Result (Option OperatorOrder) LineFault → Type 0
 ReadsAlone arguments order result = ReadsArguments (length arguments ≡ 0) (λ given. given ≡ order) result
 
+-- `D force`, a disk that is taken out even if the array fails
+pub record HasForce (arguments : List (List ℕ)) : Type 0 where
+  pub count : length arguments ≡ 2
+  pub disk : IsNumberOf 8 (argument arguments 0)
+  pub force : argument arguments 1 ≡ codes "force"
+
+-- `out`: with `force`, or as a script has it
+pub record ReadsOut (line : List ℕ) (arguments : List (List ℕ)) (result : Result (Option OperatorOrder) LineFault)
+    : Type 0 where
+  pub forced : HasForce arguments → result ≡ Ok (Some (ForceOut (value (argument arguments 0))))
+  pub shared : (¬ HasForce arguments) → ReadsSharedWord line (codes "out") result
+
 -- the operator's own words, and then those that it shares with scripts
 abbrev pub ReadsOperatorWord : List ℕ → List ℕ → List (List ℕ) → Result (Option OperatorOrder) LineFault → Type 0
 ReadsOperatorWord line name arguments result =
     MatchBool (bytes_eq name (codes "sessions")) (ReadsAlone arguments Sessions result) (
     MatchBool (bytes_eq name (codes "counts")) (ReadsAlone arguments Counts result) (
+    MatchBool (bytes_eq name (codes "out")) (ReadsOut line arguments result) (
     MatchBool (bytes_eq name (codes "fail")) (ReadsArguments (HasFuse arguments) (AsksFuse arguments) result) (
     MatchBool (bytes_eq name (codes "help")) (ReadsAlone arguments Help result) (
     MatchBool (bytes_eq name (codes "stop")) (ReadsAlone arguments Stop result) (
-    ReadsSharedWord line name result)))))
+    ReadsSharedWord line name result))))))
 
 -- words, of which the first names the order
 abbrev pub ReadsFirstWord : List ℕ → Words → Result (Option OperatorOrder) LineFault → Type 0

@@ -11,7 +11,7 @@ use Rattle.ar_language.specs.declared.fault.FaultKind.TheVariants.{NoMemory}
 use Rattle.ar_operator.specs.declared.order.OperatorOrder.{OperatorOrder}
 use Rattle.ar_operator.specs.declared.order.OperatorOrder.TheVariants as orders
 use Rattle.ar_operator.specs.declared.order.LineFault.{LineFault}
-use Rattle.ar_operator.specs.declared.order.LineFault.TheVariants.{Line}
+use Rattle.ar_operator.specs.declared.order.LineFault.TheVariants.{Line, Cut}
 use Rattle.ar_operator.specs.declared.conversation.OperatorEnd.{OperatorEnd}
 use Rattle.ar_operator.specs.declared.conversation.OperatorEnd.TheVariants as ends
 use Rattle.ar_operator.specs.declared.conversation.Response.{Response}
@@ -20,7 +20,7 @@ use Rattle.ar_operator.specs.declared.conversation.LineResult.{LineResult}
 use Rattle.ar_operator.specs.declared.conversation.LineResult.TheVariants.{Answered, Ended}
 use Rattle.ar_operator.specs.Controller.{OperatorAnswers}
 use Rattle.ar_operator.specs.Faults.{line_fault_text}
-use Rattle.ar_operator.specs.Lines.{TakesLine, TakesPart, seen_behind}
+use Rattle.ar_operator.specs.Lines.{EndsInLine, TakesLine, TakesPart, seen_behind}
 use Rattle.ar_operator.specs.Orders.{ReadsOperatorLine}
 
 -- the answer to a line with a fault
@@ -170,6 +170,30 @@ pub record IsEndedByLine {C : Type 0} (answers : OperatorAnswers C) (old new : C
   pub unreadable : is_unreadable (line_fault line) ≡ true
   pub responds : RespondsToLine answers old line false Whole new
 
+-- how a conversation ends after the answer to a line that was cut
+abbrev pub cut_end : Sent → OperatorEnd
+cut_end Whole = ends.CutLine
+cut_end (Part n) = ends.Write
+
+-- the fault of a cut line was written, whole or up to a fault
+pub record SendsCut (sink sink' : SinkState) (sent : Sent) : Type 0 where
+  pub answer : List ℕ
+  pub answer_is : (answer ≡ fault_answer Cut) ⊎ (answer ≡ no_memory)
+  pub sending : Sending sink sink' answer sent
+
+-- the same, by the result
+pub record CutIsAnswered (sink : SinkState) (result : LineResult) (sink' : SinkState) : Type 0 where
+  pub sent : Sent
+  pub sends : SendsCut sink sink' sent
+  pub result_is : result ≡ Ended (cut_end sent)
+
+-- the input ended in a line, which was answered by that fault and not given to the controller
+pub record RefusesCut {C : Type 0} (old : ConversationState C) (sent : Sent) (new : ConversationState C)
+    : Type 0 where
+  pub ends : EndsInLine old.source new.source
+  pub sends : SendsCut old.sink new.sink sent
+  pub controller : new.controller ≡ old.controller
+
 -- how a conversation ends
 abbrev pub ClosesTalk : {C : Type 0} → OperatorAnswers C → ConversationState C → OperatorEnd → ConversationState C
     → Type 0
@@ -177,8 +201,9 @@ ClosesTalk answers old ends.End new =
     Reading old.source new.source [] false × IsAtEnd new.source.left × IsSilent old new
 ClosesTalk answers old ends.Stop new = IsStoppedByOrder answers old new
 ClosesTalk answers old ends.BadLine new = IsEndedByLine answers old new
+ClosesTalk answers old ends.CutLine new = RefusesCut old Whole new
 ClosesTalk answers old ends.Read new = TakesPart old.source new.source true × IsSilent old new
-ClosesTalk answers old ends.Write new = IsAnswerCut answers old new
+ClosesTalk answers old ends.Write new = IsAnswerCut answers old new ⊎ ((count : ℕ) × RefusesCut old (Part count) new)
 ClosesTalk answers old ends.Bound new = TakesPart old.source new.source false × IsSilent old new
 ClosesTalk answers old ends.NoMemory new = new ≡ old
 
@@ -198,7 +223,7 @@ pub record Converses {C : Type 0} (answers : OperatorAnswers C) (old : Conversat
   pub talks : Talks answers old lines middle
   pub closes : ClosesTalk answers middle end new
 
--- The same over streams. Bytes that were read behind the last line are dropped.
+-- The same over streams. Bytes that were read after the last line are dropped.
 pub record OperatorTalk {C : Type 0} (answers : OperatorAnswers C) (source source' : SourceState)
     (sink sink' : SinkState) (old new : C)
     (end : OperatorEnd) : Type 0 where

@@ -5,7 +5,7 @@ ghost use Rattle.ar_operator.specs.Orders.{IsOperatorOrder};
 ghost use Rattle.ar_operator.specs.Talk.{OperatorTalk, Converses, ExecutesOrder, ReadsBytes, RespondsToBytes};
 ghost use Rattle.ar_operator.specs.Talk.{RespondsToRead, LineIsAnswered, NextIsAnswered, fault_answer, is_stop};
 ghost use Rattle.ar_operator.specs.Talk.{is_unreadable, ends_service, line_result_behind, response_bytes};
-ghost use Rattle.ar_operator.specs.Talk.{line_result_by, no_memory};
+ghost use Rattle.ar_operator.specs.Talk.{CutIsAnswered, cut_end, line_result_by, no_memory};
 
 use crate::input::{Line, LineRead, Piece, read_line};
 use crate::{Controller, LineFault, OperatorOrder, operator_order_in};
@@ -16,6 +16,9 @@ use std::io::Write;
 
 /// The most lines of a conversation.
 pub const MOST_LINES: u32 = 1_000_000;
+
+/// Bytes of an answer for which memory is there from the start.
+const ANSWER_ROOM: usize = 4_096;
 
 /// The answer to a line when out of memory for one.
 const NO_MEMORY: &[u8] = b"fault: no memory\n";
@@ -29,6 +32,8 @@ pub enum OperatorEnd {
     Stop,
     /// A line had more than 4,096 bytes, or one that isn't printable ASCII, as each line of HTTP has. It was answered.
     BadLine,
+    /// The input ended in a line. That was answered.
+    CutLine,
     /// A read faulted.
     Read,
     /// A write faulted.
@@ -39,12 +44,29 @@ pub enum OperatorEnd {
     NoMemory,
 }
 
+/// The memory of a conversation. It may serve one after another.
+#[derive(Drop)]
+pub struct Buffers {
+    line: Line,
+    answer: Vec<u8>,
+}
+
+impl Buffers {
+    /// Memory for the longest line, and for all but the longest answers.
+    pub fn new(alloc: Global) -> Result<Buffers, AllocError> {
+        Ok(Buffers {
+            line: Line::new(alloc)?,
+            answer: Vec::with_capacity(alloc, ANSWER_ROOM)?,
+        })
+    }
+}
+
 /// Reads lines, answers each through the controller, and writes the answers. A line with a fault is answered by its
 /// text, as `fault: unknown word`; an empty line and one that begins with `#` have no answer. A line has at most 4,096
-/// bytes without its LF, all of them printable ASCII; the last one may lack its LF. It allocates a buffer for the line
-/// at the start, and one for answers; if an answer can't be allocated, `fault: no memory` is written in its place. A
-/// line that is too long or has another byte ends the conversation. Each line of HTTP's ends with CR, so that no web
-/// page can have a browser send orders.
+/// bytes without its LF, all of them printable ASCII. One without its LF may be the front of another: it is answered
+/// `fault: cut line`, and not executed. It allocates a buffer for the line at the start, and one for answers; if an
+/// answer can't be allocated, `fault: no memory` is written in its place. A line that is too long or has another byte
+/// ends the conversation. Each line of HTTP's ends with CR, so that no web page can have a browser send orders.
 pub fn converse<R: Source, W: Sink, C: Controller>(
     alloc: Global,
     reader: &mut R,
@@ -54,18 +76,30 @@ pub fn converse<R: Source, W: Sink, C: Controller>(
     ensures { OperatorTalk C.answers (R.state reader.old) (R.state reader.new) (W.state writer.old) (W.state writer.new)
         controller.old controller.new result }
 {
-    let Ok(mut line) = Line::new(alloc) else {
+    let Ok(mut buffers) = Buffers::new(alloc) else {
         return OperatorEnd::NoMemory;
     };
+    converse_in(reader, writer, controller, &mut buffers)
+}
+
+/// Answers lines as `converse` does, in memory that is there.
+pub fn converse_in<R: Source, W: Sink, C: Controller>(
+    reader: &mut R,
+    writer: &mut W,
+    controller: &mut C,
+    buffers: &mut Buffers,
+) -> OperatorEnd
+    ensures { OperatorTalk C.answers (R.state reader.old) (R.state reader.new) (W.state writer.old) (W.state writer.new)
+        controller.old controller.new result }
+{
     let mut piece = Piece::new();
-    let mut answer = Vec::new(alloc);
     answer_lines(
         reader,
         writer,
         controller,
         &mut piece,
-        &mut line,
-        &mut answer,
+        &mut buffers.line,
+        &mut buffers.answer,
     )
 }
 
@@ -134,6 +168,7 @@ fn answer_next<R: Source, W: Sink, C: Controller>(
             result_behind(line, result)
         }
         LineRead::End => LineResult::Ended(OperatorEnd::End),
+        LineRead::Cut => answer_cut(writer, answer),
         LineRead::Fault => LineResult::Ended(OperatorEnd::Read),
         LineRead::Endless => LineResult::Ended(OperatorEnd::Bound),
     }
@@ -162,6 +197,25 @@ fn answer_line<W: Sink, C: Controller>(
     let response = respond(controller, line, answer);
     let sent = send(writer, bytes_of(response, answer));
     line_result(response, sent)
+}
+
+// Answers a line that the end of the input cuts.
+fn answer_cut<W: Sink>(writer: &mut W, answer: &mut Vec<u8>) -> LineResult
+    ensures { CutIsAnswered (W.state writer.old) result (W.state writer.new) }
+{
+    answer.clear();
+    let response = write_fault(LineFault::Cut, answer);
+    let sent = send(writer, bytes_of(response, answer));
+    LineResult::Ended(cut_end(sent))
+}
+
+fn cut_end(sent: Sent) -> OperatorEnd
+    ensures { result ≡ cut_end sent }
+{
+    match sent {
+        Sent::Whole => OperatorEnd::CutLine,
+        Sent::Part(_) => OperatorEnd::Write,
+    }
 }
 
 // The bytes of an answer.

@@ -3,12 +3,14 @@
 ghost use Rattle.std.specs.Prelude.{◌≡◌, IfOk, OnErr, length};
 ghost use Rattle.ar_script.specs.Setups.{new_disk, new_disk_for};
 ghost use Rattle.ar_operator.specs.Orders.{IsOperatorAction};
-ghost use Rattle.ar_operator.specs.Executing.{Executes, IsArrayOrder, Operated};
+ghost use Rattle.ar_operator.specs.Executing.{Executes, ExecutesAction, IsArrayOrder, Operated};
 
-use ar_core::{Array, Outcome, OutcomeOf};
-use ar_disks::{Disk, Geometry};
+use crate::OperatorOrder;
+use crate::early::{early_refusal, write_refusal};
+use ar_core::{Array, Health, Outcome, OutcomeOf};
+use ar_disks::{Disk, Geometry, MemDisk};
 use ar_history::{OperableArray, Task};
-use ar_language::{Action, Order};
+use ar_language::Action;
 use ar_script::{write_answer, write_outcome};
 use std::alloc::{AllocError, Global};
 use std::sync::ledger::Ledger;
@@ -29,30 +31,49 @@ pub trait DiskMaker<D: Disk> {
     ) -> Result<D, AllocError>
         ensures { IfOk result (λ disk. D.state disk ≡ new_disk geometry extents) };
 
-    /// The array has taken the disk that was made last, under this number.
-    fn placed(&mut self, number: u8);
+    /// Makes it of a disk in memory.
+    fn dress(&mut self, number: u8, disk: MemDisk) -> D
+        ensures { D.state result ≡ disk };
+
+    /// The array has added the disk that was made last, under this number.
+    fn added(&mut self, number: u8);
+
+    /// The array has put the disk that was made last in the place of the one of this number, and rebuilds it.
+    fn replaced(&mut self, number: u8);
+
+    /// An operator has taken out a disk of an array that hadn't failed.
+    fn taken_out(&mut self, number: u8);
 }
 
-/// Executes an order on the array and appends its answer to `out`, as a script has it. If it fails, nothing is done,
-/// and the bytes appended are unspecified.
+/// Executes an order on the array and appends its answer to `out`, as a script has it; an action that would make the
+/// array fail is refused in its place, unless it is forced. If it fails, nothing is done, and the bytes appended are
+/// unspecified.
 pub fn execute<A: OperableArray<L>, L: Ledger, M: DiskMaker<A::Disk>>(
     alloc: Global,
     array: &mut A,
     disks: &mut M,
-    order: Order,
+    order: OperatorOrder,
     out: &mut Vec<u8>,
 ) -> Result<(), AllocError>
     requires allowed { IsArrayOrder order }
     ensures { Executes order (A.state array.old) out.old.items result out.new.items (A.state array.new) }
 {
     match order {
-        Order::Act(action) => execute_action(alloc, array, disks, action, out),
-        Order::Ask(question) => {
+        OperatorOrder::Act(action) => match early_refusal(array.array(), action) {
+            Some(refusal) => write_refusal(refusal, out),
+            None => execute_action(alloc, array, disks, action, out),
+        },
+        OperatorOrder::ForceOut(disk) => {
+            execute_action(alloc, array, disks, Action::DiskOut(disk), out)
+        }
+        OperatorOrder::Ask(question) => {
             write_answer(alloc, array.array(), question, out).map_err(|_| AllocError)
         }
+        _ => unreachable!(),
     }
 }
 
+// Executes an action, whatever becomes of the array.
 fn execute_action<A: OperableArray<L>, L: Ledger, M: DiskMaker<A::Disk>>(
     alloc: Global,
     array: &mut A,
@@ -61,7 +82,7 @@ fn execute_action<A: OperableArray<L>, L: Ledger, M: DiskMaker<A::Disk>>(
     out: &mut Vec<u8>,
 ) -> Result<(), AllocError>
     requires allowed { IsOperatorAction action }
-    ensures { Executes (Order.Act action) (A.state array.old) out.old.items result out.new.items (A.state array.new) }
+    ensures { ExecutesAction action (A.state array.old) out.old.items result out.new.items (A.state array.new) }
 {
     out.reserve(OUTCOME_MAX)?;
     let outcome = act(alloc, array, disks, action)?;
@@ -90,7 +111,7 @@ fn act<A: OperableArray<L>, L: Ledger, M: DiskMaker<A::Disk>>(
         Action::Balance => Ok(array.background(Task::Balance)),
         Action::Rebuild => Ok(array.background(Task::Rebuild)),
         Action::AddDisk => add(alloc, array, disks),
-        Action::DiskOut(disk) => Ok(array.take_out(disk)),
+        Action::DiskOut(number) => Ok(take_out(array, disks, number)),
         Action::Replace(number) => replace(alloc, array, disks, number),
     }
 }
@@ -107,9 +128,26 @@ fn add<A: OperableArray<L>, L: Ledger, M: DiskMaker<A::Disk>>(
     let disk = new_disk(alloc, array.array(), disks, number)?;
     let outcome = array.add_disk(disk);
     if let OutcomeOf::AddDisk(Ok(())) = &outcome {
-        disks.placed(number);
+        disks.added(number);
     }
     Ok(outcome)
+}
+
+fn take_out<A: OperableArray<L>, L: Ledger, M: DiskMaker<A::Disk>>(
+    array: &mut A,
+    disks: &mut M,
+    number: u8,
+) -> Outcome<A::Disk>
+    ensures { Operated (Action.DiskOut number) result (A.state array.old) (A.state array.new) }
+{
+    let had_failed = matches!(array.array().health(), Health::Broken);
+    let outcome = array.take_out(number);
+    if let OutcomeOf::DiskOut(Ok(())) = &outcome {
+        if !had_failed {
+            disks.taken_out(number);
+        }
+    }
+    outcome
 }
 
 fn replace<A: OperableArray<L>, L: Ledger, M: DiskMaker<A::Disk>>(
@@ -125,7 +163,7 @@ fn replace<A: OperableArray<L>, L: Ledger, M: DiskMaker<A::Disk>>(
     let disk = new_disk(alloc, array.array(), disks, number)?;
     let outcome = array.replace(number, disk);
     if let OutcomeOf::Replace(Ok(())) = &outcome {
-        disks.placed(number);
+        disks.replaced(number);
     }
     Ok(outcome)
 }

@@ -15,15 +15,21 @@ use ar_language::Fault;
 use ar_script::{Setup, new_disk};
 use std::alloc::{AllocError, Global};
 use std::marker::Model;
-use std::sync::atomic::{AtomicU64, Ordering};
+use std::sync::atomic::{AtomicBool, AtomicU64, Ordering};
 
 // A fuse that lets every access pass.
 const OFF: u64 = u64::MAX;
 
-/// How many accesses a disk still passes. It is off at first: the disk passes all.
+/// How many accesses a disk still passes, and how it was lost. It is off at first: the disk passes all.
 #[derive(Drop)]
 pub struct Fuse {
     left: AtomicU64,
+    // An access has faulted.
+    is_blown: AtomicBool,
+    // An operator has taken the disk out.
+    is_out: AtomicBool,
+    // The disk was the last to be put in the place of another, and may not be rebuilt yet.
+    is_latest: AtomicBool,
 }
 
 impl Fuse {
@@ -31,6 +37,9 @@ impl Fuse {
     pub fn new() -> Fuse {
         Fuse {
             left: AtomicU64::new(OFF),
+            is_blown: AtomicBool::new(false),
+            is_out: AtomicBool::new(false),
+            is_latest: AtomicBool::new(false),
         }
     }
 
@@ -57,11 +66,31 @@ impl Fuse {
         self.left.store(accesses.unwrap_or(OFF), Ordering::SeqCst);
     }
 
+    /// Whether an operator has taken the disk out, and no access to it had faulted before.
+    pub fn is_out(&self) -> bool {
+        self.is_out.load(Ordering::SeqCst)
+    }
+
+    // Whether the disk is lost.
+    fn is_lost(&self) -> bool {
+        self.is_out() || self.is_blown.load(Ordering::SeqCst)
+    }
+
+    // Begins with a new disk, its fuse off.
+    fn renew(&self) {
+        self.set(None);
+        self.is_blown.store(false, Ordering::SeqCst);
+        self.is_out.store(false, Ordering::SeqCst);
+    }
+
     // Uses up one access; false if none is left. While the fuse is off, this is one load.
     fn passes(&self) -> bool {
         match self.left.load(Ordering::SeqCst) {
             OFF => true,
-            0 => false,
+            0 => {
+                self.is_blown.store(true, Ordering::SeqCst);
+                false
+            }
             left => {
                 self.left.store(left - 1, Ordering::SeqCst);
                 true
@@ -181,8 +210,56 @@ impl<'a> DiskMaker<FusedDisk<'a>> for FusedMaker<'a> {
         Ok(FusedDisk::new(disk, self.fuse(number)))
     }
 
-    fn placed(&mut self, number: u8) {
-        self.fuse(number).set(None);
+    fn dress(&mut self, number: u8, disk: MemDisk) -> FusedDisk<'a> {
+        FusedDisk::new(disk, self.fuse(number))
+    }
+
+    fn added(&mut self, number: u8) {
+        self.fuse(number).renew();
+    }
+
+    // No other disk is rebuilt, where one is replaced.
+    fn replaced(&mut self, number: u8) {
+        let fuses = self.fuses;
+        for fuse in fuses {
+            fuse.is_latest.store(false, Ordering::SeqCst);
+        }
+        let fuse = self.fuse(number);
+        fuse.renew();
+        fuse.is_latest.store(true, Ordering::SeqCst);
+    }
+
+    fn taken_out(&mut self, number: u8) {
+        let fuse = self.fuse(number);
+        if !fuse.is_lost() {
+            fuse.is_out.store(true, Ordering::SeqCst);
+        }
+    }
+}
+
+/// Returns the two disks that an array has lost which has failed, by their numbers: those that an operator took out or
+/// whose access faulted or, where that is one, it and the one that was rebuilt. The fuses have it from the disks, since
+/// an array that has failed names none.
+pub fn lost_disks(fuses: &[Fuse; 12]) -> Option<[u8; 2]> {
+    let (mut first, mut second, mut latest) = (None, None, None);
+    let mut number = 0_u8;
+    for fuse in fuses {
+        if fuse.is_latest.load(Ordering::SeqCst) {
+            latest = Some(number);
+        }
+        if fuse.is_lost() {
+            if first.is_none() {
+                first = Some(number);
+            } else if second.is_none() {
+                second = Some(number);
+            }
+        }
+        number = number.saturating_add(1);
+    }
+    match (first, second, latest) {
+        (Some(one), Some(other), _) => Some([one, other]),
+        (Some(one), None, Some(other)) => Some([one.min(other), one.max(other)]),
+        _ => None,
     }
 }
 

@@ -189,17 +189,19 @@ fn is_printable(byte: u8) -> bool
 // What was read where a line may begin.
 #[derive(Clone, Copy)]
 pub enum LineRead {
-    // A line, with its LF or at the end of input.
+    // A line, with its LF.
     Line,
     // The input has ended, and no line begins.
     End,
+    // The input has ended in a line.
+    Cut,
     // A read faulted.
     Fault,
     // Of the line MOST_BYTES bytes were read, and no end.
     Endless,
 }
 
-// Reads a line. One that ends with the input ends there, unless it is empty.
+// Reads a line. One without its LF is cut, since it may be the front of another: `out 1` of `out 11`.
 pub fn read_line<R: Source>(reader: &mut R, piece: &mut Piece, line: &mut Line) -> LineRead
     ensures { LineReadIs (seen_behind piece.old (R.state reader.old)) result line.new.text.items line.new.fault
         (seen_behind piece.new (R.state reader.new)) }
@@ -210,7 +212,7 @@ pub fn read_line<R: Source>(reader: &mut R, piece: &mut Piece, line: &mut Line) 
             Next::Byte(b'\n') => return LineRead::Line,
             Next::Byte(byte) => line.take(byte),
             Next::End if taken == 0 => return LineRead::End,
-            Next::End => return LineRead::Line,
+            Next::End => return LineRead::Cut,
             Next::Fault => return LineRead::Fault,
         }
     }

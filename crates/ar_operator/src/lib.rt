@@ -5,17 +5,20 @@
 
 mod controller;
 mod conversation;
+mod early;
 mod executing;
 mod fail;
 mod fused;
 mod input;
 mod order;
+mod spare;
 mod text;
 
 pub use controller::Controller;
-pub use conversation::{MOST_LINES, OperatorEnd, converse};
+pub use conversation::{Buffers, MOST_LINES, OperatorEnd, converse, converse_in};
 pub use executing::{DiskMaker, execute};
 pub use fail::set_fuse;
-pub use fused::{Fuse, FusedDisk, FusedMaker, start_fused};
+pub use fused::{Fuse, FusedDisk, FusedMaker, lost_disks, start_fused};
 pub use order::{LineFault, OperatorOrder, operator_order_in};
+pub use spare::{Prepared, SpareDisk, WantedDisk, wanted_disk};
 pub use text::{write_counts, write_help, write_session};

@@ -2,9 +2,11 @@
 ghost use Rattle.std.specs.Prelude.{◌≡◌, map, IfOk, IfSome};
 ghost use Rattle.std.specs.Option.{SomeIff};
 ghost use Rattle.ar_language.specs.Forms.{Gives, IsNumberOf, value};
-ghost use Rattle.ar_operator.specs.Orders.{AreAccesses, AsksFuse, HasFuse, IsFuse, IsOperatorOrder, ReadsAlone};
+ghost use Rattle.ar_operator.specs.Orders.{AreAccesses, AsksFuse, HasForce, HasFuse, IsFuse, IsOperatorOrder};
+ghost use Rattle.ar_operator.specs.Orders.{ReadsAlone};
 ghost use Rattle.ar_operator.specs.Orders.{ReadsArguments, ReadsFirstWord, ReadsOperatorLine, ReadsOperatorWord};
-ghost use Rattle.ar_operator.specs.Orders.{ReadsSharedWord, accesses_in, as_operator, is_host_word, text_of};
+ghost use Rattle.ar_operator.specs.Orders.{ReadsOut, ReadsSharedWord, accesses_in, argument, as_operator, is_host_word};
+ghost use Rattle.ar_operator.specs.Orders.{text_of};
 
 use ar_language::{Action, FaultKind, MOST_WORDS, Order, Question, first_words, number, order_in};
 use std::fmt;
@@ -14,8 +16,11 @@ use thiserror::Error;
 /// An operator's order.
 #[derive(Clone, Copy)]
 pub enum OperatorOrder {
-    /// Execute an action on the array, other than a SCSI command and a discard.
+    /// Execute an action on the array, other than a SCSI command and a discard. A disk without which the array fails
+    /// isn't taken out.
     Act(Action),
+    /// `out D force`: take a disk out by its number, even if the array fails.
+    ForceOut(u8),
     /// Show the result of a query, other than the bytes of a row.
     Ask(Question),
     /// `sessions`: show the connected hosts.
@@ -37,6 +42,8 @@ pub enum LineFault {
     Line(FaultKind),
     /// The first word is a host's, or shows the bytes of a row.
     NotOperatorWord,
+    /// The input ended before the line's LF.
+    Cut,
 }
 
 // (By hand: the text that a derived `Display` writes is not specified.)
@@ -50,6 +57,7 @@ impl Display for LineFault {
         match self {
             LineFault::Line(kind) => kind.fmt(f),
             LineFault::NotOperatorWord => f.write_str("not an operator's word"),
+            LineFault::Cut => f.write_str("cut line"),
         }
     }
 }
@@ -93,6 +101,7 @@ fn order_named(
     match name {
         "sessions" => alone(arguments, OperatorOrder::Sessions),
         "counts" => alone(arguments, OperatorOrder::Counts),
+        "out" => out(line, arguments),
         "fail" => fail(arguments),
         "help" => alone(arguments, OperatorOrder::Help),
         "stop" => alone(arguments, OperatorOrder::Stop),
@@ -159,6 +168,28 @@ fn alone(arguments: &[&str], order: OperatorOrder) -> Result<Option<OperatorOrde
         Ok(Some(order))
     } else {
         Err(LineFault::Line(FaultKind::BadArgument))
+    }
+}
+
+// `out D force`, or `out` as scripts have it.
+fn out(line: &str, arguments: &[&str]) -> Result<Option<OperatorOrder>, LineFault>
+    ensures reads { ReadsOut line.now (map text_of arguments.now) result }
+    ensures allowed { IfOk result (λ asked. IfSome asked IsOperatorOrder) }
+{
+    match forced_disk(arguments) {
+        Some(disk) => Ok(Some(OperatorOrder::ForceOut(disk))),
+        None => shared_order(line, "out"),
+    }
+}
+
+// The disk of `D force`.
+fn forced_disk(arguments: &[&str]) -> Option<u8>
+    ensures { Gives (HasForce (map text_of arguments.now))
+        (λ disk. disk ≡ value (argument (map text_of arguments.now) 0)) result }
+{
+    match arguments {
+        [disk, "force"] => disk_number(disk),
+        _ => None,
     }
 }
 

@@ -17,6 +17,7 @@ grow H L SECTORS
 drop H L
 add
 out D
+out D force
 replace D
 fail D N
 fail D off

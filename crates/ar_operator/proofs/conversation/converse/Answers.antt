@@ -1,4 +1,4 @@
-use Rattle.ar_operator.proofs.Talking.{heard, unheard}
+use Rattle.ar_operator.proofs.Talking.{unheard}
 use Rattle.ar_operator.proofs.conversation.converse.Goals as goal
 
 pub returns-in_default : goal.returns-in_default
@@ -7,6 +7,4 @@ returns-in_default g c =
     c.args.controller.now
 
 pub returns : goal.returns
-returns g c =
-    heard g.C.Controller.answers c.new-piece.result c.answer_lines.new.piece _ _ _ _ _ _ c.answer_lines.result
-    c.new-piece.ensures c.answer_lines.ensures
+returns g c = c.converse_in.ensures
