@@ -1,4 +1,5 @@
 pub mod Asking
+pub mod Discards
 pub mod Ending
 pub mod Places
 pub mod Replies

@@ -20,17 +20,22 @@ flush_outcome flushes.Broken = outcomes.ArrayFailed
 abbrev pub lasting_outcome : Bool → FlushOutcome → FlushOutcome
 lasting_outcome lasts outcome = if lasts then outcome else outcomes.ArrayFailed
 
+-- The array flushed the unit, which is one step of it, and the flush was answered by what the array returned or, only
+-- where there is a store, by that this has failed.
+pub record FlushesLasting (persists : Bool) (old : KeptState) (addr : Addr) (outcome : FlushOutcome)
+    (new : KeptState) : Type 0 where
+  pub answer : UnitFlush
+  pub lasts : Bool
+  pub destages : DestagesUnit old addr answer new
+  pub outcome_is : outcome ≡ lasting_outcome lasts (flush_outcome answer)
+  pub failed : lasts ≡ false → persists ≡ true
+
 -- The unit was flushed at one moment: there are a state of an array before it and one after it, in both of which each
--- unit is what its history makes it, and the flush was answered by what this array returned or, only where there is a
--- store, by that this has failed. That these are states of the array behind the lock is not specified.
+-- unit is what its history makes it. That these are states of the array behind the lock is not specified.
 pub record FlushedAtOneMoment (persists : Bool) (addr : Addr) (outcome : FlushOutcome) : Type 0 where
   pub old : KeptState
   pub new : KeptState
-  pub answer : UnitFlush
-  pub destages : DestagesUnit old addr answer new
-  pub lasts : Bool
-  pub outcome_is : outcome ≡ lasting_outcome lasts (flush_outcome answer)
-  pub failed : lasts ≡ false → persists ≡ true
+  pub flushes : FlushesLasting persists old addr outcome new
 
 -- A flush of a host's LUN: 0 to 7 may have a unit, which was flushed; others have none.
 pub record FlushesLun (persists : Bool) (host : Host) (lun : ℕ) (outcome : FlushOutcome) : Type 0 where

@@ -1,7 +1,9 @@
 pub mod Background
 pub mod Desk
+pub mod Discarding
 pub mod Ends
 pub mod Flushing
+pub mod Limits
 pub mod Port
 -- definitions of lower crates that clauses of this crate cite
 pub use Rattle.ar_history.specs.Seat

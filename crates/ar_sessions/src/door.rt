@@ -40,6 +40,9 @@ pub trait Door {
         ensures count { to_come self.new + 1 ≡ to_come self.old }
         ensures opens { opens self.old result self.new }
         ensures one { IfSome result (λ pair. are_one pair.0 pair.1 ≡ true) };
+
+    /// Ends what a door that opens no more connections still has.
+    fn close(&mut self) {}
 }
 
 /// A door to connections that exist from the start, each a reader and a writer.

@@ -1,7 +1,8 @@
 // What a device server needs of a session's port beyond commands: that the cached blocks of a unit are written to the
 // disks.
 ghost use Rattle.std.specs.Prelude.{◌≡◌};
-ghost use Rattle.ar_sessions.specs.Flushing.{FlushedAtOneMoment, FlushesLun, flush_outcome, lasting_outcome};
+ghost use Rattle.ar_sessions.specs.Flushing.{FlushedAtOneMoment, FlushesLasting, FlushesLun};
+ghost use Rattle.ar_sessions.specs.Flushing.{flush_outcome, lasting_outcome};
 ghost use Rattle.ar_target.specs.declared.flush_port.FlushOutcome.TheVariants as outcomes;
 
 use crate::{LockPort, SeatDesk};
@@ -13,7 +14,7 @@ use std::sync::ledger::Ledger;
 use std::sync::{Mutex, Wait};
 
 /// The LUNs that a unit may have are below this one.
-const LUNS: u8 = 8;
+pub(crate) const LUNS: u8 = 8;
 
 impl<'a, R: Wait, A: ServedArray<L> + Drop, K: SeatDesk<L> + Drop, L: Ledger> FlushPort
     for LockPort<'a, R, A, K, L> {
@@ -57,7 +58,7 @@ fn flush_at<R: Wait, A: ServedArray<L> + Drop, L: Ledger>(
 
 // Destages the unit at an address, and commits what was done to the store.
 fn flush_with<A: ServedArray<L>, L: Ledger>(array: &mut A, addr: Addr) -> FlushOutcome
-    ensures flushed { FlushedAtOneMoment A.persists addr result }
+    ensures flushes { FlushesLasting A.persists (A.state array.old) addr result (A.state array.new) }
     ensures lasts { result ≡ outcomes.Done → A.lasts array.new }
 {
     let answer = array.flush_unit(addr);

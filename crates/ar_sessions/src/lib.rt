@@ -5,12 +5,16 @@
 #![tactic(auto)]
 
 mod background;
+mod crowd;
 mod desk;
+mod discarding;
 mod door;
 mod flushing;
+mod limits;
 mod notes;
 mod pool;
 mod port;
+mod refusals;
 mod sessions;
 mod socket;
 mod tcp;
@@ -18,8 +22,9 @@ mod tcp;
 pub use background::run_background;
 pub use desk::{Desk, Receipt, SeatDesk, SeatSlot, SessionCounts};
 pub use door::{Door, MemDoor};
-pub use pool::{Handler, MOST_AT_ONCE, SharedDoor, run_pool, start_pool};
+pub use pool::{Handler, MOST_AT_ONCE, SharedDoor, Starter, run_pool, start_pool};
 pub use port::LockPort;
+pub use refusals::Refusals;
 pub use sessions::{ConnectionEnd, NoMemory, run_beside_background, run_sessions};
 pub use socket::{SocketReader, SocketWriter};
-pub use tcp::{ANY_NUMBER, ListenFault, TcpDoor, TcpReader, TcpWriter, Timeouts, wake};
+pub use tcp::{ANY_NUMBER, ListenFault, Protocol, TcpDoor, TcpReader, TcpWriter, Timeouts};

@@ -1,6 +1,7 @@
-// The log of sessions: a line for each start and each end. Nothing is logged unless the level `Info` is.
-use crate::Receipt;
-use ar_frames::SessionEnd;
+// The log of sessions: a line for each start and each end, where the level `Info` is logged, and a warning for each
+// refusal.
+use crate::{Receipt, Refusals};
+use ar_frames::{EndReason, SessionEnd};
 use log::{Log, info};
 use std::time::{Clock, Duration, Instant};
 
@@ -28,6 +29,13 @@ pub fn note_end<R: Clock + Log>(
         None => {
             info!(rt; "session {number} ended: {reason:?}, {frames} frames, {seconds}.{tenths} s");
         }
+    }
+}
+
+/// Logs a host that was refused, since it has a session.
+pub fn note_refusal<R: Clock + Log>(rt: &R, refusals: &Refusals, end: SessionEnd) {
+    if let EndReason::HostInUse = end.reason {
+        refusals.warn(rt, "a host", "it has a session");
     }
 }
 

@@ -3,9 +3,10 @@
 ghost use Rattle.std.specs.Prelude.{◌≡◌};
 ghost use Rattle.ar_sessions.specs.Ends.{GivesBack, HandlesNext, TakesNext};
 
+use crate::notes::note_refusal;
 use crate::sessions::{Connection, Shared, start_background};
-use crate::{Desk, Door, NoMemory, Receipt};
-use ar_frames::{Gate, SessionEnd, Sink, Source};
+use crate::{Desk, Door, NoMemory, Receipt, Refusals};
+use ar_frames::{Gate, NoGate, SessionEnd, Sink, Source};
 use ar_history::ServedArray;
 use log::Log;
 use std::alloc::Global;
@@ -53,25 +54,31 @@ pub trait Handler<S, W, E> {
         ensures { ends self.now reader writer result };
 }
 
+/// What waits for the threads of a service.
+pub trait Starter {
+    /// Called once, when all threads are there, or not all of them could be started: then it has their doors closed.
+    fn started(&self, are_all: bool);
+}
+
 /// Serves the connections that `door` opens, at most 64 at once, beside a thread that runs background maintenance.
-/// Returns once the door has none left, or is closed, and all have ended. At `NoMemory`, which also means that a
-/// thread couldn't be started, no connection was opened.
+/// Returns once the door has none left, or is closed, and all have ended. `starter` is called once all threads are
+/// there. At `NoMemory`, which also means that a thread couldn't be started, it is called if some were.
 pub fn run_pool<
     R: Threads + Wait + Clock + Log + Sync,
     A: ServedArray<L> + Drop + Send,
     L: Ledger + Send + Sync,
     O: Door + Drop + Send,
-    G: Gate + Sync,
+    B: Starter + Sync,
 >(
     rt: &R,
     alloc: Global,
     door: O,
     array: &Mutex<A>,
     desk: &Mutex<Desk<L>>,
-    gate: &G,
+    starter: &B,
 ) -> Result<(), NoMemory> {
-    let door = SharedDoor::new(door);
-    serve_door(rt, alloc, &door, array, desk, gate)
+    let (door, gate) = (SharedDoor::new(door), NoGate);
+    serve_door(rt, alloc, &door, array, desk, &gate, starter)
 }
 
 // The same at a shared door.
@@ -80,14 +87,15 @@ fn serve_door<
     A: ServedArray<L> + Drop + Send,
     L: Ledger + Send + Sync,
     O: Door + Drop + Send,
-    G: Gate + Sync,
+    B: Starter + Sync,
 >(
     rt: &R,
     alloc: Global,
     door: &SharedDoor<O>,
     array: &Mutex<A>,
     desk: &Mutex<Desk<L>>,
-    gate: &G,
+    gate: &NoGate,
+    starter: &B,
 ) -> Result<(), NoMemory> {
     let ended = AtomicBool::new(false);
     let flag = &ended;
@@ -95,7 +103,7 @@ fn serve_door<
         thread::scope_env(),
         rt,
         move |scope| -> Result<(), NoMemory> {
-            serve_beside(scope, rt, alloc, door, array, desk, gate, flag)
+            serve_beside(scope, rt, alloc, door, array, desk, gate, starter, flag)
         },
     )
 }
@@ -108,7 +116,7 @@ fn serve_beside<
     A: ServedArray<L> + Drop + Send,
     L: Ledger + Send + Sync + 's,
     O: Door + Drop + Send,
-    G: Gate + Sync,
+    B: Starter + Sync,
 >(
     scope: &'s Scope<'s, E>,
     rt: &'s R,
@@ -116,11 +124,12 @@ fn serve_beside<
     door: &SharedDoor<O>,
     array: &'s Mutex<A>,
     desk: &Mutex<Desk<L>>,
-    gate: &G,
+    gate: &NoGate,
+    starter: &B,
     ended: &'s AtomicBool,
 ) -> Result<(), NoMemory> {
     start_background(scope, rt, array, ended)?;
-    let served = serve_in_turn(rt, alloc, door, array, desk, gate);
+    let served = serve_in_turn(rt, alloc, door, array, desk, gate, starter);
     ended.store(true, Ordering::SeqCst);
     served
 }
@@ -131,14 +140,15 @@ fn serve_in_turn<
     A: ServedArray<L> + Drop + Send,
     L: Ledger + Send + Sync,
     O: Door + Drop + Send,
-    G: Gate + Sync,
+    B: Starter + Sync,
 >(
     rt: &R,
     alloc: Global,
     door: &SharedDoor<O>,
     array: &Mutex<A>,
     desk: &Mutex<Desk<L>>,
-    gate: &G,
+    gate: &NoGate,
+    starter: &B,
 ) -> Result<(), NoMemory> {
     let state = Shared {
         rt,
@@ -146,17 +156,39 @@ fn serve_in_turn<
         array,
         desk,
         gate,
+        refusals: Refusals::new(rt),
     };
     let shared = &state;
     thread::scope(
         thread::scope_env(),
         rt,
-        move |scope| -> Result<(), NoMemory> { start_pool(scope, rt, MOST_AT_ONCE, door, shared) },
+        move |scope| -> Result<(), NoMemory> { start_hosts(scope, rt, door, shared, starter) },
     )
 }
 
-/// Starts threads that take turns at a door, at most `most`: as many as there is memory for, but at least one. Each
-/// ends once the door has no connection left, or is closed.
+// Starts the threads of hosts, and reports whether all are there.
+fn start_hosts<
+    's,
+    E,
+    R: Wait + Sync,
+    O: Door + Drop + Send,
+    T: Handler<O::Reader, O::Writer, End> + Sync,
+    End: Drop + Send + 's,
+    B: Starter,
+>(
+    scope: &'s Scope<'s, E>,
+    rt: &'s R,
+    door: &'s SharedDoor<O>,
+    handler: &'s T,
+    starter: &B,
+) -> Result<(), NoMemory> {
+    let started = start_pool(scope, rt, MOST_AT_ONCE, door, handler);
+    starter.started(started.is_ok());
+    started
+}
+
+/// Starts `most` threads that take turns at a door. Each ends once the door has no connection left, or is closed. At
+/// `NoMemory` some may be there, but not all.
 pub fn start_pool<
     's,
     E,
@@ -171,14 +203,12 @@ pub fn start_pool<
     door: &'s SharedDoor<O>,
     handler: &'s T,
 ) -> Result<(), NoMemory> {
-    let mut started = Err(NoMemory);
     for _ in 0..most {
         if scope.spawn(move || handle_each(rt, door, handler)).is_err() {
-            break;
+            return Err(NoMemory);
         }
-        started = Ok(());
     }
-    started
+    Ok(())
 }
 
 // Handles one connection after another.
@@ -193,6 +223,7 @@ fn handle_each<R: Wait, O: Door + Drop, T: Handler<O::Reader, O::Writer, E>, E: 
             next => drop(handle_next(handler, next)),
         }
     }
+    door.close(rt);
 }
 
 // Handles a connection, if there is one, once and to its end.
@@ -226,6 +257,7 @@ impl<
             writer,
         };
         let (end, receipt, _reader, _writer) = connection.serve_logged();
+        note_refusal(self.rt, &self.refusals, end);
         (end, receipt)
     }
 }
@@ -236,6 +268,11 @@ impl<O: Door + Drop> SharedDoor<O> {
         SharedDoor {
             turn: Mutex::new(Numbered { door, count: 0 }),
         }
+    }
+
+    // Ends what the door still has, once it opens no more connections.
+    fn close<R: Wait>(&self, rt: &R) {
+        self.turn.lock(rt).door.close();
     }
 
     // Waits for the door, and at it for its next connection.

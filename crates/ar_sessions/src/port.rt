@@ -174,8 +174,8 @@ fn ask_with<A: ServedArray<L>, L: Ledger>(
     lasting_reply(lasts, reply)
 }
 
-// The reply to a command or, where the store has failed to keep it, HARDWARE ERROR in its place.
-fn lasting_reply(lasts: bool, reply: Reply) -> Reply
+/// The reply to a command or, where the store has failed to keep it, HARDWARE ERROR in its place.
+pub(crate) fn lasting_reply(lasts: bool, reply: Reply) -> Reply
     ensures { result ≡ lasting_reply lasts reply }
 {
     if lasts {
@@ -205,8 +205,8 @@ fn memory_for(alloc: Global, cdb: &[u8; 16]) -> Option<Vec<u8>> {
     }
 }
 
-// Takes the lock. While another thread holds it, this one looks again for a while before it sleeps.
-fn lock_soon<'m, R: Wait, A>(rt: &R, array: &'m Mutex<A>) -> MutexGuard<'m, A> {
+/// Takes the lock. While another thread holds it, this one looks again for a while before it sleeps.
+pub(crate) fn lock_soon<'m, R: Wait, A>(rt: &R, array: &'m Mutex<A>) -> MutexGuard<'m, A> {
     for _ in 0..LOOKS {
         if let Some(guard) = array.try_lock() {
             return guard;

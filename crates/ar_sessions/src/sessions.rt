@@ -8,7 +8,7 @@ ghost use Rattle.ar_sessions.specs.Ends.{IsServedOver, IsPromised, GivesBack, Le
 ghost use Rattle.ar_sessions.specs.Ends.{ConnectionEnds, EndOf};
 
 use crate::notes::{note_end, note_start};
-use crate::{Desk, Door, LockPort, Receipt, run_background};
+use crate::{Desk, Door, LockPort, Receipt, Refusals, run_background};
 use ar_frames::{EndReason, Gate, SessionEnd, Sink, Source, serve_gated};
 use ar_history::ServedArray;
 use log::Log;
@@ -44,6 +44,7 @@ pub struct Shared<'a, R: Wait, A: Drop, L: Ledger, G: Gate> {
     pub array: &'a Mutex<A>,
     pub desk: &'a Mutex<Desk<L>>,
     pub gate: &'a G,
+    pub refusals: Refusals,
 }
 
 /// A connection, with the state that its session shares with the others.
@@ -130,6 +131,7 @@ pub fn run_sessions<
         array,
         desk,
         gate,
+        refusals: Refusals::new(rt),
     };
     let shared = &state;
     let (door, ends) = thread::scope(

@@ -1,8 +1,9 @@
 // The two streams of a connection over TCP. Each waits in slices: between them it looks at its limits and at the stop
 // flag, so that no peer holds a session for longer than the limits say. A limit that is reached is a fault of the
 // stream.
-use crate::tcp::Timeouts;
-use ar_frames::PairWrite;
+use crate::limits::{Greeting, greeting_after, session_limit};
+use crate::tcp::{Protocol, Timeouts};
+use ar_frames::{PairWrite, Progress};
 use std::alloc::Global;
 use std::io::{self, ErrorKind, IoSlice, Read, Write};
 use std::net::{Shutdown, TcpStream};
@@ -28,6 +29,7 @@ const PIECES: u32 = 256;
 // When the streams of a connection stop waiting.
 #[derive(Clone, Copy, Drop)]
 pub struct Limits<'a> {
+    pub protocol: Protocol,
     pub timeouts: Timeouts,
     // Set once no more frame is read.
     pub stop: Option<&'a AtomicBool>,
@@ -40,12 +42,16 @@ pub struct SocketReader<'a, R: Clock> {
     limits: Limits<'a>,
     // When the connection was opened.
     opened: Instant,
-    // Set once its login is accepted.
-    has_login: Arc<AtomicBool>,
+    // How far its session has come.
+    progress: Arc<Progress>,
     // Milliseconds since the last byte, in whole slices.
     silent: u64,
     // Whether more may come.
     is_open: bool,
+    // How far the bytes have come that count as a login.
+    greeting: Greeting,
+    // When a read first saw the stop flag set.
+    stopped: Option<Instant>,
 }
 
 /// The replies of a connection.
@@ -56,8 +62,8 @@ pub struct SocketWriter<'a, R: Clock> {
     limits: Limits<'a>,
     // When the connection was opened.
     opened: Instant,
-    // Set once its login is accepted.
-    has_login: Arc<AtomicBool>,
+    // How far its session has come.
+    progress: Arc<Progress>,
     // When a write first saw the stop flag set.
     stopped: Option<Instant>,
 }
@@ -65,6 +71,7 @@ pub struct SocketWriter<'a, R: Clock> {
 impl Limits<'_> {
     /// None.
     pub const NONE: Limits<'static> = Limits {
+        protocol: Protocol::Sessions,
         timeouts: Timeouts::NONE,
         stop: None,
     };
@@ -87,14 +94,14 @@ impl Limits<'_> {
 }
 
 impl<'a, R: Clock> SocketReader<'a, R> {
-    /// The two streams of a connection that was opened now, whose login counts as accepted once `has_login` is set.
-    /// Their waits are cut into slices here, once.
+    /// The two streams of a connection that was opened now, whose session notes its progress. Their waits are cut into
+    /// slices here, once.
     pub fn open(
         rt: &'a R,
         alloc: Global,
         stream: TcpStream,
         limits: Limits<'a>,
-        has_login: &Arc<AtomicBool>,
+        progress: &Arc<Progress>,
     ) -> io::Result<(SocketReader<'a, R>, SocketWriter<'a, R>)> {
         stream.set_nodelay(true)?;
         stream.set_read_timeout(Some(Duration::from_millis(SLICE)))?;
@@ -106,7 +113,7 @@ impl<'a, R: Clock> SocketReader<'a, R> {
             socket: Arc::try_clone(&socket)?,
             limits,
             opened,
-            has_login: Arc::try_clone(has_login)?,
+            progress: Arc::try_clone(progress)?,
             stopped: None,
         };
         let reader = SocketReader {
@@ -114,25 +121,56 @@ impl<'a, R: Clock> SocketReader<'a, R> {
             socket,
             limits,
             opened,
-            has_login: Arc::try_clone(has_login)?,
+            progress: Arc::try_clone(progress)?,
             silent: 0,
             is_open: true,
+            greeting: Greeting::first(limits.protocol),
+            stopped: None,
         };
         Ok((reader, writer))
     }
 
+    /// The socket of both streams.
+    pub fn socket(&self) -> &Arc<TcpStream> {
+        &self.socket
+    }
+
     // Whether no byte is waited for any longer.
-    fn is_over(&self) -> bool {
-        self.limits.is_stopped()
+    fn is_over(&mut self) -> bool {
+        self.is_stopped()
             || self.limits.is_idle(self.silent)
-            || is_login_late(self.rt, self.opened, &self.has_login, self.limits.timeouts)
+            || is_late(self.rt, self.opened, &self.progress, self.limits.timeouts)
             || is_past(self.rt, self.opened, self.limits.timeouts.whole)
     }
 
-    // Notes what a read has brought.
-    fn note(&mut self, count: usize) {
+    // Whether it is to read no more after the stop.
+    fn is_stopped(&mut self) -> bool {
+        self.limits.is_stopped()
+            && match self.limits.protocol {
+                Protocol::Sessions | Protocol::Http => true,
+                Protocol::Lines => is_past_first(self.rt, &mut self.stopped, SLICE),
+            }
+    }
+
+    // Notes what a read has brought: this many bytes.
+    fn note(&mut self, buf: &[u8], count: usize) {
         self.silent = 0;
         self.is_open = count > 0;
+        if self.greeting != Greeting::Over {
+            self.note_greeting(buf, count);
+        }
+    }
+
+    // Looks for the end of what counts as a login.
+    fn note_greeting(&mut self, buf: &[u8], count: usize) {
+        for number in 0..count {
+            if let Some(byte) = buf.get(number) {
+                self.greeting = greeting_after(self.limits.protocol, self.greeting, *byte);
+            }
+        }
+        if self.greeting == Greeting::Over {
+            self.progress.note_entry();
+        }
     }
 }
 
@@ -144,7 +182,7 @@ impl<R: Clock> Read for SocketReader<'_, R> {
             }
             match (&*self.socket).read(buf) {
                 Ok(count) => {
-                    self.note(count);
+                    self.note(&*buf, count);
                     return Ok(count);
                 }
                 Err(error) if error.kind() == ErrorKind::WouldBlock => {
@@ -164,21 +202,9 @@ impl<R: Clock> SocketWriter<'_, R> {
     // Whether a peer that has taken nothing for this many milliseconds is waited for no longer.
     fn is_over(&mut self, silent: u64) -> bool {
         self.limits.is_idle(silent)
-            || is_login_late(self.rt, self.opened, &self.has_login, self.limits.timeouts)
+            || is_late(self.rt, self.opened, &self.progress, self.limits.timeouts)
             || is_past(self.rt, self.opened, self.limits.timeouts.whole)
-            || (self.limits.is_stopped() && self.is_grace_over())
-    }
-
-    // Whether the peer has had its time since the stop. A clock that can't be read ends the wait, too.
-    fn is_grace_over(&mut self) -> bool {
-        if let Some(since) = self.stopped {
-            return has_passed(self.rt, since, GRACE);
-        }
-        let Ok(now) = Instant::now(self.rt) else {
-            return true;
-        };
-        self.stopped = Some(now);
-        false
+            || (self.limits.is_stopped() && is_past_first(self.rt, &mut self.stopped, GRACE))
     }
 }
 
@@ -221,14 +247,18 @@ impl<R: Clock> Drop for SocketReader<'_, R> {
         if self.is_open {
             linger(self.rt, &self.socket);
         }
+        // (the door may still have the socket for a moment)
+        let _ended = self.socket.shutdown(Shutdown::Both);
         let Self {
             rt: _,
             socket: _socket,
             limits: _,
             opened: _,
-            has_login: _has_login,
+            progress: _progress,
             silent: _,
             is_open: _,
+            greeting: _,
+            stopped: _,
         } = self;
     }
 }
@@ -254,14 +284,9 @@ fn linger<R: Clock>(rt: &R, socket: &TcpStream) {
     }
 }
 
-// Whether the login of a connection should have been accepted by now.
-fn is_login_late<R: Clock>(
-    rt: &R,
-    opened: Instant,
-    has_login: &AtomicBool,
-    timeouts: Timeouts,
-) -> bool {
-    !has_login.load(Ordering::SeqCst) && is_past(rt, opened, timeouts.login)
+// Whether the login of a connection should have been accepted by now, or a session for discovery be over.
+fn is_late<R: Clock>(rt: &R, opened: Instant, progress: &Progress, timeouts: Timeouts) -> bool {
+    is_past(rt, opened, session_limit(progress.stage(), timeouts))
 }
 
 // Whether a connection has lasted for this many seconds, if there is a limit. A clock that can't be read ends it, too.
@@ -270,6 +295,19 @@ fn is_past<R: Clock>(rt: &R, opened: Instant, limit: Option<u32>) -> bool {
         Some(seconds) => has_passed(rt, opened, u64::from(seconds) * 1_000),
         None => false,
     }
+}
+
+// Whether this many milliseconds have passed since the first call for `first`, which notes the time there. A clock that
+// can't be read ends the wait, too.
+fn is_past_first<R: Clock>(rt: &R, first: &mut Option<Instant>, millis: u64) -> bool {
+    if let Some(since) = *first {
+        return has_passed(rt, since, millis);
+    }
+    let Ok(now) = Instant::now(rt) else {
+        return true;
+    };
+    *first = Some(now);
+    false
 }
 
 // Whether this many milliseconds have passed since, or the time can't be read.

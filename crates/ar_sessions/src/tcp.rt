@@ -3,13 +3,16 @@
 ghost use Rattle.std.specs.Prelude.{◌≡◌, ◌<◌, ◌+◌, IfOk, true, ⊤};
 
 use crate::Door;
+use crate::crowd::Crowd;
+use crate::refusals::Refusals;
 use crate::socket::{Limits, SocketReader, SocketWriter};
-use ar_frames::Linked;
+use ar_frames::{Linked, SessionCount};
 use log::{Log, warn};
 use std::alloc::Global;
 use std::io::{self, BufReader, ErrorKind};
 use std::marker::Model;
 use std::net::{Net, TcpListener, TcpStream};
+use std::os::fd::OwnedFd;
 use std::sync::Arc;
 use std::sync::atomic::AtomicBool;
 use std::thread;
@@ -19,15 +22,29 @@ use std::time::{Clock, Duration};
 #[derive(Clone, Copy, Debug, PartialEq, Eq)]
 pub struct ListenFault;
 
-/// How long a connection may be silent, and how long it may last, in seconds. None: for good.
+/// How long a connection may be silent, and how long it may last, in seconds. None: without a limit.
 #[derive(Clone, Copy, Debug, PartialEq, Eq)]
 pub struct Timeouts {
-    /// From its opening until its login is accepted.
+    /// From its opening until its login is accepted, or its first line or the head of its request has come.
     pub login: Option<u32>,
     /// Until the next byte comes, or the peer takes more of a reply.
     pub idle: Option<u32>,
+    /// From its opening to its end, if it is a session for discovery.
+    pub discovery: Option<u32>,
     /// From its opening until its last byte has come, or was taken.
     pub whole: Option<u32>,
+}
+
+/// What the clients of a door speak.
+#[derive(Clone, Copy, Debug, PartialEq, Eq)]
+pub enum Protocol {
+    /// Sessions, which read nothing more once the stop flag is set.
+    Sessions,
+    /// An operator's lines, the first of which counts as a login. For a moment after the stop they are still read:
+    /// another operator may say `stop`, too.
+    Lines,
+    /// HTTP, where the head of a request counts as a login: an empty line ends it.
+    Http,
 }
 
 /// The reader of a connection over TCP.
@@ -39,11 +56,8 @@ pub type TcpWriter<'a, R> = Linked<SocketWriter<'a, R>>;
 /// As the number of connections to accept: any number.
 pub const ANY_NUMBER: usize = usize::MAX;
 
-/// Milliseconds between an accept that failed and the next, and between attempts to end a wait.
+/// Milliseconds that a door waits for a connection before it looks at the stop flag, and after an accept that failed.
 const PAUSE: u64 = 100;
-
-/// How often it is tried to end a wait at a door.
-const ATTEMPTS: u32 = 100;
 
 /// A door to TCP connections at a port of 127.0.0.1.
 #[derive(Drop)]
@@ -54,6 +68,8 @@ pub struct TcpDoor<'a, R: Clock + Log> {
     listener: Option<TcpListener>,
     left: usize,
     limits: Limits<'a>,
+    crowd: Crowd,
+    refusals: Refusals,
 }
 
 impl<'a, R: Clock + Log> Model for TcpDoor<'a, R> {
@@ -69,6 +85,7 @@ impl Timeouts {
     pub const NONE: Timeouts = Timeouts {
         login: None,
         idle: None,
+        discovery: None,
         whole: None,
     };
 }
@@ -84,13 +101,15 @@ impl<'a, R: Clock + Log + Net<Listener = TcpListener, Stream = TcpStream>> TcpDo
     ) -> Result<TcpDoor<'a, R>, ListenFault>
         ensures { IfOk result (λ door. door ≡ sessions) }
     {
-        match TcpListener::bind(rt, ("127.0.0.1", port)) {
+        match listener_at(rt, port) {
             Ok(listener) => Ok(TcpDoor {
                 rt,
                 alloc,
                 listener: Some(listener),
                 left: sessions,
                 limits: Limits::NONE,
+                crowd: Crowd::unlimited(alloc),
+                refusals: Refusals::new(rt),
             }),
             Err(_) => Err(ListenFault),
         }
@@ -99,7 +118,12 @@ impl<'a, R: Clock + Log + Net<Listener = TcpListener, Stream = TcpStream>> TcpDo
 
 impl<'a, R: Clock + Log> TcpDoor<'a, R> {
     /// The door with limits for the connections that it opens. Once `stop` is set they read no more, and it opens none.
-    pub fn limited(self, timeouts: Timeouts, stop: Option<&'a AtomicBool>) -> TcpDoor<'a, R>
+    pub fn limited(
+        self,
+        protocol: Protocol,
+        timeouts: Timeouts,
+        stop: Option<&'a AtomicBool>,
+    ) -> TcpDoor<'a, R>
         ensures { result ≡ self.entry }
     {
         let TcpDoor {
@@ -107,6 +131,8 @@ impl<'a, R: Clock + Log> TcpDoor<'a, R> {
             alloc,
             listener,
             left,
+            crowd,
+            refusals,
             ..
         } = self;
         TcpDoor {
@@ -114,8 +140,42 @@ impl<'a, R: Clock + Log> TcpDoor<'a, R> {
             alloc,
             listener,
             left,
-            limits: Limits { timeouts, stop },
+            limits: Limits {
+                protocol,
+                timeouts,
+                stop,
+            },
+            crowd,
+            refusals,
         }
+    }
+
+    /// The door with a limit for the connections that are open when another comes: with `most` of them, the oldest that
+    /// hasn't logged in, or is there for discovery, makes room and is ended. With `sessions` the door closes once that
+    /// many have logged in, and the others are ended.
+    pub fn crowded(self, most: usize, sessions: Option<u8>) -> io::Result<TcpDoor<'a, R>>
+        ensures { IfOk result (λ door. door ≡ self.entry) }
+    {
+        let TcpDoor {
+            rt,
+            alloc,
+            listener,
+            left,
+            limits,
+            refusals,
+            ..
+        } = self;
+        let sessions = counted(alloc, &listener, sessions)?;
+        let crowd = Crowd::limited(alloc, most, sessions)?;
+        Ok(TcpDoor {
+            rt,
+            alloc,
+            listener,
+            left,
+            limits,
+            crowd,
+            refusals,
+        })
     }
 
     /// The port at which it listens, if the system reports it.
@@ -124,39 +184,6 @@ impl<'a, R: Clock + Log> TcpDoor<'a, R> {
             Some(listener) => port_of(listener),
             None => None,
         }
-    }
-
-    // Waits for a connection. An accept that fails, as for want of descriptors, is tried again after a pause, with one
-    // line of the log until one succeeds. None: the door is closed.
-    fn stream(&self) -> Option<TcpStream> {
-        let Some(listener) = &self.listener else {
-            return None;
-        };
-        let mut has_failed = false;
-        for _ in 0..u64::MAX {
-            if self.limits.is_stopped() {
-                break;
-            }
-            match listener.accept() {
-                Ok((stream, _)) => return self.unless_stopped(stream),
-                Err(error) => {
-                    if !has_failed {
-                        warn!(self.rt; "no connection can be accepted: {error}");
-                    }
-                    has_failed = true;
-                    thread::sleep(self.rt, Duration::from_millis(PAUSE));
-                }
-            }
-        }
-        None
-    }
-
-    // A connection that came before the stop. One that came after it may be no client: it may only have ended the wait.
-    fn unless_stopped(&self, stream: TcpStream) -> Option<TcpStream> {
-        if self.limits.is_stopped() {
-            return None;
-        }
-        Some(stream)
     }
 }
 
@@ -177,43 +204,143 @@ impl<'a, R: Clock + Log + Sync> Door for TcpDoor<'a, R> {
     }
 
     fn is_closed(&self) -> bool {
-        self.limits.is_stopped()
+        self.limits.is_stopped() || self.crowd.is_complete()
     }
 
     fn accept(&mut self) -> Option<(TcpReader<'a, R>, TcpWriter<'a, R>)> {
         self.left -= 1;
-        let stream = self.stream();
-        if self.left == 0 || self.limits.is_stopped() {
+        let stream = next_stream(self.rt, &self.listener, self.limits, &mut self.crowd);
+        if self.left == 0 || self.limits.is_stopped() || self.crowd.is_complete() {
             self.listener = None;
         }
-        opened(self.rt, self.alloc, stream?, self.limits).ok()
+        let streams = opened(self.rt, self.alloc, stream?, self.limits, &mut self.crowd);
+        unless_refused(self.rt, &self.refusals, streams)
+    }
+
+    // After the last session nobody may log in. After a stop, operators who haven't said anything yet still may.
+    fn close(&mut self) {
+        self.listener = None;
+        if self.crowd.is_complete() {
+            self.crowd.end_silent();
+        }
     }
 }
 
-// The streams of a connection. Reads are buffered, so that a small frame takes one system call; writes are sent at
-// once.
+// The streams of a connection, unless there was no memory for them, which is logged, or its socket has failed.
+fn unless_refused<R: Clock + Log, T>(
+    rt: &R,
+    refusals: &Refusals,
+    streams: io::Result<T>,
+) -> Option<T> {
+    match streams {
+        Ok(streams) => Some(streams),
+        Err(error) => {
+            if error.kind() == ErrorKind::OutOfMemory {
+                refusals.warn(rt, "a connection", "no memory");
+            }
+            None
+        }
+    }
+}
+
+// Waits for a connection, in slices; between them, those that have ended are forgotten. An accept that fails, as for
+// want of descriptors, is tried again after a pause, with one line of the log until one succeeds. None: the door is
+// closed.
+fn next_stream<R: Clock + Log>(
+    rt: &R,
+    listener: &Option<TcpListener>,
+    limits: Limits<'_>,
+    crowd: &mut Crowd,
+) -> Option<TcpStream> {
+    let Some(listener) = listener else {
+        return None;
+    };
+    let mut has_failed = false;
+    for _ in 0..u64::MAX {
+        if limits.is_stopped() || crowd.is_complete() {
+            break;
+        }
+        match accept_at(listener, limits.protocol) {
+            Ok(stream) if !crowd.is_complete() => return Some(stream),
+            Ok(_) => {}
+            Err(error) if error.kind() == ErrorKind::WouldBlock => crowd.forget_ended(),
+            // (the last session has shut the listener down)
+            Err(_) if crowd.is_complete() => {}
+            Err(error) => {
+                if !has_failed {
+                    warn!(rt; "no connection can be accepted: {error}");
+                }
+                has_failed = true;
+                crowd.forget_ended();
+                thread::sleep(rt, Duration::from_millis(PAUSE));
+            }
+        }
+    }
+    None
+}
+
+// A connection at a listener. All doors but the operators' leave a descriptor, so that there is one for a `stop`.
+fn accept_at(listener: &TcpListener, protocol: Protocol) -> io::Result<TcpStream> {
+    let _left = descriptor_left(listener, protocol)?;
+    let (stream, _) = listener.accept()?;
+    Ok(stream)
+}
+
+// A descriptor that is taken while a door accepts, if it is to leave one.
+fn descriptor_left(listener: &TcpListener, protocol: Protocol) -> io::Result<Option<TcpStream>> {
+    match protocol {
+        Protocol::Lines => Ok(None),
+        Protocol::Sessions | Protocol::Http => Ok(Some(socket_of(listener)?)),
+    }
+}
+
+// The streams of a connection, for which another may make room. Reads are buffered, so that a small frame takes one
+// system call; writes are sent at once.
 fn opened<'a, R: Clock>(
     rt: &'a R,
     alloc: Global,
     stream: TcpStream,
     limits: Limits<'a>,
+    crowd: &mut Crowd,
 ) -> io::Result<(TcpReader<'a, R>, TcpWriter<'a, R>)> {
-    let has_login = Arc::new(alloc, AtomicBool::new(false))?;
-    let (reader, writer) = SocketReader::open(rt, alloc, stream, limits, &has_login)?;
+    crowd.make_room();
+    let progress = Arc::new(alloc, crowd.new_progress()?)?;
+    let (reader, writer) = SocketReader::open(rt, alloc, stream, limits, &progress)?;
+    crowd.add(reader.socket(), &progress)?;
     let reader = BufReader::new(alloc, reader)?;
-    Ok((Linked::with_login(reader, has_login), Linked::new(writer)))
+    Ok((Linked::with_progress(reader, progress), Linked::new(writer)))
 }
 
-/// Ends a wait for a connection at the door of a port whose stop flag is set, by a connection. It is tried again while
-/// none can be made, as for want of descriptors; one that is refused finds the door closed.
-pub fn wake<R: Clock + Net<Listener = TcpListener, Stream = TcpStream>>(rt: &R, port: u16) {
-    for _ in 0..ATTEMPTS {
-        match TcpStream::connect(rt, ("127.0.0.1", port)) {
-            Ok(_stream) => return,
-            Err(error) if error.kind() == ErrorKind::ConnectionRefused => return,
-            Err(_) => thread::sleep(rt, Duration::from_millis(PAUSE)),
-        }
-    }
+// Listens at a port, by waits that are cut into slices: a wait that only a connection ended might never end, since a
+// queue that is full takes none. (A listener has no call for that; it heeds the read timeout of its socket.)
+fn listener_at<R: Net<Listener = TcpListener, Stream = TcpStream>>(
+    rt: &R,
+    port: u16,
+) -> io::Result<TcpListener> {
+    let listener = TcpListener::bind(rt, ("127.0.0.1", port))?;
+    socket_of(&listener)?.set_read_timeout(Some(Duration::from_millis(PAUSE)))?;
+    Ok(listener)
+}
+
+// Another handle of a listener's socket, with the calls of a stream.
+fn socket_of(listener: &TcpListener) -> io::Result<TcpStream> {
+    Ok(TcpStream::from(OwnedFd::from(listener.try_clone()?)))
+}
+
+// Counts the sessions at a listener, if their number is limited.
+fn counted(
+    alloc: Global,
+    listener: &Option<TcpListener>,
+    sessions: Option<u8>,
+) -> io::Result<Option<Arc<SessionCount>>> {
+    let Some(listener) = listener else {
+        return Ok(None);
+    };
+    let Some(most) = sessions else {
+        return Ok(None);
+    };
+    let count = SessionCount::new(u64::from(most), socket_of(listener)?);
+    Ok(Some(Arc::new(alloc, count)?))
 }
 
 fn port_of(listener: &TcpListener) -> Option<u16> {

@@ -1,0 +1,57 @@
+-- The reply to a discard is one that a frame can carry.
+use Rattle.std.proofs.Common.{◌≡◌, ◌∙◌, ℕ, Bool, true, false, cond, List, refl, sym, subst, arith}
+use Rattle.ar_disks.specs.declared.address.Addr.{Addr}
+use Rattle.ar_scsi.specs.declared.reply.Reply.{Reply}
+use Rattle.ar_scsi.specs.Reply.{check}
+use Rattle.ar_scsi.specs.Sense.{internal_target_failure}
+use Rattle.ar_unit.specs.Broken.{is_good}
+use Rattle.ar_unit.specs.Unit.{UnitState, Absent, Present, unmap_answer}
+use Rattle.ar_unit.proofs.Laws.{each_unmapped}
+use Rattle.ar_volume.specs.Image.{ArrayState, is_broken}
+use Rattle.ar_volume.specs.Sectors.{address_of}
+use Rattle.ar_core.specs.Step.{is_busy}
+use Rattle.ar_history.specs.declared.entry.Entry.{Entry}
+use Rattle.ar_history.specs.History.{replay}
+use Rattle.ar_history.specs.Kept.{KeptState, replayed_unit}
+use Rattle.ar_history.specs.Served.{DiscardsSectors}
+use Rattle.ar_history.specs.Serving.{ServesUnmap}
+use Rattle.ar_frames.specs.Frame.{IsReply}
+
+-- of a unit
+unit_reply : (state : UnitState) (lba count : ℕ) → IsReply (unmap_answer state lba count).reply
+unit_reply Absent lba count = (refl, refl)
+unit_reply (Present sectors attention) lba count =
+    each_unmapped (λ a. IsReply a.reply) sectors attention lba count (refl, refl) (refl, refl)
+    (λ _. (refl, omega arith))
+
+-- of a failed array in its place
+in_place : (reply : Reply) (good : Bool) → IsReply reply
+    → IsReply (cond good (check internal_target_failure) reply)
+in_place reply true is = (refl, refl)
+in_place reply false is = is
+
+served_by :
+    (broken : Bool) (old : ArrayState) (was : List Entry) (addr : Addr) (lba count : ℕ) (reply : Reply)
+    (new : ArrayState) (now : List Entry)
+    → is_broken new ≡ broken → ServesUnmap old was addr lba count reply new now → IsReply reply
+served_by false old was addr lba count reply new now is served =
+    subst IsReply (sym (served.reply_is is)) (unit_reply (replay was (address_of addr)) lba count)
+served_by true old was addr lba count reply new now is served =
+    let unit : UnitState = replayed_unit old was (address_of addr) in
+    let own : Reply = (unmap_answer unit lba count).reply in
+    subst IsReply (sym (served.broken is)) (in_place own (is_good own.status) (unit_reply unit lba count))
+
+reply_by :
+    (busy : Bool) (old new : KeptState) (addr : Addr) (lba count : ℕ) (reply : Reply) → is_busy reply.status ≡ busy
+    → DiscardsSectors old addr lba count reply new → IsReply reply
+reply_by true old new addr lba count reply is discards =
+    subst IsReply (sym (discards.unbegun is).reply_is) (refl, refl)
+reply_by false old new addr lba count reply is discards =
+    served_by (is_broken new.array) old.array old.history addr lba count reply new.array new.history refl
+    (discards.serves is)
+
+pub discard_reply :
+    (old new : KeptState) (addr : Addr) (lba count : ℕ) (reply : Reply) → DiscardsSectors old addr lba count reply new
+    → IsReply reply
+discard_reply old new addr lba count reply discards =
+    reply_by (is_busy reply.status) old new addr lba count reply refl discards
