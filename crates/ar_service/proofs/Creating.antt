@@ -6,7 +6,7 @@ use Rattle.ar_history.specs.Kept.{KeptState}
 use Rattle.ar_service.specs.Service.{AreCreated, AreProvided, IsCreated, IsProvided}
 use Rattle.ar_service.specs.declared.service.NewUnit.{NewUnit}
 
--- one more behind them
+-- one more after them
 created_last : (units : List NewUnit) (unit : NewUnit) (old middle new : KeptState) → AreCreated units old middle
     → IsCreated unit middle new
     → AreCreated (units ++ unit ∷ []) old new

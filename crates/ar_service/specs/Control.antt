@@ -1,40 +1,69 @@
 -- An operator's orders on the shared array.
-use Rattle.std.specs.Prelude.{◌≡◌, ℕ, Bool, true, false, List, [], OnOk, Result, codes}
+use Rattle.std.specs.Prelude.{◌≡◌, ℕ, ◌++◌, Bool, true, false, List, [], OnOk, Option, Some, None, Result, Ok, codes}
 use Rattle.std.specs.declared.alloc.AllocError.{AllocError}
 use Rattle.ar_history.specs.Kept.{KeptState}
-use Rattle.ar_language.specs.declared.order.Order.{Order}
-use Rattle.ar_language.specs.declared.order.Order.TheVariants as orders
+use Rattle.ar_history.specs.declared.store_status.StoreState.{StoreState}
+use Rattle.ar_history.specs.declared.store_status.StoreState.TheVariants.{Sound, Failing, GivenUp}
+use Rattle.ar_history.specs.declared.store_status.StoreStatus.{StoreStatus}
+use Rattle.ar_language.specs.declared.order.Question.TheVariants as questions
 use Rattle.ar_operator.specs.Executing.{Executes}
 use Rattle.ar_operator.specs.declared.order.OperatorOrder.{OperatorOrder}
-use Rattle.ar_operator.specs.declared.order.OperatorOrder.TheVariants.{Act, Ask}
+use Rattle.ar_operator.specs.declared.order.OperatorOrder.TheVariants.{Act, Ask, ForceOut}
 
 -- the order is an action
-abbrev pub is_act : Order → Bool
-is_act (orders.Act action) = true
-is_act (orders.Ask question) = false
+abbrev pub is_act : OperatorOrder → Bool
+is_act (Act action) = true
+is_act (ForceOut disk) = true
+is_act order = false
 
 -- the answer where what an order has done may not last
 abbrev pub store_failed : List ℕ
 store_failed = codes "fault: store failed\n"
 
--- how an order is answered: as it was executed or, where the store has failed, by that it has
-abbrev pub AnswersWith : Bool → Result (Unit {0}) AllocError → List ℕ → Result (Unit {0}) AllocError → List ℕ → Type 0
-AnswersWith true own written result answer = (result ≡ own) × (answer ≡ written)
-AnswersWith false own written result answer = OnOk result (answer ≡ store_failed)
+-- the line of a store, if it isn't sound
+abbrev pub state_line : StoreState → Option (List ℕ)
+state_line Sound = None
+state_line Failing = Some (codes "store failing\n")
+state_line GivenUp = Some (codes "store given up\n")
 
--- An order was executed, and answered. Only where there is a store may the answer be that it has failed.
-pub record ExecutesLasting (persists : Bool) (order : Order) (old : KeptState) (result : Result (Unit {0}) AllocError)
-    (answer : List ℕ) (new : KeptState) : Type 0 where
+-- the same, if there is a store
+abbrev pub line_of : Option StoreStatus → Option (List ℕ)
+line_of None = None
+line_of (Some store) = state_line store.state
+
+-- the line that the store adds to the answer of an order, which asks for the health
+abbrev pub line_added : OperatorOrder → Option StoreStatus → Option (List ℕ)
+line_added (Ask questions.Health) store = line_of store
+line_added order store = None
+
+-- an answer, with one more line or without; out of memory for that line it fails
+abbrev pub AddsLine : Option (List ℕ) → Result (Unit {0}) AllocError → List ℕ → Result (Unit {0}) AllocError → List ℕ
+    → Type 0
+AddsLine None own written result answer = (result ≡ own) × (answer ≡ written)
+AddsLine (Some line) own written result answer = OnOk result ((own ≡ Ok tt) × (answer ≡ written ++ line))
+
+-- how an order is answered: as it was executed, with what the store adds or, where the store has failed, by that it has
+abbrev pub AnswersWith : Bool → Option (List ℕ) → Result (Unit {0}) AllocError → List ℕ → Result (Unit {0}) AllocError
+    → List ℕ → Type 0
+AnswersWith true line own written result answer = AddsLine line own written result answer
+AnswersWith false line own written result answer = OnOk result (answer ≡ store_failed)
+
+-- An order was executed, and answered. Only where there is a store may the answer be that it has failed, or have a line
+-- for it.
+pub record ExecutesLasting (persists : Bool) (order : OperatorOrder) (old : KeptState)
+    (result : Result (Unit {0}) AllocError) (answer : List ℕ) (new : KeptState) : Type 0 where
   pub own : Result (Unit {0}) AllocError
   pub written : List ℕ
   pub executes : Executes order old [] own written new
   pub lasts : Bool
-  pub answers : AnswersWith lasts own written result answer
+  pub store : Option StoreStatus
+  pub answers : AnswersWith lasts (line_added order store) own written result answer
   pub failed : lasts ≡ false → persists ≡ true
+  pub absent : persists ≡ false → store ≡ None
 
 -- An order was executed atomically, and answered: there are a state of an array before it and one after it, between
 -- which it is executed as `execute` does it. That these are states of the array behind the lock is not specified.
-pub record DoneAtOneMoment (persists : Bool) (order : Order) (result : Result (Unit {0}) AllocError) (answer : List ℕ)
+pub record DoneAtOneMoment (persists : Bool) (order : OperatorOrder) (result : Result (Unit {0}) AllocError) (answer : List ℕ)
     : Type 0 where
   pub old : KeptState
   pub new : KeptState
@@ -42,6 +71,7 @@ pub record DoneAtOneMoment (persists : Bool) (order : Order) (result : Result (U
 
 -- what an order does at the controller, and its answer: one that concerns the array is done at one moment
 abbrev pub LockAnswers : Bool → OperatorOrder → Result (Unit {0}) AllocError → List ℕ → Type 0
-LockAnswers persists (Act action) result answer = DoneAtOneMoment persists (orders.Act action) result answer
-LockAnswers persists (Ask question) result answer = DoneAtOneMoment persists (orders.Ask question) result answer
+LockAnswers persists (Act action) result answer = DoneAtOneMoment persists (Act action) result answer
+LockAnswers persists (ForceOut disk) result answer = DoneAtOneMoment persists (ForceOut disk) result answer
+LockAnswers persists (Ask question) result answer = DoneAtOneMoment persists (Ask question) result answer
 LockAnswers persists order result answer = Unit {0}

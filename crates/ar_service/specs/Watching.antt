@@ -1,5 +1,6 @@
 -- A look at a served array, as the pages show it.
 use Rattle.std.specs.Prelude.{◌≡◌, ℕ, ◌-◌, ◌++◌, Bool, true, false, List, [], length, map, Option, Some, None}
+use Rattle.std.specs.Prelude.{option_map}
 use Rattle.std.specs.List.{range_with_len}
 use Rattle.ar_disks.specs.Geometry.{block_len_of}
 use Rattle.ar_extents.specs.declared.health.Health.{Health}
@@ -13,6 +14,9 @@ use Rattle.ar_history.specs.declared.counts.HostCounts.{HostCounts}
 use Rattle.ar_history.specs.declared.counts.OperationCounts.{OperationCounts}
 use Rattle.ar_history.specs.declared.counts.ReplyCounts.{ReplyCounts}
 use Rattle.ar_history.specs.declared.counts.TaskCounts.{TaskCounts}
+use Rattle.ar_history.specs.declared.store_status.StoreState.{StoreState}
+use Rattle.ar_history.specs.declared.store_status.StoreState.TheVariants as states
+use Rattle.ar_history.specs.declared.store_status.StoreStatus.{StoreStatus}
 use Rattle.ar_picture.specs.Drawings.{svg_text}
 use Rattle.ar_picture.specs.declared.picture.Picture.{Picture}
 use Rattle.ar_script.specs.Pictures.{IsPicture}
@@ -28,6 +32,9 @@ use Rattle.ar_status.specs.declared.status.HostCounters.{HostCounters}
 use Rattle.ar_status.specs.declared.status.MaintenanceSteps.{MaintenanceSteps}
 use Rattle.ar_status.specs.declared.status.OperationCounters.{OperationCounters}
 use Rattle.ar_status.specs.declared.status.ReplyCounters.{ReplyCounters}
+use Rattle.ar_status.specs.declared.status.StoreHealth.{StoreHealth}
+use Rattle.ar_status.specs.declared.status.StoreHealth.TheVariants as shown
+use Rattle.ar_status.specs.declared.status.StoreNumbers.{StoreNumbers}
 
 -- the health, as the pages have it
 abbrev pub health_watched : Health → ArrayHealth
@@ -35,6 +42,28 @@ health_watched health.Whole = watched.Whole
 health_watched (health.Out disk) = watched.Out disk
 health_watched (health.Rebuilding disk done) = watched.Rebuilding disk done
 health_watched health.Broken = watched.Broken
+
+-- the disks that an array has lost, as the pages have them: none, unless it has failed
+abbrev pub lost_watched : Option (List ℕ) → Health → Option (List ℕ)
+lost_watched None state = None
+lost_watched (Some disks) health.Broken = Some disks
+lost_watched (Some disks) state = None
+
+-- whether a store takes what is committed to it, as the pages have it
+abbrev pub store_health_watched : StoreState → StoreHealth
+store_health_watched states.Sound = shown.Sound
+store_health_watched states.Failing = shown.Failing
+store_health_watched states.GivenUp = shown.GivenUp
+
+-- a store, as the pages have it
+abbrev pub store_watched : StoreStatus → StoreNumbers
+store_watched store = record {
+  state = store_health_watched store.state;
+  log_bytes = store.log_bytes;
+  waiting_bytes = store.waiting_bytes;
+  commits = store.commits;
+  checkpoints = store.checkpoints;
+}
 
 -- replies by status, as the pages have them
 abbrev pub replies_watched : ReplyCounts → ReplyCounters
@@ -77,14 +106,17 @@ counters_watched counters = record {
   squeezes = counters.squeezes;
   cache_hits = counters.cache_hits;
   destages = counters.destages;
+  discards = counters.discards;
 }
 
--- The status is that of this array with these counts, `stored` entries of whose history are stored, at this second,
--- with these events. The memory of the history, and the counters of what else the array did, are not specified.
-pub record IsStatusOf (array : ArrayState) (counts : Counts) (stored seconds : ℕ) (latest : RecentEvents)
-    (status : ArrayStatus) : Type 0 where
+-- The status is that of this array with these counts, `stored` entries of whose history are stored, with this store, at
+-- this second, with these events; `lost` are the disks that it has lost, if it has failed. The memory of the history,
+-- and the counters of what else the array did, are not specified.
+pub record IsStatusOf (array : ArrayState) (counts : Counts) (stored : ℕ) (store : Option StoreStatus)
+    (lost : Option (List ℕ)) (seconds : ℕ) (latest : RecentEvents) (status : ArrayStatus) : Type 0 where
   pub uptime : status.uptime_seconds ≡ seconds
   pub health : status.health ≡ health_watched array.store.disks.health
+  pub lost_is : status.lost_disks ≡ lost_watched lost array.store.disks.health
   pub disks : status.disks ≡ length array.store.disks.disks
   pub extents : status.extents ≡ array.store.disks.extents
   pub free_groups : status.free_groups ≡ free_groups array.store.book
@@ -92,6 +124,7 @@ pub record IsStatusOf (array : ArrayState) (counts : Counts) (stored seconds : �
   pub room : status.room_blocks ≡ room array.store.book
   pub cached : status.cached_blocks ≡ length array.cache.entries
   pub entries : status.history_entries ≡ stored
+  pub store_is : status.store ≡ option_map store_watched store
   pub hosts : status.hosts ≡ map host_watched counts.hosts
   pub steps : status.steps ≡ steps_watched counts.tasks
   pub events : status.events ≡ latest
@@ -115,12 +148,16 @@ MayDraw false array (Some picture) = ⊥
 MayDraw true array None = ⊥
 MayDraw true array (Some picture) = IsPicture array picture
 
--- The status of an array at one moment, and the data of its picture at the same one. The time, the events, and how many
--- entries are stored are not specified.
-pub record CopiesMoment (draws : Bool) (status : ArrayStatus) (drawing : Option Picture) : Type 0 where
+-- The status of an array at one moment, and the data of its picture at the same one. One that doesn't persist has no
+-- store. The time, the events, how many entries are stored, how the store is, and which disks were lost are not
+-- specified.
+pub record CopiesMoment (persists draws : Bool) (status : ArrayStatus) (drawing : Option Picture) : Type 0 where
   pub state : KeptState
   pub stored : ℕ
-  pub is : IsStatusOf state.array state.counts stored status.uptime_seconds status.events status
+  pub store : Option StoreStatus
+  pub absent : persists ≡ false → store ≡ None
+  pub lost : Option (List ℕ)
+  pub is : IsStatusOf state.array state.counts stored store lost status.uptime_seconds status.events status
   pub picture : MayDraw draws state.array drawing
 
 -- the text of a picture; without one it is empty
@@ -130,7 +167,7 @@ text_drawn (Some picture) = svg_text picture
 
 -- A look shows an array at one moment, and the picture of the same moment. That it is the array behind the lock is not
 -- specified.
-pub record ShowsMoment (draws : Bool) (status : ArrayStatus) (text : List ℕ) : Type 0 where
+pub record ShowsMoment (persists draws : Bool) (status : ArrayStatus) (text : List ℕ) : Type 0 where
   pub picture : Option Picture
-  pub copied : CopiesMoment draws status picture
+  pub copied : CopiesMoment persists draws status picture
   pub drawn : text ≡ text_drawn picture

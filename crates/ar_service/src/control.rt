@@ -1,16 +1,17 @@
 // An operator's orders on the shared array. Each is executed under the array's lock, between one state of the array and
 // the next.
-ghost use Rattle.std.specs.Prelude.{◌≡◌, ◌⊎◌, [], OnOk, false, length, true};
+ghost use Rattle.std.specs.Prelude.{◌≡◌, ◌⊎◌, [], OnOk, false, length, option_map, true};
 ghost use Rattle.ar_operator.specs.Executing.{IsArrayOrder};
-ghost use Rattle.ar_service.specs.Control.{AnswersWith, DoneAtOneMoment, ExecutesLasting, is_act, store_failed};
+ghost use Rattle.ar_service.specs.Control.{AddsLine, AnswersWith, DoneAtOneMoment, ExecutesLasting, is_act, line_added};
+ghost use Rattle.ar_service.specs.Control.{line_of, state_line, store_failed};
 ghost use Rattle.ar_service.specs.Watching.{health_watched};
 
 use crate::doors::OperatedArray;
 use crate::shown::ControlledArray;
 use ar_disks::Host;
-use ar_history::ServedArray;
-use ar_language::{Action, Order};
-use ar_operator::{Controller, OperatorOrder, write_counts, write_help, write_session};
+use ar_history::{ServedArray, StoreState, StoreStatus};
+use ar_language::{Action, Question};
+use ar_operator::{Controller, OperatorOrder, SpareDisk, write_counts, write_help, write_session};
 use ar_sessions::Desk;
 use ar_status::{EventKind, EventLog};
 use std::alloc::{AllocError, Global};
@@ -23,6 +24,12 @@ const DONE: &[u8] = b"ok\n";
 
 /// The answer where the store has failed: what an order has done, if anything, may not last.
 const STORE_FAILED: &[u8] = b"fault: store failed\n";
+
+/// The second line of `health` where commits to the store fail.
+const STORE_FAILING: &[u8] = b"store failing\n";
+
+/// The same where the store is given up.
+const STORE_GIVEN_UP: &[u8] = b"store given up\n";
 
 /// A controller of an array behind a lock, whose hosts' seats are on a desk with a lock of its own.
 #[derive(Drop)]
@@ -59,13 +66,21 @@ impl<'a, R: Wait + Clock, A: ControlledArray<L, M> + Drop, L: Ledger, M: Copy> L
     L,
     M,
 > {
+    // A new disk, if an order wants one, made before the array's lock is taken for it: to allocate one of 256 MiB takes
+    // about a second. Out of memory there is none.
+    fn spare_for(&self, order: OperatorOrder) -> Option<SpareDisk> {
+        let wanted = self.array.array.lock(self.array.rt).wanted_disk(order)?;
+        SpareDisk::make(self.array.alloc, wanted).ok()
+    }
+
     // Executes an order on the array, under its lock, and lists what has happened. The list's lock is taken first.
-    fn execute(&mut self, order: Order, out: &mut Vec<u8>) -> Result<(), AllocError>
+    fn execute(&mut self, order: OperatorOrder, out: &mut Vec<u8>) -> Result<(), AllocError>
         requires allowed { IsArrayOrder order }
         requires empty { out.old.items ≡ [] }
         ensures { DoneAtOneMoment A.persists order result out.new.items }
     {
         let mut disks = self.array.disks;
+        let mut spare = self.spare_for(order);
         let mut log = self.array.log.lock(self.array.rt);
         let seconds = self.array.seconds();
         let mut array = self.array.array.lock(self.array.rt);
@@ -73,6 +88,7 @@ impl<'a, R: Wait + Clock, A: ControlledArray<L, M> + Drop, L: Ledger, M: Copy> L
             self.array.alloc,
             &mut array,
             &mut disks,
+            &mut spare,
             &mut log,
             seconds,
             order,
@@ -82,14 +98,15 @@ impl<'a, R: Wait + Clock, A: ControlledArray<L, M> + Drop, L: Ledger, M: Copy> L
 }
 
 // Executes an order on the array, and lists what has happened. Where the store has failed to keep what it has done, the
-// answer says so.
+// answer says so, and that of `health` where the store isn't sound.
 fn execute_listed<A: ControlledArray<L, M>, L: Ledger, M>(
     alloc: Global,
     array: &mut A,
     disks: &mut M,
+    spare: &mut Option<SpareDisk>,
     log: &mut EventLog,
     seconds: u64,
-    order: Order,
+    order: OperatorOrder,
     out: &mut Vec<u8>,
 ) -> Result<(), AllocError>
     requires allowed { IsArrayOrder order }
@@ -100,46 +117,95 @@ fn execute_listed<A: ControlledArray<L, M>, L: Ledger, M>(
     ensures health { log.new.health ≡ health_watched (A.state array.new).array.store.disks.health }
     ensures disks { log.new.disks ≡ length (A.state array.new).array.store.disks.disks }
 {
-    let done = array.execute(alloc, disks, order, out);
+    let done = array.execute(alloc, disks, spare, order, out);
     list_done(log, seconds, order, out);
     let lasts = lasts_behind::<A, L>(array, order);
     array.see(seconds, log);
-    answer_with(lasts, done, out)
+    let line = line_added(order, array.store());
+    answer_with(lasts, line, done, out)
 }
 
 // Commits what an action has done.
-fn lasts_behind<A: ServedArray<L>, L: Ledger>(array: &mut A, order: Order) -> bool
+fn lasts_behind<A: ServedArray<L>, L: Ledger>(array: &mut A, order: OperatorOrder) -> bool
     ensures same { A.state array.new ≡ A.state array.old }
     ensures lasts { result ≡ true → is_act order ≡ true → A.lasts array.new }
     ensures failed { result ≡ false → A.persists ≡ true }
 {
     match order {
-        Order::Act(_) => array.commit(),
-        Order::Ask(_) => true,
+        OperatorOrder::Act(_) | OperatorOrder::ForceOut(_) => array.commit(),
+        _ => true,
     }
 }
 
-// The answer of an order or, where the store has failed, that it has.
+// The line that the store adds to the answer of an order, which asks for the health.
+fn line_added(order: OperatorOrder, store: Option<StoreStatus>) -> Option<&'static [u8]>
+    ensures { option_map (λ line. line.now) result ≡ line_added order store }
+{
+    match order {
+        OperatorOrder::Ask(Question::Health) => line_of(store),
+        _ => None,
+    }
+}
+
+// The line of a store, if there is one that isn't sound.
+fn line_of(store: Option<StoreStatus>) -> Option<&'static [u8]>
+    ensures { option_map (λ line. line.now) result ≡ line_of store }
+{
+    match store {
+        Some(store) => state_line(store.state),
+        None => None,
+    }
+}
+
+fn state_line(state: StoreState) -> Option<&'static [u8]>
+    ensures { option_map (λ line. line.now) result ≡ state_line state }
+{
+    match state {
+        StoreState::Sound => None,
+        StoreState::Failing => Some(STORE_FAILING),
+        StoreState::GivenUp => Some(STORE_GIVEN_UP),
+    }
+}
+
+// The answer of an order, with the line that the store adds or, where the store has failed, that it has.
 fn answer_with(
     lasts: bool,
+    line: Option<&[u8]>,
     done: Result<(), AllocError>,
     out: &mut Vec<u8>,
 ) -> Result<(), AllocError>
-    ensures { AnswersWith lasts done out.old.items result out.new.items }
+    ensures { AnswersWith lasts (option_map (λ line. line.now) line.entry) done out.old.items result out.new.items }
 {
     if lasts {
-        return done;
+        return add_line(line, done, out);
     }
     out.clear();
     out.extend_from_slice(STORE_FAILED)
 }
 
+// Appends a line to an answer, if there is one.
+fn add_line(
+    line: Option<&[u8]>,
+    done: Result<(), AllocError>,
+    out: &mut Vec<u8>,
+) -> Result<(), AllocError>
+    ensures { AddsLine (option_map (λ line. line.now) line.entry) done out.old.items result out.new.items }
+{
+    match line {
+        Some(line) => {
+            done?;
+            out.extend_from_slice(line)
+        }
+        None => done,
+    }
+}
+
 // Lists what an order has done to a unit, by its answer.
-fn list_done(log: &mut EventLog, seconds: u64, order: Order, answer: &[u8])
+fn list_done(log: &mut EventLog, seconds: u64, order: OperatorOrder, answer: &[u8])
     ensures health { log.new.health ≡ log.old.health }
     ensures disks { log.new.disks ≡ log.old.disks }
 {
-    if let Order::Act(action) = order {
+    if let OperatorOrder::Act(action) = order {
         if let Some(kind) = event_of(action) {
             if answer == DONE {
                 log.add(seconds, kind);
@@ -175,8 +241,9 @@ impl<'a, R: Wait + Clock, A: ControlledArray<L, M> + Drop, L: Ledger, M: Copy> C
 
     fn answer(&mut self, order: OperatorOrder, out: &mut Vec<u8>) -> Result<(), AllocError> {
         match order {
-            OperatorOrder::Act(action) => self.execute(Order::Act(action), out),
-            OperatorOrder::Ask(question) => self.execute(Order::Ask(question), out),
+            OperatorOrder::Act(_) | OperatorOrder::ForceOut(_) | OperatorOrder::Ask(_) => {
+                self.execute(order, out)
+            }
             OperatorOrder::Sessions => self.show_sessions(out),
             OperatorOrder::Counts => self.show_counts(out),
             OperatorOrder::Fail { disk, accesses } => self.fail(disk, accesses, out),

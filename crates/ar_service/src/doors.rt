@@ -1,22 +1,18 @@
 // The doors of a service: for hosts, and beside it, each with threads of its own, for operators and for HTTP clients.
 use crate::initiators::{IscsiPort, Targets};
 use crate::monitoring::Monitor;
-use crate::operators::{OperatorHandler, PendingStops};
+use crate::operators::{OperatorHandler, OperatorRoom, PendingStops};
 use crate::shown::ControlledArray;
 use crate::watching::Watch;
-use ar_frames::{Gate, Linked, PairWrite, Sink, Source};
+use ar_frames::{Linked, PairWrite, Sink, Source};
 use ar_iscsi::IscsiEnd;
-use ar_operator::{Fuse, OperatorEnd};
-use ar_sessions::{
-    ANY_NUMBER, Desk, Door, Handler, NoMemory, SharedDoor, run_beside_background, run_pool,
-    start_pool, wake,
-};
+use ar_operator::{Fuse, OperatorEnd, lost_disks};
+use ar_sessions::{Desk, Door, Handler, NoMemory, SharedDoor, Starter, run_pool, start_pool};
 use ar_status::{ArrayStatus, EventLog};
 use log::Log;
 use std::alloc::{AllocError, Global};
 use std::hash::RandomState;
 use std::io::Read;
-use std::net::{Net, TcpListener, TcpStream};
 use std::sync::atomic::AtomicBool;
 use std::sync::ledger::Ledger;
 use std::sync::{Mutex, Wait};
@@ -31,7 +27,7 @@ const OPERATOR_THREADS: u32 = 5;
 const WATCH_THREADS: u32 = 8;
 
 /// The threads at the door of initiators: four hosts, and others for discovery.
-const TARGET_THREADS: u32 = 8;
+pub(crate) const TARGET_THREADS: u32 = 8;
 
 /// An array that hosts and operators use at the same time, and others watch.
 #[derive(Drop)]
@@ -46,6 +42,8 @@ pub struct OperatedArray<'a, R: Wait, A: Drop, L: Ledger, M> {
     pub disks: M,
     /// What has happened to it. Whoever takes both locks takes this one first.
     pub log: &'a Mutex<EventLog>,
+    /// A name by which HTTP clients may ask for the service, beside those of 127.0.0.1.
+    pub http_host: Option<&'a str>,
     /// When the service began, if the clock could be read.
     pub began: Option<Instant>,
     /// Set once the service is to end. All doors look at it.
@@ -60,15 +58,6 @@ pub struct SideDoors<O: Door + Drop> {
     pub watchers: Option<(O, RandomState)>,
     /// For initiators over iSCSI.
     pub initiators: Option<(O, IscsiPort)>,
-}
-
-/// The ports of the doors. A connection to one ends the wait at its door.
-#[derive(Clone, Copy)]
-pub struct Ports {
-    pub hosts: u16,
-    pub operators: Option<u16>,
-    pub watchers: Option<u16>,
-    pub initiators: Option<u16>,
 }
 
 // A door beside the hosts', and what its threads do with a connection.
@@ -106,18 +95,19 @@ impl<'a, R: Wait + Clock, A: ControlledArray<L, M> + Drop, L: Ledger, M> Operate
         // (read behind the lock, so that events are listed in the order of their times)
         let seconds = self.seconds();
         let array = self.array.lock(self.rt);
-        see_and_tell::<A, L, M>(&array, seconds, &mut log)
+        see_and_tell::<A, L, M>(&array, self.fuses, seconds, &mut log)
     }
 }
 
 // Looks at an array, and returns its status.
 fn see_and_tell<A: ControlledArray<L, M>, L: Ledger, M>(
     array: &A,
+    fuses: &[Fuse; 12],
     seconds: u64,
     log: &mut EventLog,
 ) -> ArrayStatus {
     array.see(seconds, log);
-    array.status(seconds, log.events())
+    array.status(array.store(), lost_disks(fuses), seconds, log.events())
 }
 
 // Whole seconds since, or 0 where the clock can't be read.
@@ -129,11 +119,10 @@ fn seconds_since<R: Clock>(rt: &R, since: Instant) -> u64 {
 }
 
 /// Serves the connections that the doors open, beside a thread that runs background maintenance, and returns once all
-/// have ended. If the hosts' door is for any number of connections, an operator's `stop` ends the service; otherwise
-/// the last of its connections does, too. At `NoMemory`, which also means that a thread couldn't be started, no host's
-/// connection was opened.
+/// have ended. An operator's `stop` ends the service, and so does a hosts' door that closes. `starter` is called once
+/// all threads of all doors are there. `NoMemory` means that one couldn't be started.
 pub fn run_operated<
-    R: Threads + Wait + Clock + Log + Net<Listener = TcpListener, Stream = TcpStream> + Sync,
+    R: Threads + Wait + Clock + Log + Sync,
     A: ControlledArray<L, M> + Drop + Send,
     L: Ledger + Send + Sync,
     M: Copy + Send + Sync,
@@ -141,15 +130,14 @@ pub fn run_operated<
     O: Door<Reader = Linked<S>, Writer = Linked<W>> + Drop + Send,
     S: Read + Send + Drop,
     W: PairWrite + Send + Drop,
-    G: Gate + Sync,
+    B: Starter + Sync,
 >(
     array: &OperatedArray<'_, R, A, L, M>,
     hosts: H,
     doors: SideDoors<O>,
-    ports: Ports,
-    gate: &G,
+    starter: &B,
 ) -> (PendingStops<Linked<S>, Linked<W>>, Result<(), NoMemory>) {
-    let Ok(pending) = PendingStops::with_room(array.alloc, OPERATOR_THREADS) else {
+    let Ok(room) = OperatorRoom::new(array.alloc, OPERATOR_THREADS) else {
         return (PendingStops::none(array.alloc), Err(NoMemory));
     };
     let SideDoors {
@@ -160,11 +148,11 @@ pub fn run_operated<
     let Ok(initiators) = initiators_side(&*array, initiators) else {
         return (PendingStops::none(array.alloc), Err(NoMemory));
     };
-    let operators = operators_side(&*array, ports.hosts, operators, pending);
+    let operators = operators_side(&*array, operators, room);
     let watchers = watchers_side(&*array, watchers);
     let sides = (&operators, &watchers, &initiators);
-    let served = serve_beside(array.rt, sides, &*array, ports, move || {
-        serve_hosts(array, hosts, gate)
+    let served = serve_beside(array.rt, sides, &*array, move || {
+        serve_hosts(array, hosts, starter)
     });
     (pending_in(array.alloc, operators), served)
 }
@@ -172,7 +160,7 @@ pub fn run_operated<
 // The operators' door, if there is one.
 fn operators_side<
     'a,
-    R: Wait,
+    R: Wait + Clock,
     A: ControlledArray<L, M> + Drop,
     L: Ledger,
     M,
@@ -181,11 +169,10 @@ fn operators_side<
     W: Sink + Drop,
 >(
     array: &'a OperatedArray<'a, R, A, L, M>,
-    hosts_port: u16,
     door: Option<O>,
-    pending: PendingStops<S, W>,
+    room: OperatorRoom<S, W>,
 ) -> Option<SideDoor<O, OperatorHandler<'a, R, A, L, M, S, W>>> {
-    let handler = OperatorHandler::new(array, hosts_port, pending);
+    let handler = OperatorHandler::new(array, room);
     Some(SideDoor::new(door?, handler))
 }
 
@@ -206,7 +193,7 @@ fn watchers_side<
 }
 
 // The door of initiators, if there is one.
-fn initiators_side<'a, R: Wait, A: Drop, L: Ledger, M, O: Door + Drop>(
+fn initiators_side<'a, R: Wait + Clock, A: Drop, L: Ledger, M, O: Door + Drop>(
     array: &'a OperatedArray<'a, R, A, L, M>,
     door: Option<(O, IscsiPort)>,
 ) -> Result<Option<SideDoor<O, Targets<'a, R, A, L, M>>>, AllocError> {
@@ -219,7 +206,7 @@ fn initiators_side<'a, R: Wait, A: Drop, L: Ledger, M, O: Door + Drop>(
 // The operators that wait for the end.
 fn pending_in<
     'a,
-    R: Wait,
+    R: Wait + Clock,
     A: ControlledArray<L, M> + Drop,
     L: Ledger,
     M,
@@ -254,20 +241,14 @@ impl<O: Door + Drop, T> SideDoor<O, T> {
 // Serves hosts by the foreground beside the threads of the other doors and of a monitor, and returns once all have
 // ended.
 fn serve_beside<
-    R: Threads + Wait + Clock + Net<Listener = TcpListener, Stream = TcpStream> + Sync,
+    R: Threads + Wait + Sync,
     O: Door + Drop + Send,
     T: Handler<O::Reader, O::Writer, OperatorEnd> + Sync,
     W: Handler<O::Reader, O::Writer, bool> + Sync,
     I: Handler<O::Reader, O::Writer, IscsiEnd> + Sync,
     V: Monitor + Sync,
     F: FnOnce() -> Result<(), NoMemory> + Drop,
->(
-    rt: &R,
-    sides: Sides<'_, O, T, W, I>,
-    monitor: &V,
-    ports: Ports,
-    foreground: F,
-) -> Result<(), NoMemory>
+>(rt: &R, sides: Sides<'_, O, T, W, I>, monitor: &V, foreground: F) -> Result<(), NoMemory>
     requires { F.pre foreground }
 {
     thread::scope(
@@ -275,7 +256,7 @@ fn serve_beside<
         rt,
         move |scope| -> Result<(), NoMemory>
             requires { F.pre foreground }
-        { serve_in_scope(scope, rt, sides, monitor, ports, foreground) },
+        { serve_in_scope(scope, rt, sides, monitor, foreground) },
     )
 }
 
@@ -283,7 +264,7 @@ fn serve_beside<
 fn serve_in_scope<
     's,
     E,
-    R: Wait + Clock + Net<Listener = TcpListener, Stream = TcpStream> + Sync,
+    R: Wait + Sync,
     O: Door + Drop + Send,
     T: Handler<O::Reader, O::Writer, OperatorEnd> + Sync,
     W: Handler<O::Reader, O::Writer, bool> + Sync,
@@ -295,7 +276,6 @@ fn serve_in_scope<
     rt: &'s R,
     sides: Sides<'s, O, T, W, I>,
     monitor: &'s V,
-    ports: Ports,
     foreground: F,
 ) -> Result<(), NoMemory>
     requires { F.pre foreground }
@@ -305,7 +285,6 @@ fn serve_in_scope<
         Err(fault) => Err(fault),
     };
     monitor.end();
-    wake_doors(rt, ports);
     served
 }
 
@@ -348,27 +327,8 @@ fn serve_hosts<
     L: Ledger + Send + Sync,
     M,
     H: Door + Drop + Send,
-    G: Gate + Sync,
->(array: &OperatedArray<'_, R, A, L, M>, door: H, gate: &G) -> Result<(), NoMemory> {
+    B: Starter + Sync,
+>(array: &OperatedArray<'_, R, A, L, M>, door: H, starter: &B) -> Result<(), NoMemory> {
     let (rt, alloc, shared, desk) = (array.rt, array.alloc, array.array, array.desk);
-    if door.left() == ANY_NUMBER {
-        return run_pool(rt, alloc, door, shared, desk, gate);
-    }
-    let (door, ends) = run_beside_background(rt, alloc, door, shared, desk, gate);
-    drop(door);
-    ends?;
-    Ok(())
-}
-
-// Ends the waits at the doors beside the hosts'.
-fn wake_doors<R: Clock + Net<Listener = TcpListener, Stream = TcpStream>>(rt: &R, ports: Ports) {
-    if let Some(port) = ports.operators {
-        wake(rt, port);
-    }
-    if let Some(port) = ports.watchers {
-        wake(rt, port);
-    }
-    if let Some(port) = ports.initiators {
-        wake(rt, port);
-    }
+    run_pool(rt, alloc, door, shared, desk, starter)
 }

@@ -6,10 +6,10 @@ use crate::doors::OperatedArray;
 use ar_disks::Host;
 use ar_frames::{Login, Port, Sink, Source};
 use ar_history::ServedArray;
-use ar_iscsi::{IscsiEnd, serve_target};
+use ar_iscsi::{IscsiEnd, LoginEnd, LoginStatus, serve_target};
 use ar_scsi::Reply;
-use ar_sessions::{Desk, Handler, LockPort};
-use ar_target::{Attributes, DeviceServer, FlushOutcome, FlushPort};
+use ar_sessions::{Desk, Handler, LockPort, Refusals};
+use ar_target::{Attributes, BlockRun, DeviceServer, DiscardPort, FlushOutcome, FlushPort};
 use bytes::Bytes;
 use log::{Log, info};
 use std::alloc::{AllocError, Global};
@@ -45,9 +45,10 @@ pub struct Targets<'a, R: Wait, A: Drop, L: Ledger, M> {
     attributes: Attributes,
     // Address and port, as `127.0.0.1:3260`.
     address: Vec<u8>,
+    refusals: Refusals,
 }
 
-impl<'a, R: Wait, A: Drop, L: Ledger, M> Targets<'a, R, A, L, M> {
+impl<'a, R: Wait + Clock, A: Drop, L: Ledger, M> Targets<'a, R, A, L, M> {
     /// The targets of the four hosts at a port.
     pub fn new(
         array: &'a OperatedArray<'a, R, A, L, M>,
@@ -63,6 +64,7 @@ impl<'a, R: Wait, A: Drop, L: Ledger, M> Targets<'a, R, A, L, M> {
                 block_sectors: iscsi.block_sectors,
             },
             address,
+            refusals: Refusals::new(array.rt),
         })
     }
 }
@@ -108,6 +110,21 @@ impl<'a, R: Wait + Clock, L: Ledger, P: FlushPort + Drop> FlushPort for PatientP
     }
 }
 
+impl<'a, R: Wait + Clock, L: Ledger, P: DiscardPort + Drop> DiscardPort
+    for PatientPort<'a, R, L, P> {
+    ghost discards = { λ old lun lba count reply new. P.discards old.port lun lba count reply new.port };
+
+    ghost runs = { λ old lun block most run new. P.runs old.port lun block most run new.port };
+
+    fn discard(&mut self, lun: u8, lba: u64, count: u32) -> Reply {
+        self.port.discard(lun, lba, count)
+    }
+
+    fn run(&mut self, lun: u8, block: u32, most: u32) -> BlockRun {
+        self.port.run(lun, block, most)
+    }
+}
+
 // Waits until a host has no session, or for a second.
 fn wait_for_seat<R: Wait + Clock, L: Ledger>(rt: &R, desk: &Mutex<Desk<L>>, number: u8) {
     let Some(host) = Host::new(number) else {
@@ -145,7 +162,21 @@ impl<
         let end = serve_target(alloc, &mut reader, &mut writer, &mut server, &self.address);
         let PatientPort { port, .. } = server.into_port();
         let _receipt = port.finish();
+        if let Some(why) = refusal_of(end) {
+            self.refusals.warn(rt, "an initiator", why);
+        }
         info!(rt; "iSCSI session {number} ended: {end:?}");
         end
+    }
+}
+
+// Why a session didn't begin, if no memory could be allocated for it or its host has one already.
+fn refusal_of(end: IscsiEnd) -> Option<&'static str> {
+    match end {
+        IscsiEnd::NoBuffer | IscsiEnd::Login(LoginEnd::NoMemory) => Some("no memory"),
+        IscsiEnd::Login(LoginEnd::Refused(LoginStatus::OutOfResources)) => Some(
+            "its host is in use",
+        ),
+        _ => None,
     }
 }

@@ -14,10 +14,10 @@ mod shown;
 mod watching;
 
 pub use control::LockController;
-pub use doors::{OperatedArray, Ports, SideDoors, run_operated};
+pub use doors::{OperatedArray, SideDoors, run_operated};
 pub use initiators::{IscsiPort, Targets};
 pub use monitoring::Monitor;
 pub use operators::{MOST_OPERATORS, PendingStops};
 pub use runtime::ServiceRuntime;
-pub use service::{HttpPort, NewUnit, Plan, ServiceFault, TcpStops, serve, serve_lasting};
+pub use service::{Closing, HttpPort, NewUnit, Plan, ServiceFault, TcpStops, serve, serve_lasting};
 pub use watching::Watch;

@@ -4,8 +4,9 @@ ghost use Rattle.std.specs.Prelude.{◌≤◌, length};
 
 use crate::doors::OperatedArray;
 use crate::shown::ControlledArray;
+use ar_operator::{Fuse, lost_disks};
 use ar_status::{EventKind, RecentEvent, RecentEvents};
-use log::{Log, info};
+use log::{Log, error, info, warn};
 use std::sync::Wait;
 use std::sync::atomic::Ordering;
 use std::sync::ledger::Ledger;
@@ -20,7 +21,7 @@ const FIRST_BYTES: u64 = 1 << 20;
 
 /// What looks at an array until the service ends.
 pub trait Monitor {
-    /// Looks at it again and again.
+    /// Looks at it again and again, and once more when the service ends.
     fn monitor(&self);
 
     /// Ends the service.
@@ -33,13 +34,20 @@ impl<'a, R: Wait + Clock + Log, A: ControlledArray<L, M> + Drop, L: Ledger, M> M
         let mut logged = RecentEvents::new();
         let mut bytes = FIRST_BYTES;
         for _ in self.rt.forever() {
-            if self.stop.load(Ordering::SeqCst) {
-                break;
-            }
+            // (what has happened before the end is logged, too)
+            let is_last = self.stop.load(Ordering::SeqCst);
             let status = self.see();
-            log_events(self.rt, logged.as_slice(), status.events.as_slice());
+            log_events(
+                self.rt,
+                self.fuses,
+                logged.as_slice(),
+                status.events.as_slice(),
+            );
             logged = status.events;
             bytes = log_bytes(self.rt, bytes, status.history_bytes);
+            if is_last {
+                break;
+            }
             thread::sleep(self.rt, Duration::from_millis(PAUSE));
         }
     }
@@ -50,13 +58,13 @@ impl<'a, R: Wait + Clock + Log, A: ControlledArray<L, M> + Drop, L: Ledger, M> M
 }
 
 // Logs the events of a list that an older one doesn't have. Both have the newest first.
-fn log_events<R: Log>(rt: &R, old: &[RecentEvent], new: &[RecentEvent]) {
+fn log_events<R: Log>(rt: &R, fuses: &[Fuse; 12], old: &[RecentEvent], new: &[RecentEvent]) {
     for event in new[..count_new(old, new)].iter().rev() {
-        log_event(rt, event.kind);
+        log_event(rt, fuses, event.kind);
     }
 }
 
-// How many events came behind those of the old list.
+// How many events came after those of the old list.
 fn count_new(old: &[RecentEvent], new: &[RecentEvent]) -> usize
     ensures { result ≤ length new.now }
 {
@@ -68,16 +76,36 @@ fn count_new(old: &[RecentEvent], new: &[RecentEvent]) -> usize
     new.len()
 }
 
-fn log_event<R: Log>(rt: &R, kind: EventKind) {
+// Logs an event: a failure as a warning or an error, which are written also without `--log`.
+fn log_event<R: Log>(rt: &R, fuses: &[Fuse; 12], kind: EventKind) {
     match kind {
-        EventKind::DiskFailed { disk } => info!(rt; "disk {disk} failed"),
+        EventKind::DiskFailed { disk } => log_disk(rt, fuses, disk),
         EventKind::DiskReplaced { disk } => info!(rt; "disk {disk} replaced"),
         EventKind::DiskRebuilt { disk } => info!(rt; "disk {disk} rebuilt"),
         EventKind::DiskAdded { disk } => info!(rt; "disk {disk} added"),
-        EventKind::ArrayFailed => info!(rt; "array failed: two disks missing at once"),
+        EventKind::ArrayFailed => log_array(rt, fuses),
         EventKind::UnitMade { host, lun } => info!(rt; "unit {host} {lun} made"),
         EventKind::UnitGrown { host, lun } => info!(rt; "unit {host} {lun} grown"),
         EventKind::UnitDropped { host, lun } => info!(rt; "unit {host} {lun} dropped"),
+    }
+}
+
+// Logs that a disk has failed, and why.
+fn log_disk<R: Log>(rt: &R, fuses: &[Fuse; 12], disk: u8) {
+    match fuses.get(usize::from(disk)) {
+        Some(fuse) if fuse.is_out() => warn!(rt; "disk {disk} failed: an operator took it out"),
+        _ => warn!(rt; "disk {disk} failed: an access faulted"),
+    }
+}
+
+// Logs that the array has failed, and which disks were missing.
+fn log_array<R: Log>(rt: &R, fuses: &[Fuse; 12]) {
+    match lost_disks(fuses) {
+        Some(disks) => {
+            let [one, other] = disks;
+            error!(rt; "array failed: disks {one} and {other} missing at once");
+        }
+        None => error!(rt; "array failed: two disks missing at once"),
     }
 }
 

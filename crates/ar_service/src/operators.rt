@@ -4,17 +4,24 @@ use crate::control::LockController;
 use crate::doors::OperatedArray;
 use crate::shown::ControlledArray;
 use ar_frames::{Sink, Source, send};
-use ar_operator::{OperatorEnd, converse};
-use ar_sessions::{Handler, wake};
+use ar_operator::{Buffers, OperatorEnd, converse_in};
+use ar_sessions::{Handler, Refusals};
+use log::Log;
 use std::alloc::{AllocError, Global};
-use std::net::{Net, TcpListener, TcpStream};
 use std::sync::atomic::{AtomicU64, Ordering};
 use std::sync::ledger::Ledger;
 use std::sync::{Mutex, Wait};
-use std::time::Clock;
+use std::thread;
+use std::time::{Clock, Duration};
 
 /// The most operators that converse at once.
 pub const MOST_OPERATORS: u64 = 4;
+
+/// How often a new operator looks for a place, and the milliseconds between two looks: one who was silent may just be
+/// leaving it.
+const LOOKS: u32 = 500;
+
+const LOOK_PAUSE: u64 = 1;
 
 /// The answer to an operator when four others converse.
 const TOO_MANY: &[u8] = b"fault: too many operators\n";
@@ -23,6 +30,14 @@ const TOO_MANY: &[u8] = b"fault: too many operators\n";
 #[derive(Drop)]
 pub struct PendingStops<S: Drop, W: Drop> {
     streams: Vec<(S, W)>,
+}
+
+/// What the operators' door needs beside its threads: memory for the conversations, and places for those that wait for
+/// the end. All of it is there from the start, so that an operator may come, and say `stop`, when memory is used up.
+#[derive(Drop)]
+pub struct OperatorRoom<S: Drop, W: Drop> {
+    free: Vec<Buffers>,
+    pending: PendingStops<S, W>,
 }
 
 /// What the threads at the operators' door share.
@@ -37,32 +52,34 @@ pub struct OperatorHandler<
     W: Drop,
 > {
     array: &'a OperatedArray<'a, R, A, L, M>,
-    hosts_port: u16,
-    // How many operators converse, or are refused.
+    // How many operators converse, or look whether they may.
     open: AtomicU64,
+    refusals: Refusals,
+    // The memory of conversations that nobody has now.
+    free: Mutex<Vec<Buffers>>,
     pending: Mutex<PendingStops<S, W>>,
 }
 
-impl<'a, R: Wait, A: ControlledArray<L, M> + Drop, L: Ledger, M, S: Drop, W: Drop> OperatorHandler<
+impl<
     'a,
-    R,
-    A,
-    L,
+    R: Wait + Clock,
+    A: ControlledArray<L, M> + Drop,
+    L: Ledger,
     M,
-    S,
-    W,
-> {
-    /// A handler with places for the operators that wait for the end. A connection to `hosts_port` ends the wait at the
-    /// hosts' door.
+    S: Drop,
+    W: Drop,
+> OperatorHandler<'a, R, A, L, M, S, W> {
+    /// A handler with this room.
     pub fn new(
         array: &'a OperatedArray<'a, R, A, L, M>,
-        hosts_port: u16,
-        pending: PendingStops<S, W>,
+        room: OperatorRoom<S, W>,
     ) -> OperatorHandler<'a, R, A, L, M, S, W> {
+        let OperatorRoom { free, pending } = room;
         OperatorHandler {
             array,
-            hosts_port,
             open: AtomicU64::new(0),
+            refusals: Refusals::new(array.rt),
+            free: Mutex::new(free),
             pending: Mutex::new(pending),
         }
     }
@@ -76,7 +93,7 @@ impl<'a, R: Wait, A: ControlledArray<L, M> + Drop, L: Ledger, M, S: Drop, W: Dro
 
 impl<
     'a,
-    R: Wait + Clock + Net<Listener = TcpListener, Stream = TcpStream>,
+    R: Wait + Clock + Log,
     A: ControlledArray<L, M> + Drop,
     L: Ledger,
     M: Copy,
@@ -88,20 +105,37 @@ impl<
     // Converses with an operator, unless four do already. One whose `stop` is accepted is kept until it can be
     // answered.
     fn handle(&self, _number: u64, mut reader: S, mut writer: W) -> OperatorEnd {
-        let others = self.open.fetch_add(1, Ordering::SeqCst);
-        let end = if others < MOST_OPERATORS {
-            converse_with(self.array, &mut reader, &mut writer)
+        let end = if enters(self.array.rt, &self.open) {
+            let end = converse_with(self.array, &self.free, &mut reader, &mut writer);
+            self.open.fetch_sub(1, Ordering::SeqCst);
+            end
         } else {
+            self.refusals
+                .warn(self.array.rt, "an operator", "four others converse");
             refuse(&mut writer)
         };
-        self.open.fetch_sub(1, Ordering::SeqCst);
+        if end == OperatorEnd::NoMemory {
+            self.refusals
+                .warn(self.array.rt, "an operator", "no memory");
+        }
         if end == OperatorEnd::Stop {
             keep(self.array.rt, &self.pending, reader, writer);
             self.array.stop.store(true, Ordering::SeqCst);
-            wake(self.array.rt, self.hosts_port);
         }
         end
     }
+}
+
+// Counts an operator among those that converse, once fewer than four others do. False: they didn't become fewer.
+fn enters<R: Clock>(rt: &R, open: &AtomicU64) -> bool {
+    for _ in 0..LOOKS {
+        if open.fetch_add(1, Ordering::SeqCst) < MOST_OPERATORS {
+            return true;
+        }
+        open.fetch_sub(1, Ordering::SeqCst);
+        thread::sleep(rt, Duration::from_millis(LOOK_PAUSE));
+    }
+    false
 }
 
 // Keeps an operator until it can be answered. (A place is free for each thread.)
@@ -120,7 +154,7 @@ fn refuse<W: Sink>(writer: &mut W) -> OperatorEnd {
     OperatorEnd::End
 }
 
-// Answers an operator's lines.
+// Answers an operator's lines, in memory that nobody has. (There is some for each that may converse.)
 fn converse_with<
     R: Wait + Clock,
     A: ControlledArray<L, M> + Drop,
@@ -128,12 +162,37 @@ fn converse_with<
     M: Copy,
     S: Source,
     W: Sink,
->(array: &OperatedArray<'_, R, A, L, M>, reader: &mut S, writer: &mut W) -> OperatorEnd {
+>(
+    array: &OperatedArray<'_, R, A, L, M>,
+    free: &Mutex<Vec<Buffers>>,
+    reader: &mut S,
+    writer: &mut W,
+) -> OperatorEnd {
+    let Some(mut buffers) = free.lock(array.rt).pop() else {
+        return OperatorEnd::NoMemory;
+    };
     let mut controller = LockController::new(&*array);
-    converse(array.alloc, reader, writer, &mut controller)
+    let end = converse_in(reader, writer, &mut controller, &mut buffers);
+    let _given = free.lock(array.rt).push(buffers);
+    end
 }
 
-impl<S: Drop, W: Sink + Drop> PendingStops<S, W> {
+impl<S: Drop, W: Drop> OperatorRoom<S, W> {
+    /// Room for four conversations, and for as many operators that wait for the end as there are threads. Fails if out
+    /// of memory.
+    pub fn new(alloc: Global, threads: u32) -> Result<OperatorRoom<S, W>, AllocError> {
+        let mut free = Vec::with_capacity(alloc, MOST_OPERATORS as usize)?;
+        for _ in 0..MOST_OPERATORS {
+            free.push(Buffers::new(alloc)?)?;
+        }
+        Ok(OperatorRoom {
+            free,
+            pending: PendingStops::with_room(alloc, threads)?,
+        })
+    }
+}
+
+impl<S: Drop, W: Drop> PendingStops<S, W> {
     /// None.
     pub fn none(alloc: Global) -> PendingStops<S, W> {
         PendingStops {
@@ -147,7 +206,9 @@ impl<S: Drop, W: Sink + Drop> PendingStops<S, W> {
             streams: Vec::with_capacity(alloc, threads as usize)?,
         })
     }
+}
 
+impl<S: Drop, W: Sink + Drop> PendingStops<S, W> {
     /// Answers all of them, and closes their connections.
     pub fn answer(self, text: &[u8]) {
         for (reader, mut writer) in self.streams {

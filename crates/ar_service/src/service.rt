@@ -2,40 +2,48 @@
 ghost use Rattle.std.specs.Prelude.{◌≡◌, [], ◌∷◌, Err, IfOk, IfErr, OnOk, map};
 ghost use Rattle.ar_history.specs.Seat.{SeatState};
 ghost use Rattle.ar_history.specs.declared.counts.HostCounts.{HostCounts};
+ghost use Rattle.ar_volume.specs.Image.{is_broken};
 ghost use Rattle.ar_service.specs.Service.{AreProvided, CreatesUnits, FailsAudit, IsAudited, IsProvided, refusal_in};
 
 use crate::ServiceRuntime;
-use crate::doors::{OperatedArray, Ports, SideDoors, run_operated};
+use crate::doors::{OperatedArray, SideDoors, TARGET_THREADS, run_operated};
 use crate::initiators::IscsiPort;
-use crate::operators::PendingStops;
+use crate::operators::{MOST_OPERATORS, PendingStops};
 use crate::shown::{ControlledArray, health_of};
-use ar_core::{Array, OutcomeOf, Refusal};
+use ar_core::{Array, Health, OutcomeOf, Refusal};
 use ar_disks::{Addr, Disk};
-use ar_frames::NoGate;
 use ar_history::{CountedArray, Counts, Kept, Mismatch, OperableArray, Report, Seat};
 use ar_operator::{DiskMaker, Fuse};
 use ar_sessions::{
-    ANY_NUMBER, Desk, ListenFault, NoMemory, TcpDoor, TcpReader, TcpWriter, Timeouts,
+    ANY_NUMBER, Desk, ListenFault, MOST_AT_ONCE, NoMemory, Protocol, Starter, TcpDoor, TcpReader,
+    TcpWriter, Timeouts,
 };
 use ar_status::EventLog;
 use std::alloc::Global;
 use std::hash::RandomState;
 use std::sync::Mutex;
-use std::sync::atomic::AtomicBool;
+use std::sync::atomic::{AtomicBool, Ordering};
 use std::sync::ledger::{Blank, Ledger};
 use std::time::Instant;
 
 /// Operators over TCP whose `stop` was accepted.
 pub type TcpStops<'a, R> = PendingStops<TcpReader<'a, R>, TcpWriter<'a, R>>;
 
-/// The seconds for which an operator may be silent.
+/// The seconds in which an operator's first line has to come, and those for which the operator may be silent later.
+const OPERATOR_LINE: u32 = 30;
+
 const OPERATOR_IDLE: u32 = 600;
 
 /// The seconds for which an initiator may be silent, if hosts have no limit. Initiators send a NOP-Out every few
 /// seconds.
 const INITIATOR_IDLE: u32 = 600;
 
-/// The seconds that an HTTP connection may last.
+/// The seconds that a session for discovery may last. It has no host's seat, and takes a moment.
+const DISCOVERY_WHOLE: u32 = 10;
+
+/// The seconds in which the head of an HTTP request has to come, and those that its connection may last.
+const HTTP_HEAD: u32 = 2;
+
 const HTTP_WHOLE: u32 = 10;
 
 /// A unit to create.
@@ -60,12 +68,14 @@ pub struct Plan<'a> {
     pub units: &'a [NewUnit],
     /// The TCP port to listen at for hosts, on 127.0.0.1.
     pub port: u16,
-    /// The number of hosts' connections. None: any number, until an operator's `stop`.
+    /// The number of hosts' sessions. None: any number, until an operator's `stop`.
     pub sessions: Option<u8>,
     /// The TCP port to listen at for operators, on 127.0.0.1.
     pub operator: Option<u16>,
     /// The TCP port to listen at for HTTP clients, on 127.0.0.1.
     pub http: Option<HttpPort>,
+    /// A name by which HTTP clients may ask for the service, beside those of 127.0.0.1.
+    pub http_host: Option<&'a str>,
     /// The TCP port to listen at for initiators over iSCSI, on 127.0.0.1.
     pub iscsi: Option<IscsiPort>,
     /// How long hosts may be silent.
@@ -93,6 +103,15 @@ pub enum ServiceFault {
     Store,
 }
 
+/// What a service that ended by itself reports.
+#[derive(Clone, Copy, Debug, PartialEq, Eq)]
+pub struct Closing {
+    /// The number of commands of each host.
+    pub commands: [u64; 4],
+    /// Whether the array has failed, and with it its units.
+    pub data_lost: bool,
+}
+
 // What a service begins with beside its array.
 #[derive(Drop)]
 struct Begun<L: Ledger> {
@@ -118,7 +137,7 @@ impl From<NoMemory> for ServiceFault {
 /// initiators and HTTP clients. If it `audits`, the history and the hosts' transcripts are stored, and compared at
 /// the end. Else contracts alone see the history, so that the array may be served for ever. `disks` are the fuses of
 /// its disks, by number, and what makes new ones; `stop` isn't set yet. Returns the operators that wait for the end,
-/// and the number of commands of each host, or what failed.
+/// and what is reported, or what failed.
 pub fn serve<
     's,
     D: Disk + Drop + Send,
@@ -134,7 +153,7 @@ pub fn serve<
     stop: &'s AtomicBool,
     plan: Plan<'_>,
     audits: bool,
-) -> (TcpStops<'s, R>, Result<[u64; 4], ServiceFault>)
+) -> (TcpStops<'s, R>, Result<Closing, ServiceFault>)
     requires name { blank.name ≡ L.name }
     requires parts { blank.parts ≡ L.parts }
     requires four { blank.parts ≡ 4 }
@@ -147,8 +166,9 @@ pub fn serve<
         let begun = Begun { made, seats, log };
         let (stops, served, kept, desk) = serve_array(rt, alloc, kept, begun, disks, stop, plan);
         let report = audit(served, &kept, desk);
+        let data_lost = has_lost_data(kept.array());
         drop(kept);
-        (stops, report.map(|report| report.commands))
+        (stops, report.map(|report| closing_with(report, data_lost)))
     } else {
         let (mut counted, seats) = CountedArray::<D, L>::start(alloc, blank, array);
         let made = create_units(&mut counted, plan.units).map_err(refused);
@@ -157,9 +177,9 @@ pub fn serve<
             rt, alloc, counted, begun, disks, stop, plan,
         );
         drop(desk);
-        let commands = commands_of(&counted.counts());
+        let closing = closing_of(counted.array(), &counted.counts());
         drop(counted);
-        (stops, served.map(|()| commands))
+        (stops, served.map(|()| closing))
     }
 }
 
@@ -180,7 +200,7 @@ pub fn serve_lasting<
     disks: (&[Fuse; 12], M),
     stop: &'s AtomicBool,
     plan: Plan<'_>,
-) -> (TcpStops<'s, R>, Result<[u64; 4], ServiceFault>)
+) -> (TcpStops<'s, R>, Result<Closing, ServiceFault>)
     requires hosts { map (λ (s : SeatState). s.host.number) seats ≡ 0 ∷ 1 ∷ 2 ∷ 3 ∷ [] }
 {
     let mut array = array;
@@ -190,25 +210,24 @@ pub fn serve_lasting<
     let begun = Begun { made, seats, log };
     let (stops, served, array, desk) = serve_array(rt, alloc, array, begun, disks, stop, plan);
     drop(desk);
-    let (ended, commands) = end_lasting::<A, L>(array, is_made);
-    (stops, ended.and(served).map(|()| commands))
+    let (ended, closing) = end_lasting::<A, L>(array, is_made);
+    (stops, ended.and(served).map(|()| closing))
 }
 
-// Commits what was done, unless the start was refused, and returns whether it lasts, and the number of commands of each
-// host.
+// Commits what was done, unless the start was refused, and returns whether it lasts, and what is reported.
 fn end_lasting<A: OperableArray<L> + Drop, L: Ledger>(
     array: A,
     is_made: bool,
-) -> (Result<(), ServiceFault>, [u64; 4]) {
+) -> (Result<(), ServiceFault>, Closing) {
     let mut array = array;
     let ended = if is_made {
         commit::<A, L>(&mut array)
     } else {
         Ok(())
     };
-    let commands = commands_of(&array.counts());
+    let closing = closing_of(array.array(), &array.counts());
     drop(array);
-    (ended, commands)
+    (ended, closing)
 }
 
 // Commits what was done.
@@ -254,6 +273,7 @@ fn serve_array<
         fuses,
         disks,
         log: &log,
+        http_host: plan.http_host,
         began: Instant::now(rt).ok(),
         stop,
     };
@@ -279,14 +299,15 @@ fn serve_plan<
 ) -> (TcpStops<'s, R>, Result<(), ServiceFault>) {
     match open_doors(rt, operated.alloc, stop, plan) {
         Ok((hosts, doors)) => {
-            let (stops, served) = run_operated(operated, hosts, doors, ports_of(plan), &NoGate);
-            (stops, served.map_err(|_| ServiceFault::NoMemory))
+            let announcer = Announcer::new(rt, plan.port, stop);
+            let (stops, served) = run_operated(operated, hosts, doors, &announcer);
+            (stops, announcer.judge(served))
         }
         Err(fault) => (PendingStops::none(operated.alloc), Err(fault)),
     }
 }
 
-// Opens the doors of a plan, and says so.
+// Opens the doors of a plan.
 fn open_doors<'s, R: ServiceRuntime + Sync>(
     rt: &'s R,
     alloc: Global,
@@ -306,7 +327,6 @@ fn open_doors<'s, R: ServiceRuntime + Sync>(
         Some(iscsi) => Some((open_initiators(rt, alloc, stop, iscsi.port, plan)?, iscsi)),
         None => None,
     };
-    say_listening(rt, plan.port)?;
     Ok((
         hosts,
         SideDoors {
@@ -317,30 +337,17 @@ fn open_doors<'s, R: ServiceRuntime + Sync>(
     ))
 }
 
-// The ports of a plan.
-fn ports_of(plan: Plan<'_>) -> Ports {
-    Ports {
-        hosts: plan.port,
-        operators: plan.operator,
-        watchers: plan.http.map(|http| http.port),
-        initiators: plan.iscsi.map(|iscsi| iscsi.port),
-    }
-}
-
-// Opens the hosts' door. Only an operator's `stop` closes it before its last connection.
+// Opens the hosts' door. Only an operator's `stop` closes it before its last session.
 fn open_hosts<'s, R: ServiceRuntime>(
     rt: &'s R,
     alloc: Global,
     stop: &'s AtomicBool,
     plan: Plan<'_>,
 ) -> Result<TcpDoor<'s, R>, ServiceFault> {
-    let sessions = match plan.sessions {
-        Some(sessions) => usize::from(sessions),
-        None => ANY_NUMBER,
-    };
-    let stop = plan.operator.map(|_| stop);
-    let hosts = TcpDoor::listen(rt, alloc, plan.port, sessions)?;
-    Ok(hosts.limited(plan.timeouts, stop))
+    let hosts = TcpDoor::listen(rt, alloc, plan.port, ANY_NUMBER)?;
+    let hosts = hosts.limited(Protocol::Sessions, plan.timeouts, Some(stop));
+    let hosts = hosts.crowded(MOST_AT_ONCE as usize - 1, plan.sessions);
+    hosts.map_err(|_| ServiceFault::NoMemory)
 }
 
 // Opens the operators' door.
@@ -351,11 +358,14 @@ fn open_operators<'s, R: ServiceRuntime>(
     stop: &'s AtomicBool,
 ) -> Result<TcpDoor<'s, R>, ServiceFault> {
     let timeouts = Timeouts {
+        login: Some(OPERATOR_LINE),
         idle: Some(OPERATOR_IDLE),
         ..Timeouts::NONE
     };
     let door = TcpDoor::listen(rt, alloc, port, ANY_NUMBER)?;
-    Ok(door.limited(timeouts, Some(stop)))
+    let door = door.limited(Protocol::Lines, timeouts, Some(stop));
+    let door = door.crowded(MOST_OPERATORS as usize, None);
+    door.map_err(|_| ServiceFault::NoMemory)
 }
 
 // Opens the door of HTTP clients.
@@ -366,11 +376,12 @@ fn open_watchers<'s, R: ServiceRuntime>(
     stop: &'s AtomicBool,
 ) -> Result<TcpDoor<'s, R>, ServiceFault> {
     let timeouts = Timeouts {
+        login: Some(HTTP_HEAD),
         whole: Some(HTTP_WHOLE),
         ..Timeouts::NONE
     };
     let door = TcpDoor::listen(rt, alloc, port, ANY_NUMBER)?;
-    Ok(door.limited(timeouts, Some(stop)))
+    Ok(door.limited(Protocol::Http, timeouts, Some(stop)))
 }
 
 // Opens the door of initiators. One that is silent is ended, since it keeps its host's seat.
@@ -384,14 +395,61 @@ fn open_initiators<'s, R: ServiceRuntime>(
     let timeouts = Timeouts {
         login: plan.timeouts.login,
         idle: Some(plan.timeouts.idle.unwrap_or(INITIATOR_IDLE)),
+        discovery: Some(DISCOVERY_WHOLE),
         whole: None,
     };
     let door = TcpDoor::listen(rt, alloc, port, ANY_NUMBER)?;
-    Ok(door.limited(timeouts, Some(stop)))
+    let door = door.limited(Protocol::Sessions, timeouts, Some(stop));
+    // (one thread is free to let the next one in)
+    let door = door.crowded(TARGET_THREADS as usize - 1, None);
+    door.map_err(|_| ServiceFault::NoMemory)
 }
 
-fn say_listening(rt: &impl Print, port: u16) -> Result<(), ServiceFault> {
-    println!(rt; "listening {port}").map_err(|_| ServiceFault::Write)
+// Says that a service listens, once all its threads are there.
+#[derive(Drop)]
+struct Announcer<'a, R: Print> {
+    rt: &'a R,
+    port: u16,
+    // Set where the service can't begin.
+    stop: &'a AtomicBool,
+    // It couldn't be said.
+    has_failed: AtomicBool,
+}
+
+impl<'a, R: Print> Announcer<'a, R> {
+    fn new(rt: &'a R, port: u16, stop: &'a AtomicBool) -> Announcer<'a, R> {
+        Announcer {
+            rt,
+            port,
+            stop,
+            has_failed: AtomicBool::new(false),
+        }
+    }
+
+    // What came of a service.
+    fn judge(&self, served: Result<(), NoMemory>) -> Result<(), ServiceFault> {
+        match served {
+            Ok(()) if self.has_failed.load(Ordering::SeqCst) => Err(ServiceFault::Write),
+            Ok(()) => Ok(()),
+            Err(NoMemory) => Err(ServiceFault::NoMemory),
+        }
+    }
+
+    // Prints that it listens, and returns whether that was printed.
+    fn is_printed(&self) -> bool {
+        println!(self.rt; "listening {}", self.port).is_ok()
+    }
+}
+
+impl<R: Print> Starter for Announcer<'_, R> {
+    fn started(&self, are_all: bool) {
+        if !are_all {
+            self.stop.store(true, Ordering::SeqCst);
+        } else if !self.is_printed() {
+            self.has_failed.store(true, Ordering::SeqCst);
+            self.stop.store(true, Ordering::SeqCst);
+        }
+    }
 }
 
 // Creates the units in their order, up to one that is refused: its number, and why.
@@ -487,6 +545,36 @@ fn audit<L: Ledger, D: Disk + Drop>(
         Ok(seats) => kept.close(&seats).map_err(ServiceFault::Mismatch),
         Err(_) => Err(ServiceFault::SeatOut),
     }
+}
+
+// What is reported after an audit.
+fn closing_with(report: Report, data_lost: bool) -> Closing
+    ensures commands { result.commands ≡ report.commands }
+    ensures lost { result.data_lost ≡ data_lost }
+{
+    let commands = report.commands;
+    Closing {
+        commands,
+        data_lost,
+    }
+}
+
+// What is reported of an array.
+fn closing_of<D: Disk>(array: &Array<D>, counts: &Counts) -> Closing
+    ensures commands { result.commands ≡ map (λ (host : HostCounts). host.commands) counts.now.hosts }
+    ensures lost { result.data_lost ≡ is_broken array.now }
+{
+    Closing {
+        commands: commands_of(counts),
+        data_lost: has_lost_data(array),
+    }
+}
+
+// Whether the array has failed.
+fn has_lost_data<D: Disk>(array: &Array<D>) -> bool
+    ensures { result ≡ is_broken array.now }
+{
+    matches!(array.health(), Health::Broken)
 }
 
 // The number of commands of each host.

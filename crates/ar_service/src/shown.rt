@@ -1,25 +1,29 @@
 // What the pages show of an array with its history: numbers, and its picture.
-ghost use Rattle.std.specs.Prelude.{◌≡◌, ◌-◌, ◌++◌, IfOk, OnOk, Some, true, false, if◌then◌else◌, length, map};
+ghost use Rattle.std.specs.Prelude.{◌≡◌, ◌-◌, ◌++◌, IfOk, OnOk, None, Some, true, false, if◌then◌else◌, length, map};
+ghost use Rattle.std.specs.Prelude.{option_map};
 ghost use Rattle.std.specs.List.{range_with_len};
 ghost use Rattle.ar_history.specs.declared.counts.HostCounts.{HostCounts};
 ghost use Rattle.ar_operator.specs.Executing.{Executes, IsArrayOrder};
 ghost use Rattle.ar_picture.specs.Writing.{AddsSome};
 ghost use Rattle.ar_script.specs.Pictures.{IsPicture};
 ghost use Rattle.ar_service.specs.Watching.{IsStatusOf, SeesArray, counters_watched, health_watched, host_watched};
-ghost use Rattle.ar_service.specs.Watching.{operations_watched, replies_watched, steps_watched};
+ghost use Rattle.ar_service.specs.Watching.{lost_watched, operations_watched, replies_watched, steps_watched};
+ghost use Rattle.ar_service.specs.Watching.{store_health_watched, store_watched};
 
 use ar_core::{Array, Counters, Health};
 use ar_disks::Disk;
 use ar_history::{
-    Counts, HostCounts, OperableArray, OperationCounts, ReplyCounts, ServedArray, TaskCounts,
+    Counts, HostCounts, OperableArray, OperationCounts, ReplyCounts, ServedArray, StoreState,
+    StoreStatus, TaskCounts,
 };
-use ar_language::Order;
-use ar_operator::{DiskMaker, Fuse, execute, set_fuse};
+use ar_operator::{
+    DiskMaker, Fuse, OperatorOrder, Prepared, SpareDisk, WantedDisk, execute, set_fuse, wanted_disk,
+};
 use ar_picture::Picture;
 use ar_script::picture_of;
 use ar_status::{
     ArrayCounters, ArrayHealth, ArrayStatus, EventLog, HostCounters, MaintenanceSteps,
-    OperationCounters, RecentEvents, ReplyCounters,
+    OperationCounters, RecentEvents, ReplyCounters, StoreHealth, StoreNumbers,
 };
 use std::alloc::{AllocError, Global};
 use std::sync::ledger::Ledger;
@@ -29,12 +33,17 @@ const ENTRY_LEN: u64 = 136;
 
 /// A served array, as operators use it and the pages show it, whatever its disks are. `M` makes its new disks.
 pub trait ControlledArray<L: Ledger, M>: ServedArray<L> {
-    /// Executes an order and appends its answer to `out`, as a script has it (`ar_operator::execute`).
+    /// Returns which new disk an order wants (`ar_operator::wanted_disk`).
+    fn wanted_disk(&self, order: OperatorOrder) -> Option<WantedDisk>;
+
+    /// Executes an order and appends its answer to `out` (`ar_operator::execute`). A new disk is the spare one, if that
+    /// has its shape.
     fn execute(
         &mut self,
         alloc: Global,
         disks: &mut M,
-        order: Order,
+        spare: &mut Option<SpareDisk>,
+        order: OperatorOrder,
         out: &mut Vec<u8>,
     ) -> Result<(), AllocError>
         requires { IsArrayOrder order }
@@ -54,10 +63,17 @@ pub trait ControlledArray<L: Ledger, M>: ServedArray<L> {
     fn see(&self, seconds: u64, log: &mut EventLog)
         ensures { SeesArray seconds (Self.state self.now).array log.old log.new };
 
-    /// Returns the status of the array, `seconds` after the start, with these events.
-    fn status(&self, seconds: u64, events: RecentEvents) -> ArrayStatus
+    /// Returns the status of the array, `seconds` after the start, with these events, its store, if there is one, and
+    /// the disks that it has lost, if it has failed.
+    fn status(
+        &self,
+        store: Option<StoreStatus>,
+        lost: Option<[u8; 2]>,
+        seconds: u64,
+        events: RecentEvents,
+    ) -> ArrayStatus
         ensures { IsStatusOf (Self.state self.now).array (Self.state self.now).counts
-            (if Self.stores then length (Self.state self.now).history else 0) seconds events result };
+            (if Self.stores then length (Self.state self.now).history else 0) store lost seconds events result };
 
     /// Returns the data of the array's picture. It fails only when out of memory.
     fn picture(&self, alloc: Global) -> Result<Picture, AllocError>
@@ -65,14 +81,19 @@ pub trait ControlledArray<L: Ledger, M>: ServedArray<L> {
 }
 
 impl<A: OperableArray<L>, L: Ledger, M: DiskMaker<A::Disk>> ControlledArray<L, M> for A {
+    fn wanted_disk(&self, order: OperatorOrder) -> Option<WantedDisk> {
+        wanted_disk(self.array(), order)
+    }
+
     fn execute(
         &mut self,
         alloc: Global,
         disks: &mut M,
-        order: Order,
+        spare: &mut Option<SpareDisk>,
+        order: OperatorOrder,
         out: &mut Vec<u8>,
     ) -> Result<(), AllocError> {
-        execute(alloc, self, disks, order, out)
+        execute(alloc, self, &mut Prepared::new(disks, spare), order, out)
     }
 
     fn set_fuse(
@@ -89,11 +110,19 @@ impl<A: OperableArray<L>, L: Ledger, M: DiskMaker<A::Disk>> ControlledArray<L, M
         see_array(self.array(), seconds, log);
     }
 
-    fn status(&self, seconds: u64, events: RecentEvents) -> ArrayStatus {
+    fn status(
+        &self,
+        store: Option<StoreStatus>,
+        lost: Option<[u8; 2]>,
+        seconds: u64,
+        events: RecentEvents,
+    ) -> ArrayStatus {
         status_with(
             self.array(),
             &self.counts(),
             (self.stored_entries(), self.stored_room()),
+            store,
+            lost,
             seconds,
             events,
         )
@@ -104,20 +133,25 @@ impl<A: OperableArray<L>, L: Ledger, M: DiskMaker<A::Disk>> ControlledArray<L, M
     }
 }
 
-// The status of an array with so many entries of its history stored, and memory for so many.
+// The status of an array with this many entries of its history stored, and memory for that many, with a store, perhaps,
+// and disks that it has lost.
 fn status_with<D: Disk>(
     array: &Array<D>,
     counts: &Counts,
     stored: (usize, usize),
+    store: Option<StoreStatus>,
+    lost: Option<[u8; 2]>,
     seconds: u64,
     events: RecentEvents,
 ) -> ArrayStatus
-    ensures { IsStatusOf array.now counts.now stored.0 seconds events result }
+    ensures { IsStatusOf array.now counts.now stored.0 store lost seconds events result }
 {
     let status = status_of(array, counts, seconds, events);
     ArrayStatus {
+        lost_disks: lost_of(array.health(), lost),
         history_entries: stored.0 as u64,
         history_bytes: stored_bytes(stored.1 as u64, status.health, counts),
+        store: store_of(store),
         ..status
     }
 }
@@ -129,18 +163,19 @@ fn see_array<D: Disk>(array: &Array<D>, seconds: u64, log: &mut EventLog)
     log.see(seconds, health_of(array.health()), array.disks());
 }
 
-// The status of an array whose history isn't stored.
+// The status of an array whose history isn't stored, without a store.
 fn status_of<D: Disk>(
     array: &Array<D>,
     counts: &Counts,
     seconds: u64,
     events: RecentEvents,
 ) -> ArrayStatus
-    ensures { IsStatusOf array.now counts.now 0 seconds events result }
+    ensures { IsStatusOf array.now counts.now 0 None None seconds events result }
 {
     ArrayStatus {
         uptime_seconds: seconds,
         health: health_of(array.health()),
+        lost_disks: None,
         disks: array.disks(),
         extents: array.extents(),
         free_groups: array.free_groups(),
@@ -149,6 +184,7 @@ fn status_of<D: Disk>(
         cached_blocks: array.cached_blocks() as u64,
         history_entries: 0,
         history_bytes: 0,
+        store: None,
         hosts: hosts_of(counts.hosts),
         steps: steps_of(counts.tasks),
         counters: counters_of(array.counters()),
@@ -177,6 +213,53 @@ pub(crate) fn health_of(health: Health) -> ArrayHealth
         Health::Out(disk) => ArrayHealth::Out { disk },
         Health::Rebuilding(disk, done) => ArrayHealth::Rebuilding { disk, done },
         Health::Broken => ArrayHealth::Broken,
+    }
+}
+
+// The disks that an array has lost: none, unless it has failed.
+fn lost_of(health: Health, lost: Option<[u8; 2]>) -> Option<[u8; 2]>
+    ensures { result ≡ lost_watched lost health }
+{
+    match lost {
+        Some(disks) => match health {
+            Health::Broken => Some(disks),
+            _ => None,
+        },
+        None => None,
+    }
+}
+
+// The store, if there is one.
+fn store_of(store: Option<StoreStatus>) -> Option<StoreNumbers>
+    ensures { result ≡ option_map store_watched store }
+{
+    match store {
+        Some(store) => Some(numbers_of(store)),
+        None => None,
+    }
+}
+
+// A store in numbers.
+fn numbers_of(store: StoreStatus) -> StoreNumbers
+    ensures { result ≡ store_watched store }
+{
+    StoreNumbers {
+        state: store_health_of(store.state),
+        log_bytes: store.log_bytes,
+        waiting_bytes: store.waiting_bytes,
+        commits: store.commits,
+        checkpoints: store.checkpoints,
+    }
+}
+
+// Whether a store takes what is committed to it.
+fn store_health_of(state: StoreState) -> StoreHealth
+    ensures { result ≡ store_health_watched state }
+{
+    match state {
+        StoreState::Sound => StoreHealth::Sound,
+        StoreState::Failing => StoreHealth::Failing,
+        StoreState::GivenUp => StoreHealth::GivenUp,
     }
 }
 
@@ -246,5 +329,6 @@ fn counters_of(counters: Counters) -> ArrayCounters
         squeezes: counters.squeezes,
         cache_hits: counters.cache_hits,
         destages: counters.destages,
+        discards: counters.discards,
     }
 }

@@ -6,12 +6,14 @@ ghost use Rattle.ar_service.specs.Watching.{CopiesMoment, MayDraw, text_drawn};
 use crate::doors::OperatedArray;
 use crate::shown::ControlledArray;
 use ar_frames::Linked;
+use ar_operator::lost_disks;
 use ar_picture::{Picture, write_svg};
-use ar_sessions::Handler;
-use ar_status::{ArrayStatus, EventLog, Look, Watched, serve_connection};
+use ar_sessions::{Handler, Refusals};
+use ar_status::{ArrayStatus, EventLog, Look, Watched, serve_named};
+use log::Log;
 use std::alloc::{AllocError, Global};
 use std::hash::RandomState;
-use std::io::{Read, Write};
+use std::io::{ErrorKind, Read, Write};
 use std::sync::Wait;
 use std::sync::ledger::Ledger;
 use std::time::Clock;
@@ -22,6 +24,7 @@ pub struct Watch<'a, R: Wait + Clock, A: ControlledArray<L, M> + Drop, L: Ledger
     array: &'a OperatedArray<'a, R, A, L, M>,
     // Of the maps of header fields, whose names clients choose.
     keys: RandomState,
+    refusals: Refusals,
 }
 
 impl<'a, R: Wait + Clock, A: ControlledArray<L, M> + Drop, L: Ledger, M> Watch<'a, R, A, L, M> {
@@ -30,7 +33,11 @@ impl<'a, R: Wait + Clock, A: ControlledArray<L, M> + Drop, L: Ledger, M> Watch<'
         array: &'a OperatedArray<'a, R, A, L, M>,
         keys: RandomState,
     ) -> Watch<'a, R, A, L, M> {
-        Watch { array, keys }
+        Watch {
+            array,
+            keys,
+            refusals: Refusals::new(array.rt),
+        }
     }
 
     // The status, and the data of the picture if it is to be drawn. The log's lock is taken before the array's, so that
@@ -40,12 +47,13 @@ impl<'a, R: Wait + Clock, A: ControlledArray<L, M> + Drop, L: Ledger, M> Watch<'
         alloc: Global,
         draws: bool,
     ) -> Result<(ArrayStatus, Option<Picture>), AllocError>
-        ensures { IfOk result (λ copied. CopiesMoment draws copied.0 copied.1) }
+        ensures { IfOk result (λ copied. CopiesMoment A.persists draws copied.0 copied.1) }
     {
         let mut log = self.array.log.lock(self.array.rt);
         let seconds = self.array.seconds();
         let array = self.array.array.lock(self.array.rt);
-        copy_moment::<A, L, M>(alloc, &array, &mut log, seconds, draws)
+        let lost = lost_disks(self.array.fuses);
+        copy_moment::<A, L, M>(alloc, &array, &mut log, lost, seconds, draws)
     }
 }
 
@@ -54,13 +62,14 @@ fn copy_moment<A: ControlledArray<L, M>, L: Ledger, M>(
     alloc: Global,
     array: &A,
     log: &mut EventLog,
+    lost: Option<[u8; 2]>,
     seconds: u64,
     draws: bool,
 ) -> Result<(ArrayStatus, Option<Picture>), AllocError>
-    ensures { IfOk result (λ copied. CopiesMoment draws copied.0 copied.1) }
+    ensures { IfOk result (λ copied. CopiesMoment A.persists draws copied.0 copied.1) }
 {
     array.see(seconds, log);
-    let status = array.status(seconds, log.events());
+    let status = array.status(array.store(), lost, seconds, log.events());
     let picture = picture_if::<A, L, M>(alloc, array, draws)?;
     Ok((status, picture))
 }
@@ -95,7 +104,7 @@ impl<'a, R: Wait + Clock, A: ControlledArray<L, M> + Drop, L: Ledger, M> Watched
     for Watch<'a, R, A, L, M> {
     ghost use Rattle.ar_service.specs.Watching.{ShowsMoment};
 
-    ghost shows = { λ _ draws status picture. ShowsMoment draws status picture };
+    ghost shows = { λ _ draws status picture. ShowsMoment A.persists draws status picture };
 
     fn look(&self, alloc: Global, draws: bool) -> Result<Look, AllocError> {
         let (status, picture) = self.copied(alloc, draws)?;
@@ -106,7 +115,7 @@ impl<'a, R: Wait + Clock, A: ControlledArray<L, M> + Drop, L: Ledger, M> Watched
 
 impl<
     'a,
-    R: Wait + Clock,
+    R: Wait + Clock + Log,
     A: ControlledArray<L, M> + Drop,
     L: Ledger,
     M,
@@ -119,6 +128,16 @@ impl<
     fn handle(&self, _number: u64, reader: Linked<S>, writer: Linked<W>) -> bool {
         let (mut reader, mut writer) = (reader.into_inner(), writer.into_inner());
         let alloc = self.array.alloc;
-        serve_connection(alloc, self.keys, self, &mut reader, &mut writer).is_ok()
+        let name = self.array.http_host;
+        match serve_named(alloc, self.keys, name, self, &mut reader, &mut writer) {
+            Ok(()) => true,
+            Err(error) => {
+                if error.kind() == ErrorKind::OutOfMemory {
+                    self.refusals
+                        .warn(self.array.rt, "an HTTP client", "no memory");
+                }
+                false
+            }
+        }
     }
 }

@@ -19,7 +19,7 @@ used_at xs count m is (inr all) =
 used : {X : Type 0} (xs : List X) (count m : ℕ) → m ≡ min count 49 → take m xs ≡ take 49 (take count xs)
 used xs count m is = used_at xs count m is (cases_lt count 49)
 
--- of the used ones, all but a fiftieth are behind the new one
+-- of the used ones, all but a fiftieth are after the new one
 behind : {X : Type 0} (xs ys : List X) (count m : ℕ) → length xs ≡ 50 → count ≤ 50 → m ≡ min count 49
     → take m (take 49 xs ++ ys) ≡ take 49 (take count xs)
 behind xs ys count m long few is =

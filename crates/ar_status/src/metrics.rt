@@ -2,22 +2,26 @@
 // name ends in `_total`, and a unit is a part of the name.
 use crate::{
     ArrayCounters, ArrayHealth, ArrayStatus, HostCounters, MaintenanceSteps, OperationCounters,
-    ReplyCounters,
+    ReplyCounters, StoreHealth, StoreNumbers,
 };
 use std::io;
 use std::io::Write;
 
 /// Writes all metrics of a status.
 pub fn write_metrics<W: Write>(out: &mut W, status: &ArrayStatus) -> io::Result<()> {
+    write_array(out, status)?;
     write_disks(out, status)?;
     write_blocks(out, status)?;
+    if let Some(store) = status.store {
+        write_store(out, store)?;
+    }
     write_hosts(out, &status.hosts)?;
     write_steps(out, &status.steps)?;
     write_counters(out, &status.counters)
 }
 
-// Writes the state of the array, as a sample for each that is 1 for the present one, and the health of each disk.
-fn write_disks<W: Write>(out: &mut W, status: &ArrayStatus) -> io::Result<()> {
+// Writes the state of the array, as a sample for each that is 1 for the present one.
+fn write_array<W: Write>(out: &mut W, status: &ArrayStatus) -> io::Result<()> {
     write_gauge(
         out,
         "uptime_seconds",
@@ -47,6 +51,11 @@ fn write_disks<W: Write>(out: &mut W, status: &ArrayStatus) -> io::Result<()> {
         let is = u8::from(state == state_of(status.health));
         writeln!(out, "autoraid_state{{state=\"{state}\"}} {is}")?;
     }
+    Ok(())
+}
+
+// Writes the health of each disk, and whether it was missing when the array failed.
+fn write_disks<W: Write>(out: &mut W, status: &ArrayStatus) -> io::Result<()> {
     write_head(
         out,
         "disk_healthy",
@@ -56,6 +65,16 @@ fn write_disks<W: Write>(out: &mut W, status: &ArrayStatus) -> io::Result<()> {
     for disk in 0..status.disks {
         let is = u8::from(status.health.is_healthy(disk));
         writeln!(out, "autoraid_disk_healthy{{disk=\"{disk}\"}} {is}")?;
+    }
+    write_head(
+        out,
+        "disk_lost",
+        "gauge",
+        "1 for a disk that was missing when the array failed.",
+    )?;
+    for disk in 0..status.disks {
+        let is = u8::from(status.has_lost(disk));
+        writeln!(out, "autoraid_disk_lost{{disk=\"{disk}\"}} {is}")?;
     }
     Ok(())
 }
@@ -108,6 +127,47 @@ fn write_blocks<W: Write>(out: &mut W, status: &ArrayStatus) -> io::Result<()> {
         "Memory of the stored history, at least.",
         bytes,
     )
+}
+
+// Writes the state of the store, as a sample for each that is 1 for the present one, and its numbers.
+fn write_store<W: Write>(out: &mut W, store: StoreNumbers) -> io::Result<()> {
+    write_head(
+        out,
+        "store_state",
+        "gauge",
+        "1 for the state of the store, 0 for the others.",
+    )?;
+    for state in ["sound", "failing", "given_up"] {
+        let is = u8::from(state == store_state_of(store.state));
+        writeln!(out, "autoraid_store_state{{state=\"{state}\"}} {is}")?;
+    }
+    write_gauge(
+        out,
+        "store_log_bytes",
+        "Bytes of the store's log.",
+        store.log_bytes,
+    )?;
+    write_counter(
+        out,
+        "store_commits_total",
+        "Commits that have written records.",
+        store.commits,
+    )?;
+    write_counter(
+        out,
+        "store_checkpoints_total",
+        "Checkpoints that have replaced the log.",
+        store.checkpoints,
+    )
+}
+
+// The name of a store's state.
+fn store_state_of(health: StoreHealth) -> &'static str {
+    match health {
+        StoreHealth::Sound => "sound",
+        StoreHealth::Failing => "failing",
+        StoreHealth::GivenUp => "given_up",
+    }
 }
 
 // Writes the counters of hosts.
@@ -247,6 +307,12 @@ fn write_counters<W: Write>(out: &mut W, counters: &ArrayCounters) -> io::Result
         "destages_total",
         "Cached blocks that were written back.",
         counters.destages,
+    )?;
+    write_counter(
+        out,
+        "discards_total",
+        "Blocks of which all sectors were discarded at once.",
+        counters.discards,
     )
 }
 

@@ -25,7 +25,8 @@ h2 { margin: 0 0 4px; font-size: 14px }
 #health.out { border-left-style: dashed }
 #health.rebuilding { border-left-style: dotted }
 #health.broken, #health.silent { border-left-style: double }
-#health:not(.whole) { color: var(--bad); font-weight: bold }
+#health:not(.whole), #store { color: var(--bad); font-weight: bold }
+#store { margin: 0 0 12px; padding: 0 18px; font-size: 18px }
 main { display: grid; flex: 1; grid-template: minmax(0, 1fr) / minmax(0, 1fr) 310px; gap: 12px; min-height: 0 }
 section { padding: 10px 12px; background: var(--card); border: 1px solid var(--line) }
 main > section { align-self: start }
@@ -45,6 +46,7 @@ time { display: inline-block; min-width: 84px }
 </head>
 <body>
 <p id='health' role='status'>loading</p>
+<p id='store' role='status' hidden></p>
 <main>
 <section><div id='picture'></div></section>
 <aside>
@@ -86,13 +88,25 @@ function left(health, extents, now) {
   return speed > 0 ? `, about ${span((extents - health.done) / speed)} left` : '';
 }
 
+// Which disks an array has lost that has failed.
+const lost = disks => disks ? `disks ${disks.join(' and ')} failed` : 'two disks were missing at once';
+
 function words(status, now) {
-  const { health, disks, extents } = status, rest = left(health, extents, now);
+  const { health, disks, extents, lost_disks } = status, rest = left(health, extents, now);
   switch (health.state) {
     case 'whole': return `all ${disks} disks are present`;
     case 'out': return `disk ${health.disk} failed, and is not replaced`;
     case 'rebuilding': return `disk ${health.disk} failed, rebuilding: ${health.done} of ${extents} extents${rest}`;
-    default: return 'two disks were missing at once: the data are lost';
+    default: return `${lost(lost_disks)}: the data are lost`;
+  }
+}
+
+// What is wrong with the store, if it is.
+function fault(store) {
+  switch (store && store.state) {
+    case 'failing': return `the store can't be written: no WRITE is acknowledged until it can`;
+    case 'given_up': return 'the store is given up: no WRITE is acknowledged until a new start';
+    default: return '';
   }
 }
 
@@ -124,14 +138,20 @@ function happened(event) {
 function show(status, now) {
   at('health').className = status.health.state;
   at('health').textContent = words(status, now);
+  at('store').textContent = fault(status.store);
+  at('store').hidden = !fault(status.store);
   rows(at('hosts'), rates(status, now));
   before = { hosts: status.hosts, now };
-  const { steps, counters, room_blocks } = status;
+  const { steps, counters, room_blocks, store } = status;
   rows(at('array'), [
     ['room', `${count(room_blocks)} blocks, ${size(room_blocks * status.block_bytes)}`],
     ['free groups', count(status.free_groups)],
     ['cache', `${count(status.cached_blocks)} blocks`],
     ['history', `${count(status.history_entries)} entries, ${size(status.history_bytes)}`],
+    ...store ? [
+      ['store', `${size(store.log_bytes)}, ${size(store.waiting_bytes)} waiting`],
+      ['commits', `${count(store.commits)}, ${count(store.checkpoints)} checkpoints`],
+    ] : [],
     ...Object.keys(steps).map(kind => [`${kind} steps`, count(steps[kind])]),
     ...Object.keys(counters).map(kind => [kind.replace('_', ' '), count(counters[kind])]),
     ['running for', span(status.uptime_seconds)],

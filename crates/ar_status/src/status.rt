@@ -14,6 +14,8 @@ pub struct ArrayStatus {
     /// Seconds since the service began.
     pub uptime_seconds: u64,
     pub health: ArrayHealth,
+    /// The disks that were missing when the array failed, by their numbers, if it has and they are known.
+    pub lost_disks: Option<[u8; 2]>,
     pub disks: u8,
     /// Extents of each disk.
     pub extents: u16,
@@ -27,6 +29,7 @@ pub struct ArrayStatus {
     pub history_entries: u64,
     /// The memory that they take, at least, in bytes.
     pub history_bytes: u64,
+    pub store: Option<StoreNumbers>,
     /// By host, 0 to 3.
     pub hosts: [HostCounters; 4],
     pub steps: MaintenanceSteps,
@@ -46,6 +49,32 @@ pub enum ArrayHealth {
     Rebuilding { disk: u8, done: u16 },
     /// The array has failed: two disks were missing at once, and the data are lost.
     Broken,
+}
+
+/// Whether a store takes what is committed to it.
+#[derive(Clone, Copy, Debug, PartialEq, Eq, Serialize)]
+#[serde(rename_all = "snake_case")]
+pub enum StoreHealth {
+    /// The last commit has succeeded, or there was none.
+    Sound,
+    /// The last commit has failed, and a later one may succeed.
+    Failing,
+    /// It is given up until a new start.
+    GivenUp,
+}
+
+/// The store that keeps what is done beyond the end of the program. The numbers saturate.
+#[derive(Clone, Copy, Debug, PartialEq, Eq, Serialize)]
+pub struct StoreNumbers {
+    pub state: StoreHealth,
+    /// Bytes of its log.
+    pub log_bytes: u64,
+    /// Bytes of records that wait for a commit.
+    pub waiting_bytes: u64,
+    /// Commits that have written records, since the start.
+    pub commits: u64,
+    /// Checkpoints that have replaced the log, since the start.
+    pub checkpoints: u64,
 }
 
 /// What was done for one host since the start. The numbers saturate.
@@ -101,6 +130,21 @@ pub struct ArrayCounters {
     pub cache_hits: u64,
     /// Cached blocks that were written back.
     pub destages: u64,
+    /// Blocks of which all sectors were discarded at once.
+    pub discards: u64,
+}
+
+impl ArrayStatus {
+    // Whether this disk was missing when the array failed.
+    pub(crate) fn has_lost(&self, disk: u8) -> bool {
+        match self.lost_disks {
+            Some(disks) => {
+                let [one, other] = disks;
+                disk == one || disk == other
+            }
+            None => false,
+        }
+    }
 }
 
 impl ArrayHealth {

@@ -1,4 +1,5 @@
-use Rattle.std.proofs.Common.{◌≡◌, ◌⊎◌, inl, inr, Bool, true, false, Result, Ok, Err, List, ℕ, [], refl, sym, subst}
+use Rattle.std.proofs.Common.{◌≡◌, ◌⊎◌, inl, inr, Bool, true, false, Option, Result, Ok, Err, List, ℕ, [], refl, sym}
+use Rattle.std.proofs.Common.{subst}
 use Rattle.std.specs.Prelude.{OnOk}
 use Rattle.std.specs.declared.alloc.AllocError.{AllocError}
 use Rattle.ar_service.specs.Control.{AnswersWith, is_act, store_failed}
@@ -7,12 +8,14 @@ use Rattle.ar_operator.specs.Executing.{Executes}
 use Rattle.ar_service.proofs.control.execute_listed.Goals as goal
 
 -- by whether it lasts
-lasting : (lasts : Bool) (own result : Result (Unit {0}) AllocError) (written answer : List ℕ) (L : Type 0)
-    → AnswersWith lasts own written result answer → (lasts ≡ true → L) → OnOk result ((answer ≡ store_failed) ⊎ L)
-lasting true own (Ok done) written answer L with_own here = inr (here refl)
-lasting true own (Err fault) written answer L with_own here = tt
-lasting false own (Ok done) written answer L failed here = inl failed
-lasting false own (Err fault) written answer L failed here = tt
+lasting : (lasts : Bool) (line : Option (List ℕ)) (own result : Result (Unit {0}) AllocError) (written answer : List ℕ)
+    (L : Type 0)
+    → AnswersWith lasts line own written result answer → (lasts ≡ true → L)
+    → OnOk result ((answer ≡ store_failed) ⊎ L)
+lasting true line own (Ok done) written answer L with_own here = inr (here refl)
+lasting true line own (Err fault) written answer L with_own here = tt
+lasting false line own (Ok done) written answer L failed here = inl failed
+lasting false line own (Err fault) written answer L failed here = tt
 
 -- under a premise
 under : {T E : Type 0} (P X : Type 0) (result : Result T E) → (P → OnOk result X) → OnOk result (P → X)
@@ -22,7 +25,7 @@ under P X (Err fault) holds = tt
 pub returns-clause-lasts : goal.returns-clause-lasts
 returns-clause-lasts g c =
     under (is_act c.args.order ≡ true) _ c.answer_with.result (λ act.
-    lasting c.lasts_behind-lasts.result c.execute-done.result c.answer_with.result c.execute-done.new.out.items
+    lasting c.lasts_behind-lasts.result _ c.execute-done.result c.answer_with.result c.execute-done.new.out.items
     c.answer_with.new.out.items (g.A.ServedArray.lasts c.lasts_behind-lasts.new.array) c.answer_with.ensures
     (λ is. c.lasts_behind-lasts.ensures.lasts is act))
 
@@ -40,6 +43,10 @@ returns-clause-executes g c =
           (subst (λ (l : List ℕ). Executes c.args.order old l own written (state c.execute-done.new.self))
           c.requires.empty c.execute-done.ensures);
       lasts = c.lasts_behind-lasts.result;
-      answers = c.answer_with.ensures;
+      store = c.store.result;
+      answers =
+          subst (λ (l : Option (List ℕ)). AnswersWith c.lasts_behind-lasts.result l own written c.answer_with.result
+          c.answer_with.new.out.items) c.line_added-line.ensures c.answer_with.ensures;
       failed = c.lasts_behind-lasts.ensures.failed;
+      absent = c.store.ensures;
     }
