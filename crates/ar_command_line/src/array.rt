@@ -24,8 +24,20 @@ pub enum Order {
     Create(CreateOptions),
     /// The store in this folder is checked.
     Check(String),
+    /// What a unit of a store holds is written to standard output.
+    Export(StoredUnit),
+    /// Standard input is written to a unit of a store.
+    Import(StoredUnit),
     /// Hosts are served.
     Serve(ServeOptions),
+}
+
+/// A unit of a store.
+#[derive(Drop)]
+pub struct StoredUnit {
+    /// The store's folder.
+    pub folder: String,
+    pub addr: Addr,
 }
 
 /// The array to create.
@@ -68,6 +80,8 @@ pub struct ServeOptions {
     pub sessions: Option<u8>,
     pub operator: Option<u16>,
     pub http: Option<u16>,
+    /// A name by which HTTP clients may ask for the service, beside those of 127.0.0.1.
+    pub http_host: Option<String>,
     pub iscsi: Option<u16>,
     /// Seconds from a connection's opening to its accepted login.
     pub login_timeout: Option<u32>,
@@ -145,8 +159,13 @@ fn order_of(alloc: Global, matches: &ArgMatches<'_>) -> Result<Order, UsageFault
         }
         Some(("create", options)) => Ok(Order::Create(create_options_of(alloc, options)?)),
         Some(("check", options)) => Ok(Order::Check(folder_of(alloc, options)?)),
+        Some(("export", options)) => Ok(Order::Export(stored_unit_of(alloc, options)?)),
+        Some(("import", options)) => Ok(Order::Import(stored_unit_of(alloc, options)?)),
         Some((_, options)) => Ok(Order::Serve(serve_options_of(alloc, options)?)),
-        None => Err(bad_value(alloc, "one of run, create, check and serve is required")),
+        None => Err(bad_value(
+            alloc,
+            "one of run, create, check, export, import and serve is required",
+        )),
     }
 }
 
@@ -245,6 +264,36 @@ fn folder_of(alloc: Global, options: &ArgMatches<'_>) -> Result<String, AllocErr
     String::from_str(alloc, options.get_str("store").unwrap_or(""))
 }
 
+fn stored_unit_of(alloc: Global, options: &ArgMatches<'_>) -> Result<StoredUnit, UsageFault> {
+    let folder = folder_of(alloc, options)?;
+    let word = options.get_str("UNIT").unwrap_or("");
+    match place_named(word) {
+        Some(addr) => Ok(StoredUnit { folder, addr }),
+        None => Err(bad_place(alloc, word)),
+    }
+}
+
+// The fault of a unit's place, in the words that `clap` has for other values.
+fn bad_place(alloc: Global, word: &str) -> UsageFault {
+    match format!(in alloc;
+        "invalid value '{word}' for '<UNIT>': a unit is HOST:LUN, a host from 0 to 3 and a LUN from 0 to 7"
+    ) {
+        Ok(text) => UsageFault::Bad(text),
+        Err(_) => UsageFault::Words(CommandLineFault::NoMemory),
+    }
+}
+
+// The place that a word `HOST:LUN` names. No unit has a LUN of more than 7.
+fn place_named(word: &str) -> Option<Addr> {
+    let (host, lun) = word.split_once(':')?;
+    let host = Host::new(u8::try_from(number(host)?).ok()?)?;
+    let lun = u8::try_from(number(lun)?).ok()?;
+    if lun > 7 {
+        return None;
+    }
+    Some(Addr { host, lun })
+}
+
 fn name_of(alloc: Global, options: &ArgMatches<'_>) -> Result<String, UsageFault>
     ensures { IfOk result (λ name. length (string_bytes name) ≤ 64) }
 {
@@ -279,6 +328,7 @@ fn serve_options_of(alloc: Global, options: &ArgMatches<'_>) -> Result<ServeOpti
         sessions,
         operator,
         http: options.get_one("http"),
+        http_host: http_host_of(alloc, options)?,
         iscsi: options.get_one("iscsi"),
         login_timeout: options.get_one("login-timeout"),
         idle_timeout: options.get_one("idle-timeout"),
@@ -286,6 +336,19 @@ fn serve_options_of(alloc: Global, options: &ArgMatches<'_>) -> Result<ServeOpti
         units,
         words,
     })
+}
+
+// The name by which HTTP clients may ask for the service.
+fn http_host_of(alloc: Global, options: &ArgMatches<'_>) -> Result<Option<String>, UsageFault> {
+    match options.get_str("http-host") {
+        Some("") => Err(bad_value(alloc, "invalid value for '--http-host <NAME>': it is empty")),
+        Some(_) if !is_given(options, "http") => Err(bad_value(
+            alloc,
+            "'--http-host <NAME>' requires '--http <PORT>'",
+        )),
+        Some(name) => Ok(Some(String::from_str(alloc, name)?)),
+        None => Ok(None),
+    }
 }
 
 // The audit that is asked for. Otherwise a history is stored only where its end is in sight: initiators write whole

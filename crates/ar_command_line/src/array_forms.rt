@@ -76,7 +76,24 @@ static CHECK: [Form; 1] = [Form(
     "The folder of the store",
 )];
 
-static PORTS: [Form; 5] = [
+static IMAGE: [Form; 2] = [
+    Form(
+        "store",
+        "FOLDER",
+        Value::Text,
+        Otherwise::Refused,
+        "The folder of the store",
+    ),
+    Form(
+        "UNIT",
+        "UNIT",
+        Value::Word,
+        Otherwise::Refused,
+        "The unit, HOST:LUN",
+    ),
+];
+
+static PORTS: [Form; 6] = [
     Form(
         "port",
         "PORT",
@@ -89,7 +106,7 @@ static PORTS: [Form; 5] = [
         "COUNT",
         Value::Number(1, 64),
         Otherwise::Nothing,
-        "End after COUNT connections of hosts, 1 to 64",
+        "End after COUNT sessions of hosts, 1 to 64",
     ),
     Form(
         "operator",
@@ -104,6 +121,13 @@ static PORTS: [Form; 5] = [
         PORT,
         Otherwise::Nothing,
         "The port for browsers and Prometheus",
+    ),
+    Form(
+        "http-host",
+        "NAME",
+        Value::Text,
+        Otherwise::Nothing,
+        "A name of this port's clients for it, beside localhost",
     ),
     Form(
         "iscsi",
@@ -190,6 +214,14 @@ static CREATE_EXAMPLE: &str =
 
 static CHECK_EXAMPLE: &str = "Example:\n  autoraid check --store /srv/array";
 
+static EXPORT_EXAMPLE: &str =
+    "Nothing of the store is written.\n\nExample:\n  autoraid export --store /srv/array 0:0 > image";
+
+static IMPORT_EXAMPLE: &str =
+    "The image is written from sector 0 on: whole sectors, at most as many as the unit has. A unit that\n\
+    isn't there is created with the image's length.\n\n\
+    Example:\n  autoraid import --store /srv/array 0:0 < image";
+
 static SERVE_EXAMPLE: &str =
     "All ports are those of 127.0.0.1. One of --sessions and --operator is required, since nothing\n\
     else ends the service. --audit is full with --sessions, unless --iscsi or --store is given,\n\
@@ -204,10 +236,12 @@ pub fn command<'a>(alloc: Global) -> Result<Command<'a>, AllocError> {
         .after_help(EXAMPLES)
         .version(VERSION)
         .subcommand_required(true)
-        .subcommand_value_name("run|create|check|serve")
+        .subcommand_value_name("run|create|check|export|import|serve")
         .subcommand(run(alloc)?)?
         .subcommand(create(alloc)?)?
         .subcommand(check(alloc)?)?
+        .subcommand(export(alloc)?)?
+        .subcommand(import(alloc)?)?
         .subcommand(serve(alloc)?)
 }
 
@@ -233,6 +267,20 @@ fn check<'a>(alloc: Global) -> Result<Command<'a>, AllocError> {
         .about("Check the store in a folder")
         .after_help(CHECK_EXAMPLE);
     with_forms(alloc, command, &CHECK)
+}
+
+fn export<'a>(alloc: Global) -> Result<Command<'a>, AllocError> {
+    let command = Command::new(alloc, "export")
+        .about("Write what a unit of a store holds to standard output")
+        .after_help(EXPORT_EXAMPLE);
+    with_forms(alloc, command, &IMAGE)
+}
+
+fn import<'a>(alloc: Global) -> Result<Command<'a>, AllocError> {
+    let command = Command::new(alloc, "import")
+        .about("Write standard input to a unit of a store")
+        .after_help(IMPORT_EXAMPLE);
+    with_forms(alloc, command, &IMAGE)
 }
 
 fn serve<'a>(alloc: Global) -> Result<Command<'a>, AllocError> {

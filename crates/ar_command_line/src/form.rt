@@ -14,7 +14,9 @@ pub enum Value {
     Text,
     /// Nothing.
     Flag,
-    /// It is no option, but the words behind them.
+    /// It is no option, but the word after them.
+    Word,
+    /// It is no option, but the words after them.
     Words,
 }
 
@@ -62,6 +64,7 @@ fn argument<'a>(alloc: Global, form: Form) -> Arg<'a> {
         Otherwise::Nothing => argument,
     };
     match value {
+        Value::Word => argument,
         Value::Words => argument.num_args(0..).action(ArgAction::Append),
         value => with_value(argument.long(name), value),
     }
@@ -73,6 +76,6 @@ fn with_value(argument: Arg<'_>, value: Value) -> Arg<'_> {
         // The row's help says what each name means, which the bare list would repeat.
         Value::Name(names) => argument.value_parser(names).hide_possible_values(true),
         Value::Flag => argument.action(ArgAction::SetTrue),
-        Value::Text | Value::Words => argument,
+        Value::Text | Value::Word | Value::Words => argument,
     }
 }

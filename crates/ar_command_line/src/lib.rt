@@ -10,8 +10,8 @@ mod fault;
 mod form;
 
 pub use array::{
-    ArrayOptions, Audit, CreateOptions, Order, ServeOptions, ShapeOptions, StoreOptions, SyncMode,
-    UnitOption, order_in,
+    ArrayOptions, Audit, CreateOptions, Order, ServeOptions, ShapeOptions, StoreOptions,
+    StoredUnit, SyncMode, UnitOption, order_in,
 };
 pub use client::{Account, account_in};
 pub use fault::UsageFault;

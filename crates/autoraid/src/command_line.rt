@@ -43,11 +43,12 @@ impl Service {
             sessions: self.options.sessions,
             operator: self.options.operator,
             http: http_port(self.options.http, random.keys),
+            http_host: name_of(&self.options.http_host),
             iscsi: iscsi_port(self.options.iscsi, setup, random.array),
             timeouts: Timeouts {
                 login: self.options.login_timeout,
                 idle: self.options.idle_timeout,
-                whole: None,
+                ..Timeouts::NONE
             },
         }
     }
@@ -72,6 +73,13 @@ fn new_units(alloc: Global, options: &[UnitOption]) -> Result<Vec<NewUnit>, Allo
         })?;
     }
     Ok(units)
+}
+
+fn name_of(name: &Option<String>) -> Option<&str> {
+    match name {
+        Some(name) => Some(name.as_str()),
+        None => None,
+    }
 }
 
 // The port for HTTP clients, if there is one, and keys for it.

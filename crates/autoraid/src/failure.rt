@@ -29,6 +29,7 @@ impl ExitStatus for Failure {
 
     fn status(&self) -> u8 {
         match self {
+            Failure::Serve(ServeFault::DataLost) => 3,
             Failure::Serve(ServeFault::Store) => 4,
             _ => 1,
         }

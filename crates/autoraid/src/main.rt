@@ -1,15 +1,17 @@
 //! The array as a program: `autoraid run` executes a script on standard input and may draw the array, `autoraid create`
-//! creates a store for an array, `autoraid check` checks one, and `autoraid serve` serves an array to hosts over TCP.
+//! creates a store for an array, `autoraid check` checks one, `autoraid export` and `autoraid import` move what its
+//! units hold, and `autoraid serve` serves an array to hosts over TCP.
 #![tactic(auto)]
 
 mod command_line;
 mod drawing;
 mod failure;
+mod images;
 mod serve;
 mod stored;
 
 use ar_cli::{end_with, fail, words_of};
-use ar_command_line::{CreateOptions, Order, ServeOptions, UsageFault, order_in};
+use ar_command_line::{CreateOptions, Order, ServeOptions, StoredUnit, UsageFault, order_in};
 use ar_script::{Runner, Setup, run_on, run_script};
 use ar_service::ServiceRuntime;
 use command_line::{RandomNumbers, Service, setup_of};
@@ -34,6 +36,8 @@ fn main(rt: HostRuntime) -> ExitCode {
         Ok(Order::Run(array, file)) => run(&rt, setup_of(array), &file),
         Ok(Order::Create(options)) => create(&rt, alloc, &options),
         Ok(Order::Check(folder)) => check(&rt, alloc, folder.as_str()),
+        Ok(Order::Export(unit)) => images::export(&rt, alloc, &unit).map_err(Failure::Store),
+        Ok(Order::Import(unit)) => import(&rt, alloc, &unit),
         Ok(Order::Serve(options)) => serve_hosts(&rt, &rt, alloc, options),
         Err(fault) => return fail(&rt, &fault),
     };
@@ -53,6 +57,12 @@ fn create(rt: &HostRuntime, alloc: Global, options: &CreateOptions) -> Result<()
 
 fn check(rt: &HostRuntime, alloc: Global, folder: &str) -> Result<(), Failure> {
     stored::check(rt, alloc, folder).map_err(Failure::Store)
+}
+
+// Writes standard input to a unit. The log has what failed.
+fn import(rt: &HostRuntime, alloc: Global, unit: &StoredUnit) -> Result<(), Failure> {
+    let logged = Logged::new(rt, Level::Warn, Console(rt));
+    images::import(&logged.with_target("autoraid"), rt, alloc, unit).map_err(Failure::Store)
 }
 
 // Serves hosts. `files` is `rt` once more: a store's files are opened by the runtime's own type, which starts no

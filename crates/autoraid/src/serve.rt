@@ -4,7 +4,7 @@ use ar_command_line::Audit;
 use ar_core::Refusal;
 use ar_history::Mismatch;
 use ar_operator::{Fuse, FusedDisk, FusedMaker, start_fused};
-use ar_service::{ServiceFault, ServiceRuntime, TcpStops, serve};
+use ar_service::{Closing, ServiceFault, ServiceRuntime, TcpStops, serve};
 use std::alloc::{AllocError, Global};
 use std::io;
 use std::marker::Brand;
@@ -42,6 +42,9 @@ pub enum ServeFault {
     /// What was done can't be kept.
     #[error("store failed")]
     Store,
+    /// The array has failed: two disks were missing at once.
+    #[error("data lost")]
+    DataLost,
 }
 
 /// Creates the array and its units, listens, and serves hosts, operators, initiators and HTTP clients. Then it compares
@@ -78,7 +81,7 @@ pub fn conclude<R: ServiceRuntime>(
     alloc: Global,
     service: &Service,
     stops: TcpStops<'_, R>,
-    served: Result<[u64; 4], ServiceFault>,
+    served: Result<Closing, ServiceFault>,
 ) -> Result<(), ServeFault> {
     let done = tell(rt, alloc, service, served);
     stops.answer(answer_after(&done));
@@ -88,7 +91,7 @@ pub fn conclude<R: ServiceRuntime>(
 // What an operator is answered to `stop`.
 fn answer_after(done: &Result<(), ServeFault>) -> &'static [u8] {
     match done {
-        Ok(()) => b"stopped\n",
+        Ok(()) | Err(ServeFault::DataLost) => b"stopped\n",
         Err(ServeFault::Mismatch) => b"fault: mismatch\n",
         Err(ServeFault::SeatOut) => b"fault: seat out\n",
         Err(ServeFault::NoMemory) => b"fault: no memory\n",
@@ -102,12 +105,10 @@ fn tell(
     rt: &impl Print,
     alloc: Global,
     service: &Service,
-    served: Result<[u64; 4], ServiceFault>,
+    served: Result<Closing, ServiceFault>,
 ) -> Result<(), ServeFault> {
     match served {
-        Ok(commands) => tell_commands(rt, service.options.audit, commands).map_err(
-            |_| ServeFault::Write,
-        ),
+        Ok(closing) => tell_closing(rt, service.options.audit, closing),
         Err(ServiceFault::Mismatch(mismatch)) => Err(tell_mismatch(rt, mismatch)),
         Err(ServiceFault::Unit(number, refusal)) => Err(refused(alloc, service, number, refusal)),
         Err(ServiceFault::Listen) => Err(ServeFault::Listen),
@@ -121,11 +122,24 @@ fn tell(
     }
 }
 
+// Prints what is reported. An array that has failed is a failure of the server, too.
+fn tell_closing(rt: &impl Print, audit: Audit, closing: Closing) -> Result<(), ServeFault> {
+    match print_closing(rt, audit, closing) {
+        Ok(()) if closing.data_lost => Err(ServeFault::DataLost),
+        Ok(()) => Ok(()),
+        Err(_) => Err(ServeFault::Write),
+    }
+}
+
 // Prints the number of commands of each host, and how the service ended: `closed ok` says that the transcripts agree
-// with the history, `closed` that nothing was compared.
-fn tell_commands(rt: &impl Print, audit: Audit, commands: [u64; 4]) -> io::Result<()> {
+// with the history, `closed` that nothing was compared, `closed, data lost` that the array has failed.
+fn print_closing(rt: &impl Print, audit: Audit, closing: Closing) -> io::Result<()> {
+    let commands = closing.commands;
     for (host, commands) in commands.iter().enumerate() {
         println!(rt; "host {host} commands {commands}")?;
+    }
+    if closing.data_lost {
+        return println!(rt; "closed, data lost");
     }
     match audit {
         Audit::Full => println!(rt; "closed ok"),

@@ -9,7 +9,7 @@ use crate::serve::conclude;
 use ar_checkpoint::CheckpointError;
 use ar_command_line::{CreateOptions, ShapeOptions, StoreOptions, SyncMode};
 use ar_compaction::{HeadError, StoreHead};
-use ar_core::Array;
+use ar_core::{Array, Refusal};
 use ar_disks::{Addr, Disk, Geometry, Host};
 use ar_durable::{
     CommitPolicy, DiskSource, DurableArray, FolderError, RestartError, Store, checkpoint_in,
@@ -20,7 +20,7 @@ use ar_log::LogError;
 use ar_media::{Media, RegularFile};
 use ar_operator::{DiskMaker, Fuse, FusedDisk, FusedMaker, start_fused};
 use ar_script::Setup;
-use ar_service::{Plan, ServiceFault, ServiceRuntime, TcpStops, serve_lasting};
+use ar_service::{Closing, Plan, ServiceFault, ServiceRuntime, TcpStops, serve_lasting};
 use log::{Log, warn};
 use std::alloc::Global;
 use std::io::{self, ErrorKind};
@@ -33,6 +33,9 @@ use thiserror::Error;
 
 /// The addresses that a unit may have: eight LUNs of four hosts.
 const ADDRESSES: u8 = 32;
+
+/// A log that is shorter than this, in bytes, isn't replaced while it is served.
+const LEAST_LOG: usize = 64 << 20;
 
 /// Why a store isn't created, checked or served, and its folder.
 #[derive(Debug, Drop, Error)]
@@ -55,6 +58,8 @@ pub enum StoreCause {
     Checkpoint(CheckpointError),
     #[error("another program has it open")]
     InUse,
+    #[error("in use by process {0}")]
+    InUseBy(u32),
     #[error("can't be opened or made: {0:?}")]
     Files(ErrorKind),
     #[error("can't be read: {0:?}")]
@@ -81,6 +86,22 @@ pub enum StoreCause {
     Random,
     #[error("standard output can't be written")]
     Write,
+    #[error("the unit isn't there")]
+    NoUnit,
+    #[error("the unit can't be created: {0}")]
+    Refused(Refusal),
+    #[error("standard output is a terminal, and an image is no text")]
+    Terminal,
+    #[error("standard input can't be read")]
+    Input,
+    #[error("the image has more than {0} sectors")]
+    LongImage(u32),
+    #[error("the image ends in a part of a sector")]
+    PartSector,
+    #[error("a command to its array has failed")]
+    Failed,
+    #[error("can't be written")]
+    Commit,
     #[error("no memory")]
     NoMemory,
 }
@@ -92,7 +113,8 @@ impl From<FolderError> for StoreCause {
             FolderError::Exists => StoreCause::Exists,
             FolderError::Incomplete => StoreCause::Incomplete,
             FolderError::Checkpoint(error) => StoreCause::Checkpoint(error),
-            FolderError::InUse => StoreCause::InUse,
+            FolderError::InUse(None) => StoreCause::InUse,
+            FolderError::InUse(Some(process)) => StoreCause::InUseBy(process),
             FolderError::Files(kind) => StoreCause::Files(kind),
             FolderError::Contents(error) => StoreCause::from(error),
         }
@@ -124,9 +146,16 @@ fn cause_of(error: LogError) -> StoreCause {
     }
 }
 
-// The disks that records add, each on the fuse of its number.
+/// The disks that records add, each on the fuse of its number.
 #[derive(Clone, Copy)]
-struct FusedSource<'a>(FusedMaker<'a>);
+pub struct FusedSource<'a>(FusedMaker<'a>);
+
+impl<'a> FusedSource<'a> {
+    /// Disks that this makes.
+    pub fn new(maker: FusedMaker<'a>) -> FusedSource<'a> {
+        FusedSource(maker)
+    }
+}
 
 impl<'a> DiskSource<FusedDisk<'a>> for FusedSource<'a> {
     fn make(
@@ -178,7 +207,7 @@ fn check_store(rt: &HostRuntime, alloc: Global, folder: &str) -> Result<(), Stor
     let (head, mut reader) = open_in(rt, alloc, folder)?;
     let fuses = Fuse::twelve();
     let array = start_fused(alloc, setup_in(&head, 0), &fuses).map_err(|_| StoreCause::Start)?;
-    let mut source = FusedSource(FusedMaker::new(&fuses));
+    let mut source = FusedSource::new(FusedMaker::new(&fuses));
     let (live, records) = replay(alloc, &mut reader, array, &mut source)?;
     let told = tell_contents(rt, &head, live.array(), records);
     drop(live);
@@ -251,7 +280,7 @@ pub fn serve<R: ServiceRuntime + Sync>(
         rt,
         alloc,
         Blank::new(4),
-        (live, store),
+        (live, head, store),
         policy,
         (&fuses, FusedMaker::new(&fuses)),
         &stop,
@@ -263,8 +292,8 @@ pub fn serve<R: ServiceRuntime + Sync>(
     conclude(rt, alloc, service, stops, served).map_err(Failure::Serve)
 }
 
-// Replaces the log of a store that was served by a compaction. Where that fails, the log stays as it is.
-fn compact<R: Log>(rt: &R, files: &HostRuntime, alloc: Global, folder: &str) {
+/// Replaces the log of a store by a compaction. Where that fails, the log stays as it is.
+pub fn compact<R: Log>(rt: &R, files: &HostRuntime, alloc: Global, folder: &str) {
     if let Err(error) = checkpoint_in(files, alloc, folder) {
         let cause = StoreCause::from(error);
         warn!(rt; "store {folder}: {cause}");
@@ -284,20 +313,26 @@ fn serve_taken_up<
     rt: &'s R,
     alloc: Global,
     blank: Blank,
-    taken_up: (LiveArray<D>, Store<M>),
+    taken_up: (LiveArray<D>, StoreHead, Store<M>),
     policy: CommitPolicy,
     disks: (&[Fuse; 12], C),
     stop: &'s AtomicBool,
     plan: Plan<'_>,
-) -> (TcpStops<'s, R>, Result<[u64; 4], ServiceFault>)
+) -> (TcpStops<'s, R>, Result<Closing, ServiceFault>)
     requires name { blank.name ≡ L.name }
     requires parts { blank.parts ≡ L.parts }
     requires four { blank.parts ≡ 4 }
-    requires records { AreRecords M.seen M.is_clean taken_up.1 taken_up.0.history }
+    requires records { AreRecords M.seen M.is_clean taken_up.2 taken_up.0.history }
 {
-    let (live, store) = taken_up;
+    let (live, head, store) = taken_up;
     let (durable, seats) = DurableArray::<'s, D, L, M, R>::resume(
-        rt, alloc, blank, live, store, policy,
+        rt,
+        alloc,
+        blank,
+        live,
+        Some(head),
+        store,
+        policy,
     );
     serve_lasting::<DurableArray<'s, D, L, M, R>, L, C, R>(
         rt, alloc, durable, seats, disks, stop, plan,
@@ -323,7 +358,7 @@ fn take_up<'a, R: ServiceRuntime>(
     check_shape(&head, options.shape)?;
     let setup = setup_in(&head, service.options.array.cache);
     let array = start_fused(alloc, setup, fuses).map_err(|_| StoreCause::Start)?;
-    let mut source = FusedSource(FusedMaker::new(fuses));
+    let mut source = FusedSource::new(FusedMaker::new(fuses));
     let (live, store, records) = restart(alloc, reader, array, &mut source)?;
     check_disks(live.array().disks(), options.shape)?;
     let units = count_units(live.array());
@@ -362,6 +397,7 @@ fn policy_of(options: &StoreOptions) -> CommitPolicy {
     CommitPolicy {
         always: options.sync == SyncMode::Always,
         every: Duration::from_secs(u64::from(options.commit_every)),
+        least_log: LEAST_LOG,
     }
 }
 
@@ -386,8 +422,8 @@ fn plan_of<'s>(
     plan
 }
 
-// The configuration of a store's array, with a cache of this size in blocks.
-fn setup_in(head: &StoreHead, cache: u32) -> Setup {
+/// The configuration of a store's array, with a cache of this size in blocks.
+pub fn setup_in(head: &StoreHead, cache: u32) -> Setup {
     Setup {
         geometry: head.geometry,
         disks: head.disks,
@@ -416,8 +452,8 @@ fn check_disks(disks: u8, shape: ShapeOptions) -> Result<(), StoreCause> {
     }
 }
 
-// The fault of the store in a folder.
-fn fault(alloc: Global, folder: &str, cause: StoreCause) -> StoreFault {
+/// The fault of the store in a folder.
+pub fn fault(alloc: Global, folder: &str, cause: StoreCause) -> StoreFault {
     StoreFault {
         folder: String::from_str(alloc, folder).unwrap_or_else(|_| String::new(alloc)),
         cause,
