@@ -37,7 +37,7 @@ fn empty_file(rt: &impl Abort, alloc: Global) -> MemoryFile {
     MemoryFile::new(alloc, Vec::new(alloc)).expect(rt, "memory")
 }
 
-/// The files of a store with these batches behind its head.
+/// The files of a store with these batches after its head.
 pub fn store_of(
     rt: &impl Abort,
     alloc: Global,
@@ -150,7 +150,7 @@ pub fn replace<M: Media + Drop>(
     Some(checkpoint(alloc, reader, &head))
 }
 
-/// The generation of a store, and the batches behind its head. None where it can't be read.
+/// The generation of a store, and the batches after its head. None where it can't be read.
 pub fn read<M: Media + Drop>(
     alloc: Global,
     files: JournalFiles<M>,

@@ -4,7 +4,7 @@ ghost use Rattle.ar_frames.specs.Frame.{IsReply};
 
 use ar_frames::{Login, Port};
 use ar_scsi::{Reply, Sense, capacity_data, inquiry_data};
-use ar_target::{FlushOutcome, FlushPort, ResetOutcome, ResetPort};
+use ar_target::{BlockRun, DiscardPort, FlushOutcome, FlushPort, ResetOutcome, ResetPort};
 use bytes::Bytes;
 use std::alloc::Global;
 
@@ -96,6 +96,23 @@ impl ResetPort for Fake {
         match lun {
             None | Some(0) => ResetOutcome::Done,
             Some(_) => ResetOutcome::NoUnit,
+        }
+    }
+}
+
+impl DiscardPort for Fake {
+    ghost discards = { λ old lun lba count reply new. Unit {0} };
+
+    ghost runs = { λ old lun block most run new. Unit {0} };
+
+    fn discard(&mut self, _lun: u8, _lba: u64, _count: u32) -> Reply {
+        Reply::good(Bytes::new())
+    }
+
+    fn run(&mut self, _lun: u8, _block: u32, most: u32) -> BlockRun {
+        BlockRun {
+            is_written: true,
+            blocks: most,
         }
     }
 }

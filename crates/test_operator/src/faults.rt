@@ -56,12 +56,31 @@ fn faulty_lines(rt: HostRuntime) {
                 fault: not an operator's word\n\
                 fault: not an operator's word\n",
             ),
-            // A line cut at the end of input.
-            (b"health", b"whole\n"),
-            (b"room\nhealth", b"room 18\nwhole\n"),
             (b"", b""),
         ]),
     );
+}
+
+#[test]
+fn cut_lines(rt: HostRuntime) {
+    let alloc = rt.alloc();
+    for (input, wanted) in [
+        // The front of `out 11`, after a look.
+        (&b"health\nout 1"[..], &b"whole\nfault: cut line\n"[..]),
+        (b"health", b"fault: cut line\n"),
+        (b"# a comment", b"fault: cut line\n"),
+        (b"\r", b"fault: cut line\n"),
+        (b"\n\nsto", b"fault: cut line\n"),
+    ] {
+        let row: Row<'_> = (input, wanted);
+        plays(&rt, alloc, Play::To(row, OperatorEnd::CutLine, usize::MAX));
+    }
+}
+
+#[test]
+fn a_cut_answer_to_a_cut_line(rt: HostRuntime) {
+    let row: Row<'_> = (b"out 1", b"fault: cu");
+    plays(&rt, rt.alloc(), Play::To(row, OperatorEnd::Write, 9));
 }
 
 #[test]
@@ -73,7 +92,6 @@ fn bad_characters(rt: HostRuntime) {
         b"#\x7F\nhealth\n",
         b"h\xC3\xA4\nhealth\n",
         b"\0\nhealth\n",
-        b"\r",
         b"POST / HTTP/1.1\r\nHost: 127.0.0.1\r\n\r\nout 0\nout 1\n",
     ] {
         let row: Row<'_> = (input, b"fault: bad character\n");

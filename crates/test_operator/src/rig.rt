@@ -5,7 +5,6 @@ use ar_core::Array;
 use ar_disks::Geometry;
 use ar_frames::{MemSource, Sink};
 use ar_history::{Kept, Seat};
-use ar_language::Order;
 use ar_operator::{
     Controller, Fuse, FusedDisk, FusedMaker, OperatorEnd, OperatorOrder, converse, execute,
     set_fuse, start_fused, write_counts, write_help,
@@ -87,20 +86,9 @@ impl<L: Ledger> Controller for Rig<'_, L> {
     fn answer(&mut self, order: OperatorOrder, out: &mut Vec<u8>) -> Result<(), AllocError> {
         let mut maker = FusedMaker::new(self.fuses);
         match order {
-            OperatorOrder::Act(action) => execute(
-                self.alloc,
-                &mut self.kept,
-                &mut maker,
-                Order::Act(action),
-                out,
-            ),
-            OperatorOrder::Ask(question) => execute(
-                self.alloc,
-                &mut self.kept,
-                &mut maker,
-                Order::Ask(question),
-                out,
-            ),
+            OperatorOrder::Act(_) | OperatorOrder::ForceOut(_) | OperatorOrder::Ask(_) => {
+                execute(self.alloc, &mut self.kept, &mut maker, order, out)
+            }
             OperatorOrder::Fail { disk, accesses } => {
                 set_fuse(self.kept.array(), self.fuses, disk, accesses, out)
             }

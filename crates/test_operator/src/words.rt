@@ -79,6 +79,41 @@ rebuilt 4
 }
 
 #[test]
+fn the_only_copy(rt: HostRuntime) {
+    plays(
+        &rt,
+        rt.alloc(),
+        Play::Rows(&[
+            // The only disk that is out, once more; one that isn't there.
+            (
+                b"out 1\nout 1\nout 4\nout 4 force\n",
+                b"ok\nok\nrefused E4 NoSuchDisk\nrefused E4 NoSuchDisk\n",
+            ),
+            (
+                b"out 0\nout 3\nhealth\n",
+                b"refused: disk 0 has the only copy\nrefused: disk 3 has the only copy\nout 1\n",
+            ),
+            (
+                b"replace 1\nrebuild\nout 2\nhealth\n",
+                b"ok\nrebuilt 0 left 3\nrefused: disk 2 has the only copy\nrebuilding 1 1\n",
+            ),
+            // The disk that is rebuilt has no only copy.
+            (
+                b"out 1\nreplace 1\nout 1 force\nhealth\n",
+                b"ok\nok\nok\nout 1\n",
+            ),
+            (
+                b"out 2 Force\nout 2 force 1\nout force\nout 256 force\n",
+                b"fault: bad argument\nfault: bad argument\nfault: bad argument\nfault: bad argument\n",
+            ),
+            (b"out 2 force\nhealth\n", b"ok\nbroken\n"),
+            // Nothing is left to lose.
+            (b"out 3\nout 0 force\n", b"ok\nok\n"),
+        ]),
+    );
+}
+
+#[test]
 fn help_names_each_word(rt: HostRuntime) {
     plays(
         &rt,
@@ -90,6 +125,7 @@ grow H L SECTORS
 drop H L
 add
 out D
+out D force
 replace D
 fail D N
 fail D off

@@ -3,6 +3,8 @@
 #![tactic(auto)]
 
 #[cfg(test)]
+mod losses;
+#[cfg(test)]
 mod paths;
 #[cfg(test)]
 mod refusals;

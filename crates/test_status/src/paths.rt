@@ -56,9 +56,10 @@ fn page_and_picture(rt: HostRuntime) {
 }
 
 const JSON: &str = "\
-{\"uptime_seconds\":61,\"health\":{\"state\":\"rebuilding\",\"disk\":3,\"done\":12},\"disks\":5,\"extents\":64,\
+{\"uptime_seconds\":61,\"health\":{\"state\":\"rebuilding\",\"disk\":3,\"done\":12},\"lost_disks\":null,\
+\"disks\":5,\"extents\":64,\
 \"free_groups\":7,\"block_bytes\":1024,\"room_blocks\":18,\"cached_blocks\":10,\
-\"history_entries\":9,\"history_bytes\":4096,\"hosts\":[\
+\"history_entries\":9,\"history_bytes\":4096,\"store\":null,\"hosts\":[\
 {\"commands\":1,\"read_bytes\":2,\"written_bytes\":3,\"replies\":{\
 \"test_unit_ready\":{\"good\":100,\"check_condition\":101,\"busy\":102},\
 \"inquiry\":{\"good\":110,\"check_condition\":111,\"busy\":112},\
@@ -88,7 +89,7 @@ const JSON: &str = "\
 \"write\":{\"good\":340,\"check_condition\":341,\"busy\":342},\
 \"other\":{\"good\":350,\"check_condition\":351,\"busy\":352}}}],\
 \"steps\":{\"flush\":1,\"demote\":2,\"clean\":3,\"balance\":4,\"rebuild\":5},\
-\"counters\":{\"promotions\":11,\"squeezes\":12,\"cache_hits\":13,\"destages\":18446744073709551615},\
+\"counters\":{\"promotions\":11,\"squeezes\":12,\"cache_hits\":13,\"destages\":18446744073709551615,\"discards\":14},\
 \"events\":[{\"seconds\":60,\"kind\":\"disk_replaced\",\"disk\":3},\
 {\"seconds\":7,\"kind\":\"disk_failed\",\"disk\":3}]}";
 
@@ -137,6 +138,13 @@ autoraid_disk_healthy{disk=\"1\"} 1
 autoraid_disk_healthy{disk=\"2\"} 1
 autoraid_disk_healthy{disk=\"3\"} 0
 autoraid_disk_healthy{disk=\"4\"} 1
+# HELP autoraid_disk_lost 1 for a disk that was missing when the array failed.
+# TYPE autoraid_disk_lost gauge
+autoraid_disk_lost{disk=\"0\"} 0
+autoraid_disk_lost{disk=\"1\"} 0
+autoraid_disk_lost{disk=\"2\"} 0
+autoraid_disk_lost{disk=\"3\"} 0
+autoraid_disk_lost{disk=\"4\"} 0
 # HELP autoraid_free_groups Groups that hold no block.
 # TYPE autoraid_free_groups gauge
 autoraid_free_groups 7
@@ -260,6 +268,9 @@ autoraid_cache_hits_total 13
 # HELP autoraid_destages_total Cached blocks that were written back.
 # TYPE autoraid_destages_total counter
 autoraid_destages_total 18446744073709551615
+# HELP autoraid_discards_total Blocks of which all sectors were discarded at once.
+# TYPE autoraid_discards_total counter
+autoraid_discards_total 14
 ";
 
 #[test]

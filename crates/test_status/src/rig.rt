@@ -48,6 +48,7 @@ pub fn array_in(health: ArrayHealth) -> Still {
     let status = ArrayStatus {
         uptime_seconds: 61,
         health,
+        lost_disks: None,
         disks: 5,
         extents: 64,
         free_groups: 7,
@@ -56,12 +57,14 @@ pub fn array_in(health: ArrayHealth) -> Still {
         cached_blocks: 10,
         history_entries: 9,
         history_bytes: 4096,
+        store: None,
         hosts: hosts(),
         counters: ArrayCounters {
             promotions: 11,
             squeezes: 12,
             cache_hits: 13,
             destages: u64::MAX,
+            discards: 14,
         },
         steps: MaintenanceSteps {
             flush: 1,
@@ -162,6 +165,26 @@ pub fn responds(
     let is_head = request.starts_with(b"HEAD");
     let text = wanted.text(alloc, is_head).expect(rt, "memory");
     sends(rt, alloc, keys, watched, request, text.as_slice());
+}
+
+/// Asserts that the response to a request has this text.
+pub fn shows(
+    rt: &impl Abort,
+    alloc: Global,
+    keys: RandomState,
+    watched: &Still,
+    request: &[u8],
+    wanted: &str,
+) {
+    let mut reader = request;
+    let mut out = Vec::new(alloc);
+    let done = serve_named(alloc, keys, NAME, watched, &mut reader, &mut out).is_ok();
+    assert!(rt; done, "{request:?} failed");
+    let sent = str::from_utf8(&out).expect(rt, "text");
+    assert!(rt;
+        sent.contains(wanted),
+        "{request:?}: {sent}, without {wanted}"
+    );
 }
 
 /// Asserts that a connection sends these bytes.

@@ -26,7 +26,7 @@ pub enum Ask {
     FlushUnit(Place),
     Work(Work),
     Command(Command),
-    /// Sectors of a unit are discarded, so many from an address on.
+    /// Sectors of a unit are discarded, a number of them from an address on.
     Unmap(Place, u64, u32),
 }
 

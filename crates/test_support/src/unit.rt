@@ -63,7 +63,7 @@ impl Unit {
         }
     }
 
-    /// Sets so many sectors to zero.
+    /// Sets `count` sectors to zero.
     pub(crate) fn unmap(&mut self, alloc: Global, from: u64, count: u32) -> PlainReply {
         if self.has_grown {
             self.has_grown = false;

@@ -9,10 +9,10 @@ use bytes::Bytes;
 use std::alloc::Global;
 use std::process::Abort;
 
-type Server = DeviceServer<Fake>;
+pub(crate) type Server = DeviceServer<Fake>;
 
 #[derive(Clone, Copy)]
-enum Wanted<'a> {
+pub(crate) enum Wanted<'a> {
     /// GOOD, with these bytes.
     Good(&'a [u8]),
     /// CHECK CONDITION with a sense: key, code and qualifier.
@@ -24,17 +24,17 @@ use Wanted::{Check, Good};
 // A LUN, a command block, and its reply.
 type Row<'a> = (u8, &'a [u8], Wanted<'a>);
 
-const DONE: Wanted = Good(&[]);
+pub(crate) const DONE: Wanted = Good(&[]);
 
 const ATTENTION: Wanted = Check(0x06, 0x2A, 0x09);
 
 const NEW_SESSION: Wanted = Check(0x06, 0x29, 0x00);
 
-const NO_UNIT: Wanted = Check(0x05, 0x25, 0x00);
+pub(crate) const NO_UNIT: Wanted = Check(0x05, 0x25, 0x00);
 
-const INVALID: Wanted = Check(0x05, 0x24, 0x00);
+pub(crate) const INVALID: Wanted = Check(0x05, 0x24, 0x00);
 
-const FAILED: Wanted = Check(0x04, 0x44, 0x00);
+pub(crate) const FAILED: Wanted = Check(0x04, 0x44, 0x00);
 
 // A device server of array 0CBCh with a cache and blocks of 128 sectors, at which host 2 is logged in.
 fn logged_in(rt: &impl Abort, alloc: Global, attention: bool) -> Server
@@ -54,7 +54,7 @@ fn logged_in(rt: &impl Abort, alloc: Global, attention: bool) -> Server
 }
 
 // The same, once each unit has reported that the session is new.
-fn settled(rt: &impl Abort, alloc: Global, attention: bool) -> Server
+pub(crate) fn settled(rt: &impl Abort, alloc: Global, attention: bool) -> Server
     ensures { result.port.taken ≡ true }
 {
     let mut server = logged_in(rt, alloc, attention);
@@ -71,14 +71,14 @@ fn settled(rt: &impl Abort, alloc: Global, attention: bool) -> Server
 }
 
 // A command block, padded to 16 bytes.
-fn padded(cdb: &[u8]) -> [u8; 16] {
+pub(crate) fn padded(cdb: &[u8]) -> [u8; 16] {
     let mut block = [0; 16];
     let len = cdb.len().min(16);
     block[..len].copy_from_slice(&cdb[..len]);
     block
 }
 
-fn is_wanted(reply: &Reply, wanted: Wanted) -> bool {
+pub(crate) fn is_wanted(reply: &Reply, wanted: Wanted) -> bool {
     match wanted {
         Good(bytes) => {
             reply.status == Status::Good
@@ -111,8 +111,9 @@ fn play(rt: &impl Abort, server: &mut Server, rows: &[Row])
     }
 }
 
-// The standard INQUIRY data of a unit, with TPGS 01b and CMDQUE.
-static STANDARD: &[u8] = b"\x00\x00\x05\x02\x1F\x10\x00\x02AUTORAIDTWO LEVEL ARRAY 0001";
+// The standard INQUIRY data of a unit, with TPGS 01b and CMDQUE, and versions of SAM-3, iSCSI, SPC-3 and SBC-3.
+static STANDARD: &[u8] = b"\x00\x00\x05\x02\x45\x10\x00\x02AUTORAIDTWO LEVEL ARRAY 0001\
+\0\0\0\0\0\0\0\0\0\0\0\0\0\0\0\0\0\0\0\0\0\0\x00\x60\x09\x60\x03\x00\x04\xC0\0\0\0\0\0\0\0\0";
 
 // The Device Identification page of host 2's LUN 3.
 static NAMES: &[u8] = &[
@@ -134,6 +135,17 @@ static NAMES: &[u8] = &[
     b',', b't', b',', b'0', b'x', b'0', b'0', b'0', b'1', 0x00,
 ];
 
+// The Block Limits page with blocks of 128 sectors.
+static LIMITS: &[u8] = &[
+    0, 0xB0, 0, 0x3C, 1, 0, 0, 128, // WSNZ, optimal transfer length granularity
+    0, 0, 0xFF, 0xFF, 0, 0, 8, 0, // maximum and optimal transfer length
+    0, 0, 0, 0, 0, 0x10, 0, 0, // maximum prefetch length, maximum unmap LBA count
+    0, 0, 1, 0, 0, 0, 0, 128, // maximum unmap block descriptor count, optimal unmap granularity
+    0x80, 0, 0, 0, // UGAVALID, unmap granularity alignment
+    0, 0, 0, 0, 0, 0x10, 0, 0, // maximum WRITE SAME length
+    0, 0, 0, 0, 0, 0, 0, 0, 0, 0, 0, 0, 0, 0, 0, 0, 0, 0, 0, 0,
+];
+
 #[test]
 fn pages_of_vital_product_data(rt: HostRuntime) {
     let mut server = settled(&rt, rt.alloc(), false);
@@ -144,9 +156,9 @@ fn pages_of_vital_product_data(rt: HostRuntime) {
             (
                 0,
                 &[0x12, 1, 0x00, 0, 255],
-                Good(&[0, 0, 0, 5, 0x00, 0x80, 0x83, 0xB0, 0xB1]),
+                Good(&[0, 0, 0, 6, 0x00, 0x80, 0x83, 0xB0, 0xB1, 0xB2]),
             ),
-            (0, &[0x12, 1, 0x00, 0, 4], Good(&[0, 0, 0, 5])),
+            (0, &[0x12, 1, 0x00, 0, 4], Good(&[0, 0, 0, 6])),
             (
                 0,
                 &[0x12, 1, 0x80, 1, 0],
@@ -158,17 +170,18 @@ fn pages_of_vital_product_data(rt: HostRuntime) {
                 Good(b"\x00\x80\x00\x0C00000CBC0203"),
             ),
             (3, &[0x12, 1, 0x83, 0, 255], Good(NAMES)),
-            (
-                0,
-                &[0x12, 1, 0xB0, 0, 16],
-                Good(&[0, 0xB0, 0, 0x0C, 0, 0, 0, 128, 0, 0, 0xFF, 0xFF, 0, 0, 8, 0]),
-            ),
+            (0, &[0x12, 1, 0xB0, 0, 255], Good(LIMITS)),
             (
                 0,
                 &[0x12, 1, 0xB1, 0, 8],
                 Good(&[0, 0xB1, 0, 0x3C, 0, 1, 0, 0]),
             ),
-            (0, &[0x12, 1, 0xB2, 0, 255], INVALID),
+            (
+                0,
+                &[0x12, 1, 0xB2, 0, 255],
+                Good(&[0, 0xB2, 0, 4, 0, 0xE4, 2, 0]),
+            ),
+            (0, &[0x12, 1, 0xB3, 0, 255], INVALID),
             (0, &[0x12, 0, 0x80, 0, 255], INVALID),
             (0, &[0x12, 1, 0x00, 0, 255, 0x04], INVALID),
             (7, &[0x12, 1, 0x00, 0, 255], Good(&[0x7F, 0, 0, 1, 0x00])),
@@ -290,7 +303,7 @@ fn capacities_of_eight_bytes(rt: HostRuntime) {
             (
                 0,
                 &[0x9E, 0x10, 0, 0, 0, 0, 0, 0, 0, 0, 0, 0, 0, 16],
-                Good(&[0, 0, 0, 0, 0, 0, 3, 0xE7, 0, 0, 2, 0, 0, 7, 0, 0]),
+                Good(&[0, 0, 0, 0, 0, 0, 3, 0xE7, 0, 0, 2, 0, 0, 7, 0xC0, 0]),
             ),
             (
                 0,
@@ -304,7 +317,7 @@ fn capacities_of_eight_bytes(rt: HostRuntime) {
             ),
             (
                 0,
-                &[0x9E, 0x12, 0, 0, 0, 0, 0, 0, 0, 0, 0, 0, 0, 12],
+                &[0x9E, 0x11, 0, 0, 0, 0, 0, 0, 0, 0, 0, 0, 0, 12],
                 INVALID,
             ),
             (
@@ -379,12 +392,15 @@ fn caches_are_synchronized(rt: HostRuntime) {
             ),
             (3, &[0x35, 0, 0, 0, 0, 0, 0, 0, 0], FAILED),
             (7, &[0x35, 0, 0, 0, 0, 0, 0, 0, 0], NO_UNIT),
+            // A stop flushes, unless NO_FLUSH is set.
             (0, &[0x1B, 0, 0, 0, 0], DONE),
+            (3, &[0x1B, 0, 0, 0, 2], FAILED),
+            (3, &[0x1B, 0, 0, 0, 4], DONE),
             (0, &[0x1B, 0, 0, 0, 1], DONE),
             (5, &[0x1B, 0, 0, 0, 1], FAILED),
         ],
     );
-    flushed(&rt, server, 4);
+    flushed(&rt, server, 6);
 }
 
 // The server has flushed this many units.
@@ -401,7 +417,9 @@ fn each_unit_reports_a_new_session_once(rt: HostRuntime) {
         &mut server,
         &[
             (0, &[0x12, 1, 0x80, 0, 4], Good(&[0, 0x80, 0, 0x0C])),
-            (0, &[0x12, 0, 0, 0, 36], Good(STANDARD)),
+            (0, &[0x12, 0, 0, 0, 36], Good(&STANDARD[..36])),
+            (0, &[0x12, 0, 0, 0, 96], Good(STANDARD)),
+            (0, &[0x12, 0, 0, 0, 60], Good(&STANDARD[..60])),
             (0, &[0xA0, 0, 0, 0, 0, 0, 0, 0, 0, 16], Good(&LUNS[..16])),
             (0, &[0x03, 1, 0, 0, 18], INVALID),
             (0, &[0x00], NEW_SESSION),
@@ -484,8 +502,8 @@ fn other_commands_are_the_ports(rt: HostRuntime) {
             (0, &[0x00], DONE),
             (0, &[0x25], Good(&[0, 0, 3, 0xE7, 0, 0, 2, 0])),
             (0, &[0x28, 0, 0, 0, 0, 0, 0, 0, 1], Good(&[0x5A; 512])),
-            (0, &[0x12, 0, 0, 0, 36], Good(STANDARD)),
-            (0, &[0x42], Check(0x05, 0x20, 0x00)),
+            (0, &[0x12, 0, 0, 0, 36], Good(&STANDARD[..36])),
+            (0, &[0x43], Check(0x05, 0x20, 0x00)),
         ],
     );
     drop(server);
@@ -568,6 +586,11 @@ fn lengths_of_data_out(rt: HostRuntime) {
     takes(&rt, &[0x2F, 2, 0, 0, 0, 0, 0, 0, 2], 1_024);
     takes(&rt, &[0x8F, 2, 0, 0, 0, 0, 0, 0, 0, 0, 0, 0, 0, 2], 1_024);
     takes(&rt, &[0xA0, 0, 0, 0, 0, 0, 0, 0, 1, 0], 0);
+    takes(&rt, &[0x42, 0, 0, 0, 0, 0, 0, 1, 4], 260);
+    takes(&rt, &[0x42, 1, 0, 0, 0, 0, 0, 1, 4], 0);
+    takes(&rt, &[0x41, 0, 0, 0, 0, 0, 0, 0, 9], 512);
+    takes(&rt, &[0x93, 8, 0, 0, 0, 0, 0, 0, 0, 0, 0, 0, 0, 9], 512);
+    takes(&rt, &[0x93, 9, 0, 0, 0, 0, 0, 0, 0, 0, 0, 0, 0, 9], 0);
 }
 
 fn takes(rt: &impl Abort, cdb: &[u8], len: u32) {
@@ -628,7 +651,7 @@ fn reports_on_the_target(rt: HostRuntime) {
                 0,
                 &[0xA3, 0x0C, 0, 0, 0, 0, 0, 0, 0, 20],
                 Good(&[
-                    0, 0, 0, 208, 0x00, 0, 0, 0, 0, 0, 0, 6, 0x03, 0, 0, 0, 0, 0, 0, 6,
+                    0, 0, 0, 240, 0x00, 0, 0, 0, 0, 0, 0, 6, 0x03, 0, 0, 0, 0, 0, 0, 6,
                 ]),
             ),
             (
@@ -641,6 +664,16 @@ fn reports_on_the_target(rt: HostRuntime) {
             (
                 0,
                 &[0xA3, 0x0C, 1, 0x42, 0, 0, 0, 0, 0, 255],
+                Good(&[0, 3, 0, 10, 0x42, 1, 0, 0, 0, 0, 0, 0xFF, 0xFF, 4]),
+            ),
+            (
+                0,
+                &[0xA3, 0x0C, 1, 0x93, 0, 0, 0, 0, 0, 6],
+                Good(&[0, 3, 0, 16, 0x93, 0xFF]),
+            ),
+            (
+                0,
+                &[0xA3, 0x0C, 1, 0x43, 0, 0, 0, 0, 0, 255],
                 Good(&[0, 1, 0, 0]),
             ),
             (0, &[0xA3, 0x0C, 1, 0x9E, 0, 0, 0, 0, 0, 255], INVALID),
@@ -649,6 +682,14 @@ fn reports_on_the_target(rt: HostRuntime) {
                 0,
                 &[0xA3, 0x0C, 2, 0x9E, 0, 0x10, 0, 0, 0, 8],
                 Good(&[0, 3, 0, 16, 0x9E, 0x10, 0xFF, 0xFF]),
+            ),
+            (
+                0,
+                &[0xA3, 0x0C, 3, 0x9E, 0, 0x12, 0, 0, 0, 20],
+                Good(&[
+                    0, 3, 0, 16, 0x9E, 0x12, 0xFF, 0xFF, 0xFF, 0xFF, 0xFF, 0xFF, 0xFF, 0xFF, 0xFF,
+                    0xFF, 0xFF, 0xFF, 0, 4,
+                ]),
             ),
             (
                 0,

@@ -4,12 +4,13 @@ ghost use Rattle.ar_frames.specs.Frame.{IsReply};
 
 use ar_frames::{Login, Port};
 use ar_scsi::{Reply, Sense, capacity_data, inquiry_data};
-use ar_target::{FlushOutcome, FlushPort};
+use ar_target::{BlockRun, DiscardPort, FlushOutcome, FlushPort};
 use bytes::Bytes;
 use std::alloc::Global;
 
 // Units of 1,000 blocks at LUN 0 and LUN 3, a failed one at LUN 5, one at LUN 9 that has none of its replies' data; at
-// others no unit. A flush of LUN 3 fails.
+// others no unit. A flush of LUN 3 fails, and
+// so do its discards, and those that begin at block 500.
 #[derive(Drop)]
 pub struct Fake {
     alloc: Global,
@@ -19,6 +20,8 @@ pub struct Fake {
     // How many bytes of data came with commands, and how many flushes.
     pub bytes: u64,
     pub flushes: u64,
+    // The blocks of discards.
+    pub discarded: u64,
 }
 
 impl Fake {
@@ -31,6 +34,7 @@ impl Fake {
             attention,
             bytes: 0,
             flushes: 0,
+            discarded: 0,
         }
     }
 }
@@ -51,7 +55,7 @@ fn unit_reply(alloc: Global, cdb: &[u8; 16]) -> Reply
     ensures { IsReply result }
 {
     match cdb[0] {
-        0x00 | 0x2A => Reply::good(Bytes::new()),
+        0x00 | 0x2A | 0x8A => Reply::good(Bytes::new()),
         0x12 if cdb[1] == 0 && cdb[2] == 0 => good(alloc, &inquiry_data(true)),
         0x12 => Reply::check(Sense::INVALID_FIELD_IN_CDB),
         0x25 => good(alloc, &capacity_data(1000)),
@@ -107,6 +111,38 @@ impl FlushPort for Fake {
             0 | 5 => FlushOutcome::Done,
             3 => FlushOutcome::ArrayFailed,
             _ => FlushOutcome::NoUnit,
+        }
+    }
+}
+
+impl DiscardPort for Fake {
+    ghost discards = { λ old lun lba count reply new. Unit {0} };
+
+    ghost runs = { λ old lun block most run new. Unit {0} };
+
+    fn discard(&mut self, lun: u8, lba: u64, count: u32) -> Reply {
+        if lun == 3 || lba == 500 {
+            return Reply::check(Sense::INTERNAL_TARGET_FAILURE);
+        }
+        self.discarded = self.discarded.saturating_add(u64::from(count));
+        Reply::good(Bytes::new())
+    }
+
+    // Blocks 0 to 2 were written, of block 7 nothing is known, and others weren't written.
+    fn run(&mut self, _lun: u8, block: u32, most: u32) -> BlockRun {
+        match block {
+            0..=2 => BlockRun {
+                is_written: true,
+                blocks: 3 - block,
+            },
+            7 => BlockRun {
+                is_written: false,
+                blocks: 0,
+            },
+            _ => BlockRun {
+                is_written: false,
+                blocks: most,
+            },
         }
     }
 }
