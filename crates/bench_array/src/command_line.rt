@@ -24,7 +24,7 @@ pub struct Options {
     /// For how many seconds each workload runs.
     pub seconds: u32,
     pub seed: u64,
-    /// Whether each workload is told on standard error when it begins.
+    /// Whether each workload is reported on standard error when it begins.
     pub shows_progress: bool,
     /// Whether nothing is timed, and a digest of what is read back is printed.
     pub is_check: bool,

@@ -56,7 +56,7 @@ fn serve_trial<R: Threads + Sync>(rt: &R, echoes: Vec<Echo>) -> Result<(), Failu
     }
 }
 
-// Waits for so many hosts.
+// Waits for this many hosts.
 fn echoes_of(
     alloc: Global,
     listener: &TcpListener,

@@ -115,7 +115,7 @@ impl Display for Grouped {
     }
 }
 
-// One number divided by another, with two digits behind the point, rounded down.
+// One number divided by another, with two digits after the point, rounded down.
 #[derive(Clone, Copy)]
 struct Ratio(u64, u64);
 

@@ -14,7 +14,7 @@ use std::thread::Threads;
 pub struct Verification {
     /// The same for each host, but for what is drawn.
     pub plan: Plan,
-    /// Whether each host goes on until the array closes its session, instead of so many requests.
+    /// Whether each host goes on until the array closes its session, instead of a number of requests.
     pub until_closed: bool,
 }
 

@@ -5,7 +5,7 @@ use ar_log::{next_batch, open};
 use ar_media::{Media, RegularFile};
 use std::alloc::Global;
 
-/// Reads the log to its end, and returns how many records it has behind its head. Each has the bytes that were written.
+/// Reads the log to its end, and returns how many records it has after its head. Each has the bytes that were written.
 pub fn count_records<M: Media>(alloc: Global, media: &mut M) -> Result<u64, Failure> {
     let mut place = open(alloc, media)?;
     for number in 0..u64::MAX {

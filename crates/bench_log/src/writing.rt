@@ -56,7 +56,7 @@ pub fn append_and_tell<M: Media>(
     Ok(())
 }
 
-/// Appends so many records of `len` further bytes.
+/// Appends `count` records of `len` further bytes.
 pub fn append_all<M: Media>(
     alloc: Global,
     log: &mut Log<M>,

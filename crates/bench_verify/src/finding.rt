@@ -1,4 +1,4 @@
-// What a host was told, and what of it was not right.
+// What a host got, and what of it was wrong.
 use crate::order::Order;
 use crate::shadow::Mismatch;
 use ar_frames::AskFault;

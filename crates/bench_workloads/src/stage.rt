@@ -80,7 +80,7 @@ impl Size {
         (u32::from(self.disks) * u32::from(self.extents) / 4).saturating_sub(1)
     }
 
-    // Blocks that so many mirrored groups hold.
+    // Blocks that this many mirrored groups hold.
     fn mirrored(self, groups: u32) -> u32 {
         groups.saturating_mul(2 * u32::from(self.geometry.rows()))
     }
@@ -143,7 +143,7 @@ impl Stage {
         }
     }
 
-    /// Whether each round needs the unit made ready anew, since a round changes where its blocks stand.
+    /// Whether each round needs the unit made ready again, since a round changes where its blocks stand.
     pub fn wears_out(&self) -> bool {
         match self.plan.stands {
             Stands::Nowhere | Stands::Half | Stands::Scattered => true,
@@ -171,7 +171,7 @@ impl Stage {
         Ok(())
     }
 
-    // Makes the unit anew, and writes its blocks to the disks.
+    // Creates the unit again, and writes its blocks to the disks.
     fn fill_unit(&mut self, alloc: Global, data: &Data) -> Result<(), WorkloadFault> {
         // There may be none.
         self.attempt(alloc, EventOf::Remove(self.unit));
