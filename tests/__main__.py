@@ -18,7 +18,7 @@ import unittest
 from tests import harness
 
 # The slowest begin first.
-SLOWEST = "initiators drill memory refused_allocations http_clients conformance serving largest stop".split()
+SLOWEST = "initiators drill databases memory refused_allocations http_clients conformance serving largest stop".split()
 # Seconds that a file may take.
 LONGEST = 900
 

@@ -35,6 +35,10 @@ ROOT = os.path.dirname(os.path.dirname(os.path.realpath(__file__)))
 # Seconds that one wait may take.
 PATIENCE = 60
 HOSTS = 4
+# What a server says on standard error of disks that have failed, and of connections that it has refused.
+FAILURES = re.compile(
+    r"^\[(WARN |ERROR) autoraid\] ((disk \d+|array) failed|an? [\w ]+ was refused): .*\n", re.MULTILINE
+)
 
 
 def program(name):
@@ -607,14 +611,21 @@ class Case(unittest.TestCase):
         self.wants(server.answers_to("stop\n"), "stopped\n", "an operator's stop")
         self.ends(server, commands, error, seconds)
 
-    def ends(self, server, commands=None, error="", seconds=PATIENCE):
-        """Looks that a server ends well: its status, its report, what it wrote to standard error (None: anything)."""
+    def stops_failed(self, server, commands=None):
+        """The same of a server whose array has failed: it says so, and its status does."""
+        server.ending = "closed, data lost"
+        self.wants(server.answers_to("stop\n"), "stopped\n", "an operator's stop")
+        self.ends(server, commands, "data lost\n", status=3)
+
+    def ends(self, server, commands=None, error="", seconds=PATIENCE, status=0):
+        """Looks at how a server ends: its status, its report, what it wrote to standard error (None: anything)."""
         ended = server.ended(seconds)
-        self.wants(ended.status, 0, f"the server's status, after {ended.out!r} and {ended.error!r}")
+        self.wants(ended.status, status, f"the server's status, after {ended.out!r} and {ended.error!r}")
         if commands is None:
             self.wants(ended.out.splitlines()[HOSTS:], [server.ending], "the end of the server's report")
         else:
             self.wants(ended.out, server.report(commands), "the server's report")
         if error is not None:
-            self.wants(ended.error, error, "the server's standard error")
+            # (disks that a case has failed are reported there, too, and whom it has had refused)
+            self.wants(FAILURES.sub("", ended.error), error, "the server's standard error")
         return ended

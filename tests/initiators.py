@@ -1,5 +1,5 @@
-"""The programs of real initiators: libiscsi's tools and tests, QEMU, fio, and mkfs.ext4. Those that are missing are
-installed."""
+"""The programs of real initiators: libiscsi's tools and tests, QEMU and its export by FUSE, fio, and mkfs.ext4. Those
+that are missing are installed."""
 import os
 import shutil
 import subprocess
@@ -12,6 +12,8 @@ INSTALL_SECONDS = 90
 PACKAGES = {
     "iscsi-ls": "libiscsi-bin",
     "qemu-img": "qemu-utils qemu-block-extra",
+    "qemu-storage-daemon": "qemu-system-common",
+    "fusermount3": "fuse3",
     "mkfs.ext4": "e2fsprogs",
     "fio": "fio",
 }
@@ -86,6 +88,21 @@ class InitiatorCase(Case):
         said = waited(lambda: all(map(os.path.exists, sockets)), True)
         self.wants(said, True, "whether each socket is there")
         return room
+
+    def file_of(self, server, size):
+        """Host 0's unit as a file, which QEMU exports by FUSE until the case ends, and the program that does."""
+        file = os.path.join(self.room(), "unit")
+        with open(file, "x", encoding="ascii"):
+            pass
+        unit = f"driver=iscsi,node-name=unit,transport=tcp,portal=127.0.0.1:{server.iscsi_port},target={TARGET}0,lun=0"
+        export = f"type=fuse,id=export,node-name=unit,mountpoint={file},writable=on"
+        # (a program that is killed leaves its mount)
+        self.addCleanup(ran, "fusermount3", "-u", "-q", "-z", file)
+        words = ["--blockdev", f"{unit},discard=unmap", "--export", export]
+        exporter = self.starts("qemu-storage-daemon", *words, stderr=subprocess.STDOUT)
+        said = waited(lambda: os.path.getsize(file), size)
+        self.wants(said, size, f"the size of a unit as a file; its program said {exporter.line(0)!r}")
+        return file, exporter
 
     def jobs(self, room):
         """fio's words for a job of each host."""

@@ -136,7 +136,7 @@ class Blocks(Case):
     def test_broken_array(self):
         """INTERNAL TARGET FAILURE, for what needs the disks alone."""
         self.asks(write_10(0, 1), DONE, "a WRITE", SECTOR)
-        self.wants(self.server.answers_to("out 0\nout 1\n"), "ok\nok\n", "two disks that are taken out")
+        self.wants(self.server.answers_to("out 0\nout 1 force\n"), "ok\nok\n", "two disks that are taken out")
         self.asks(read_10(0, 1), check(4, 0x44, 0), "a READ of lost data")
         self.asks(READY, check(4, 0x44, 0), "TEST UNIT READY of a broken array")
 

@@ -10,7 +10,12 @@ TESTS = """
     TestUnitReady ReadCapacity10 ReadCapacity16 Inquiry Mandatory ModeSense6.AllPages ModeSense6.Residuals ReadOnly
     Read10.Simple Read10.BeyondEol Read10.ZeroBlocks Read10.DpoFua Read10.Async Read16.Simple Read16.BeyondEol
     Read16.ZeroBlocks Write10.Simple Write10.BeyondEol Write10.ZeroBlocks Write10.DpoFua Write16.Simple
-    Write16.BeyondEol Write16.ZeroBlocks StartStopUnit iSCSIcmdsn iSCSITMF
+    Write16.BeyondEol Write16.ZeroBlocks StartStopUnit iSCSIcmdsn iSCSITMF Unmap
+    WriteSame10.Simple WriteSame10.BeyondEol WriteSame10.ZeroBlocks WriteSame10.WriteProtect WriteSame10.Unmap
+    WriteSame10.UnmapUnaligned WriteSame10.UnmapUntilEnd WriteSame10.UnmapVPD WriteSame10.Check WriteSame16.Simple
+    WriteSame16.BeyondEol WriteSame16.ZeroBlocks WriteSame16.WriteProtect WriteSame16.Unmap WriteSame16.UnmapUnaligned
+    WriteSame16.UnmapUntilEnd WriteSame16.UnmapVPD WriteSame16.Check GetLBAStatus.Simple GetLBAStatus.BeyondEol
+    ReportSupportedOpcodes.Simple ReportSupportedOpcodes.SERVACTV
 """.split()
 
 

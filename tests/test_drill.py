@@ -72,9 +72,9 @@ class Drill(Case):
     def waits(self, operator, line, wanted):
         self.wants(operator.waits(line, [wanted]), [wanted], line)
 
-    def ends_with(self, server, requests):
+    def ends_with(self, server, requests, **how):
         """Looks that a server has ended well, with these commands in its report."""
-        ended = self.ends(server)
+        ended = self.ends(server, **how)
         lines = enumerate(ended.out.splitlines()[:HOSTS])
         counts = [re.fullmatch(rf"host {host} commands (\d+)", line) for host, line in lines]
         self.holds(len(counts) == HOSTS and all(counts), "a report with a line for each host", ended.out)
@@ -167,8 +167,9 @@ class Drill(Case):
         self.holds(counts["broken"] > 0, "replies 04/44/00 once two disks have failed", counts)
         self.orders(operator, "add", "refused E6 Broken")
         self.orders(operator, "make 0 7 8", "refused M6 Broken")
+        server.ending = "closed, data lost"
         self.wants(server.answers_to("stop\n"), "stopped\n", "a stop")
-        self.ends_with(server, range(counts["requests"] + 1))
+        self.ends_with(server, range(counts["requests"] + 1), error="data lost\n", status=3)
         return counts["requests"]
 
     def stopped_under_load(self, seed, audit):

@@ -15,6 +15,8 @@ SUBCOMMANDS = {
     "run": (24, {"--picture": "SVG", **SHAPE, **CACHE}),
     "create": (24, {"--store": "FOLDER", "--name": "64", **SHAPE}),
     "check": (24, {"--store": "FOLDER"}),
+    "export": (24, {"--store": "FOLDER"}),
+    "import": (24, {"--store": "FOLDER"}),
     "serve": (
         36,
         {
@@ -22,6 +24,7 @@ SUBCOMMANDS = {
             "--sessions": "64",
             "--operator": "PORT",
             "--http": "PORT",
+            "--http-host": "NAME localhost",
             "--iscsi": "PORT",
             "--login-timeout": "SECONDS default: 10",
             "--idle-timeout": "SECONDS",
@@ -63,6 +66,7 @@ WRONG = {
         "serve --port 7117 --sessions 65": "65 --sessions 64",
         f"{SERVE} --login-timeout 86401": "86401 --login-timeout 86400",
         f"{SERVE} --audit none": "none --audit full off",
+        f"{SERVE} --http-host array.example": "--http-host --http PORT",
         f"{SERVE} --sync always": "--sync --store FOLDER",
         f"{SERVE} --commit-every 5": "--commit-every --store FOLDER",
         f"{STORED} --sync never": "never --sync flush always",
@@ -76,6 +80,11 @@ WRONG = {
         f"create --store folder --name {65 * 'n'}": "--name 64",
         "check": "--store FOLDER",
         "check folder": "folder --store",
+        "export --store folder": "UNIT",
+        "export 0:0": "--store FOLDER",
+        "import --store folder 4:0": "4:0 HOST:LUN",
+        "import --store folder 0:8": "0:8 HOST:LUN",
+        "import --store folder 0:0 1:0": "1:0",
     },
     "ar_client": {
         "--port 0 --host 0": "0 --port 65535",
@@ -102,7 +111,7 @@ class Help(Case):
         return said.out
 
     def fits(self, text, lines):
-        """A screen: so many lines of at most 100 columns."""
+        """A screen: at most `lines` lines of at most 100 columns."""
         self.holds(len(text.splitlines()) <= lines, f"at most {lines} lines", text)
         self.holds(max(map(len, text.splitlines())) <= COLUMNS, f"at most {COLUMNS} columns", text)
 
@@ -206,7 +215,7 @@ class Sizes(Case):
     LINES = "make 0 0 {0}\nwrite 0 0 0 1 AA\nwrite 0 0 {1} 1 BB\nlevels 0 0\n"
 
     def levels(self, block, *options):
-        """What has become of two blocks of so many sectors in an array with these options."""
+        """What has become of two blocks of `block` sectors in an array with these options."""
         said = ran(program("autoraid"), "run", *options, text=self.LINES.format(2 * block, block))
         self.wants((said.status, said.error), (0, ""), f"a script with {options}")
         return said.out.splitlines()[-1]

@@ -5,7 +5,7 @@ import time
 from tests.harness import Case, answered, connected, rest_of
 
 # Seconds after which a silent connection is closed, and what may come on top.
-LONGEST, SLACK = 10, 3
+LONGEST, SLACK = 2, 3
 HEALTH = b"GET /healthz/whole HTTP/1.1\r\nHost: localhost\r\n\r\n"
 # What is sent, and the status that answers it.
 BAD = {
@@ -53,7 +53,7 @@ class Clients(Case):
         for client in silent[:8]:
             self.wants(rest_of(client), b"", "what a silent client receives")
         passed = time.monotonic() - begun
-        self.holds(LONGEST - 1 <= passed < LONGEST + SLACK, "silent clients are closed after 10 s", f"{passed:.1f} s")
+        self.holds(LONGEST - 1 <= passed < LONGEST + SLACK, "silent clients are closed after 2 s", f"{passed:.1f} s")
         self.wants((host.is_ready(), server.get("/healthz")[0]), (True, 200), "a host and a client after them")
         host.close()
         self.stops(server, [1, 0, 0, 0])

@@ -1,5 +1,5 @@
 """How much memory the built program takes: for arrays that are filled to their last block, for READs, for a served
-history.
+history; and what a server does that has no more.
 
 An array may take at most 1.1 times its disks, its cached blocks and its history, beside what the program takes with the
 smallest array. One for which there is no memory is refused with one line. The figures are the most that was resident at
@@ -7,8 +7,10 @@ any moment; with FIGURES=1 each is printed, and the largest array of large block
 """
 import os
 import resource
+import time
 
-from tests.harness import ACCEPTED, GOOD, TEST_UNIT_READY, Case, Ended, most_resident, program, ran, write_10
+from tests.harness import ACCEPTED, BUSY, GOOD, TEST_UNIT_READY, Case, Ended, connected, free_port, most_resident
+from tests.harness import program, ran, rest_of, write_10
 
 FIGURES = os.environ.get("FIGURES")
 KIB, MIB, SECTOR = 1 << 10, 1 << 20, 512
@@ -139,3 +141,59 @@ class Memory(Case):
 
     def test_no_history_of_short_commands(self):
         self.keeps_nothing(60_000, 8)
+
+
+class NoMore(Case):
+    """Servers with a limit of the system on their memory."""
+
+    DOORS = ("operator", "http", "iscsi")
+
+    def tasks(self, pid):
+        """How many threads a program has."""
+        return len(os.listdir(f"/proc/{pid}/task"))
+
+    def most_of_a_start(self):
+        """The memory in bytes, as addresses, that a server takes which nobody uses, and its threads at `listening`."""
+        server = self.serve("--extents", "16", "0:0:128", doors=self.DOORS)
+        threads = self.tasks(server.pid)
+        time.sleep(1)
+        self.wants(threads, self.tasks(server.pid), "the threads when it listens, and a second later")
+        most = most_resident(server.pid, "VmPeak") * KIB
+        self.stops(server, [0, 0, 0, 0])
+        return most, threads
+
+    def test_threads_at_the_start(self):
+        """All threads are there when it listens, or it ends without."""
+        most, threads = self.most_of_a_start()
+        for sixteenth in range(6, 17):
+            doors = [word for door in self.DOORS for word in (f"--{door}", free_port())]
+            words = [program("autoraid"), "serve", "--port", free_port(), "--extents", "16", *doors]
+            running = self.starts(*words, limits={resource.RLIMIT_AS: most * sixteenth // 16})
+            said = running.line()
+            if said.startswith("listening "):
+                self.wants(self.tasks(running.pid), threads, f"the threads with {sixteenth}/16 of the memory")
+                running.kill()
+            else:
+                ended = running.ended()
+                is_refused = said == "" and ended.status == 1 and ended.error in ("no memory\n", "start fault\n")
+                self.holds(is_refused, "a service or one message", (said, ended))
+
+    def test_memory_that_is_used_up(self):
+        """Who is refused is logged, and operators are let in."""
+        limit = self.most_of_a_start()[0] + 64 * MIB
+        how = {"doors": self.DOORS, "limits": {resource.RLIMIT_AS: limit}}
+        server = self.serve("--extents", "16", "0:0:128", **how)
+        host, commands = self.kept(server.log_in(0)), 0
+        while (said := host.writes(0, bytes(128 * SECTOR))).status == GOOD:
+            commands += 1
+        self.wants(said.status, BUSY, f"command {commands + 1}")
+        begun = time.monotonic()
+        for _ in range(50):
+            with connected(server.iscsi_port) as link:
+                self.wants(rest_of(link), b"", "what an initiator receives that is refused")
+        passed = time.monotonic() - begun
+        self.wants(server.answers_to("health\n"), "whole\n", "an operator")
+        self.wants(server.answers_to("stop\n"), "stopped\n", "an operator's stop")
+        lines = self.ends(server, error=None).error.splitlines()
+        self.wants(set(lines), {"[WARN  autoraid] an initiator was refused: no memory"}, "the server's standard error")
+        self.holds(1 <= len(lines) <= passed + 2, "a line a second at most", (len(lines), passed))

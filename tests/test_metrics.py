@@ -37,6 +37,7 @@ class Metrics(Case):
         }
         said = {name: server.sample(f"autoraid_{name}") for name in wanted}
         self.wants(said, wanted, f"metrics with --audit {audit}")
+        self.wants("autoraid_store" in server.get("/metrics")[2], False, "a store in metrics of an array without one")
         counts = server.status_json()["hosts"][0]
         self.wants((counts["commands"], counts["read_bytes"]), (5, 1536), "host 0 as JSON")
         self.has_form(server.get("/metrics")[2])
@@ -56,8 +57,9 @@ class Metrics(Case):
         self.numbers("off", "0")
 
     def counters(self, server):
-        """What the array has counted: promotions, squeezes, cache hits, destages; and the number of cached blocks."""
-        names = "promotions_total", "squeezes_total", "cache_hits_total", "destages_total", "cached_blocks"
+        """What the array has counted, from promotions to discards; and the number of cached blocks."""
+        totals = "promotions", "squeezes", "cache_hits", "destages", "discards"
+        names = [f"{name}_total" for name in totals] + ["cached_blocks"]
         return [int(server.sample(f"autoraid_{name}") or -1) for name in names]
 
     def test_promotions(self):
@@ -65,9 +67,9 @@ class Metrics(Case):
         server = self.watched("--extents", "16", "0:0:8")
         server.client(0, WRITE.format(2))
         moved = server.answers_to("demote\n")
-        self.wants(self.counters(server), [0, 0, 0, 0, 0], f"counters once demoted ({moved})")
+        self.wants(self.counters(server), [0, 0, 0, 0, 0, 0], f"counters once demoted ({moved})")
         server.client(0, 2 * WRITE.format(2))
-        self.wants(self.counters(server), [1, 0, 0, 0, 0], "counters once promoted")
+        self.wants(self.counters(server), [1, 0, 0, 0, 0, 0], "counters once promoted")
         self.stops(server, [3, 0, 0, 0])
 
     def test_squeezes(self):
@@ -81,7 +83,7 @@ class Metrics(Case):
         """50 times 6 blocks by a cache of 8; meanwhile maintenance destages, so that not each READ is a hit."""
         server = self.watched("--cache", "8", "--extents", "16", "0:0:12")
         server.client(0, 50 * (WRITE.format(12) + READ.format(12)))
-        self.wants(waited(lambda: self.counters(server)[4], 0), 0, "cached blocks in the end")
+        self.wants(waited(lambda: self.counters(server)[5], 0), 0, "cached blocks in the end")
         said = self.counters(server)
         is_right = said[:2] == [0, 0] and 0 < said[2] <= 300 and 6 <= said[3] <= 300
         self.holds(is_right, "no promotion, no squeeze, 1 to 300 hits, 6 to 300 destages", said)

@@ -10,6 +10,7 @@ grow H L SECTORS
 drop H L
 add
 out D
+out D force
 replace D
 fail D N
 fail D off
@@ -107,7 +108,6 @@ NO_TEXT = [
     ("a delete in a comment", b"#\x7F\nout 2\n", "fault: bad character\n"),
     ("a letter that isn't ASCII", b"h\xC3\xA4\nout 2\n", "fault: bad character\n"),
     ("a zero", b"\0\nout 2\n", "fault: bad character\n"),
-    ("a carriage return alone", b"\r", "fault: bad character\n"),
     ("a comment of 4,097", b"#" * 4097 + b"\nout 2\n", "fault: line too long\n"),
     # (a bad character is reported among the first 4,096 bytes alone)
     ("a carriage return at 4,096", b"#" * 4095 + b"\r\nout 2\n", "fault: bad character\n"),
@@ -123,6 +123,23 @@ NO_TEXT = [
 ]
 
 
+# A second disk that is taken out.
+LAST_COPY = [
+    ("out 1", "ok"),
+    ("out 1", "ok"),
+    ("out 2", "refused: disk 2 has the only copy"),
+    ("out 2 yes", "fault: bad argument"),
+    ("out 5 force", "refused E4 NoSuchDisk"),
+    ("health", "out 1"),
+    ("out 2 force", "ok"),
+    ("health", "broken"),
+    ("out 0", "ok"),
+]
+
+# Last lines without their LF.
+CUT = ["out 1", "health\nout 1", "h", "# nothing", "stop", "\r", "x" * 5000]
+
+
 class Operators(Case):
     def test_words_of_an_operator(self):
         server = self.serve("--disks", "5", "--extents", "16", "0:0:24")
@@ -131,6 +148,13 @@ class Operators(Case):
             self.wants(operator.answer_to(f"{line}\n".encode()), f"{wanted}\n", line)
         self.wants(operator.asks("help"), WORDS, "help")
         self.stops(server, [0, 0, 0, 0])
+
+    def test_the_only_copy(self):
+        """The second disk is not taken out, while the first is out or not rebuilt, unless by `force`."""
+        server = self.serve("--disks", "5", "0:0:24")
+        for line, wanted in LAST_COPY:
+            self.wants(server.answers_to(f"{line}\n"), f"{wanted}\n", line)
+        self.stops_failed(server, [0, 0, 0, 0])
 
     def test_faulty_lines(self):
         """Each is answered by its fault, and the conversation goes on."""
@@ -151,13 +175,11 @@ class Operators(Case):
         self.stops(server, [0, 0, 0, 0])
 
     def test_longest_lines(self):
-        """Lines of 4,096 bytes are read, and a last line may end with the input."""
+        """Lines of 4,096 bytes are read."""
         server = self.serve()
         for sent, wanted in (
             (b"#" * 4096 + b"\nhealth\n", "whole\n"),
             (b"x" * 4096 + b"\nhealth\n", "fault: unknown word\nwhole\n"),
-            (b"health", "whole\n"),
-            (b"room\nhealth", "room 18\nwhole\n"),
             (b"", ""),
         ):
             self.wants(answered(server.operator_port, sent).decode(), wanted, f"what {sent[-20:]} is answered")
@@ -165,8 +187,16 @@ class Operators(Case):
 
     def test_no_answer_to_comments(self):
         server = self.serve("0:0:8")
-        said = server.answers_to("sessions\n# nothing\n\nroom")
-        self.wants(said, "room 14\n", "comments, and a last line that doesn't end")
+        self.wants(server.answers_to("sessions\n# nothing\n\nroom\n"), "room 14\n", "comments")
+        self.stops(server, [0, 0, 0, 0])
+
+    def test_a_cut_line_is_not_executed(self):
+        """The end of the connection may cut `out 11` to `out 1`."""
+        server = self.serve("--disks", "12")
+        for sent in CUT:
+            wanted = "whole\n" * sent.startswith("health\n") + "fault: cut line\n"
+            self.wants(server.answers_to(sent), wanted, f"{sent!r} without its LF")
+            self.wants(server.answers_to("health\n"), "whole\n", f"the health after {sent!r}")
         self.stops(server, [0, 0, 0, 0])
 
     def test_no_text(self):

@@ -89,6 +89,14 @@ class Pages(Case):
             said = answered(self.server.http_port, f"GET /healthz HTTP/1.1\r\nHost: {name}\r\n\r\n".encode())
             self.wants(said[:13] + said[-8:], b"HTTP/1.1 200 " + b"\nserves\n", name)
 
+    def test_another_name(self):
+        """The name that `--http-host` adds, and no other."""
+        server = self.serve("--http-host", "array.example", "0:0:8", doors=("operator", "http"))
+        for name, code in ("Array.Example:7119", b"200"), ("localhost", b"200"), ("other.example", b"421"):
+            said = answered(server.http_port, f"GET /healthz HTTP/1.1\r\nHost: {name}\r\n\r\n".encode())
+            self.wants(said[:13], b"HTTP/1.1 " + code + b" ", name)
+        self.stops(server)
+
     def test_other_methods(self):
         for method in "POST", "PUT", "DELETE", "OPTIONS":
             code, fields, body = self.server.get("/", method)
@@ -109,7 +117,9 @@ class Pages(Case):
         self.wants(self.health(), (503, "out 1\n"), "the health with a disk out")
         said = [self.server.sample(f'autoraid_{name}') for name in ('disk_healthy{disk="1"}', 'state{state="out"}')]
         self.wants(said, ["0", "1"], "the metrics of a lost disk")
-        self.wants(self.server.status_json()["health"], {"state": "out", "disk": 1}, "the status of a lost disk")
+        status = self.server.status_json()
+        self.wants(status["health"], {"state": "out", "disk": 1}, "the status of a lost disk")
+        self.wants((status["lost_disks"], status["store"]), (None, None), "neither an array that failed nor a store")
 
     def test_events_of_a_rebuild(self):
         """A disk fails, is replaced and rebuilt; units are made, grown and dropped."""
@@ -123,11 +133,27 @@ class Pages(Case):
         self.stops(self.server, [0, 0, 0, 0])
 
     def test_events_of_two_lost_disks(self):
-        self.server.answers_to("add\nout 0\nout 2\n")
+        self.server.answers_to("add\nout 0\nout 2 force\n")
         self.wants(self.health(), (503, "broken\n"), "the health with two disks out")
         wanted = [("array_failed",), ("disk_failed", 0), ("disk_added", 5)]
         self.wants(self.events()[:3], wanted, "the newest events")
-        self.stops(self.server, [0, 0, 0, 0])
+        self.lost(0, 2)
+        self.stops_failed(self.server, [0, 0, 0, 0])
+
+    def lost(self, *disks):
+        """Looks which disks an array is shown to have lost."""
+        self.wants(self.server.status_json()["lost_disks"], list(disks), "the disks that were lost, as JSON")
+        said = [self.server.sample(f'autoraid_disk_lost{{disk="{disk}"}}') for disk in range(6)]
+        self.wants(said, [str(int(disk in disks)) for disk in range(6)], "the same in metrics")
+
+    def test_a_disk_lost_in_a_rebuild(self):
+        """A disk that is replaced, and not rebuilt yet, is one of the two."""
+        self.server.answers_to("out 3\nadd\nreplace 3\nout 1 force\n")
+        self.lost(1, 3)
+        # (a failed array has lost no other)
+        self.server.answers_to("out 0 force\n")
+        self.lost(1, 3)
+        self.stops_failed(self.server, [0, 0, 0, 0])
 
     def test_a_failure_while_nobody_watches(self):
         """A disk that fails by itself is seen, with its time, while nobody watches."""

@@ -5,6 +5,7 @@ refuses the n-th call, for every n that a run without it makes. Of a script ever
 `busy` or `NoMemory`, or that ends with the fault `no memory`, has to be the one that is wanted; a start that is refused
 prints none. Of tests that go on after any one refusal each has to pass.
 """
+import contextlib
 import itertools
 import os
 import re
@@ -13,7 +14,7 @@ import tempfile
 import threading
 import time
 
-from tests.harness import Case, free_port, program, ran, tests_of, text_of
+from tests.harness import LOGIN, Case, free_port, program, ran, tests_of, text_of
 
 REFUSE = r"""
 #include <errno.h>
@@ -48,8 +49,10 @@ void *realloc(void *former, size_t size) {
 
 # Where memory for a cached block is refused, it goes to the disks at once, which these words show.
 SHOWS_THE_CACHE = ("levels", "flush")
-# How a server may end without serving, once an allocation was refused before it listens.
+# How a server may end without serving, once an allocation was refused before it listens, and what it says of one that
+# was for a connection.
 REFUSALS = ["start fault\n", "no memory\n", "unit 0:0:4 refused M4 NoMemory\n"]
+REFUSED = "[WARN  autoraid] a connection was refused: no memory\n"
 
 
 class Script:
@@ -199,13 +202,12 @@ class Tests(Refused):
 
 
 def knock(port, has_ended):
-    """Connects to a server as soon as it listens, so that its one session ends."""
+    """Logs in to a server once it listens, until it has ended: by its one session."""
     while not has_ended.is_set():
-        try:
-            socket.create_connection(("127.0.0.1", port), timeout=10).close()
-            return
-        except OSError:
-            time.sleep(0.01)
+        with contextlib.suppress(OSError), socket.create_connection(("127.0.0.1", port), timeout=10) as link:
+            link.sendall(LOGIN + b"\0")
+            link.recv(1)
+        time.sleep(0.01)
 
 
 class Servers(Refused):
@@ -228,14 +230,14 @@ class Servers(Refused):
             has_ended.set()
             client.join()
             said, listening = out.splitlines(), [f"listening {port}"]
-            refused = status == 1 and (said == [] and error in REFUSALS or (said, error) == (listening, "no memory\n"))
-            is_right = refused or (status, said, error) == (0, listening + closed, "")
+            refused = status == 1 and said == [] and error in REFUSALS
+            is_right = refused or (status, said) == (0, listening + closed) and error in ("", REFUSED)
             self.holds(is_right, f"with allocation {number} refused, a service or one message", (status, said, error))
             seen.add((bool(said), error))
         for _, has_ended, client in clients:
             has_ended.set()
             client.join()
-        wanted = {(True, ""), (True, "no memory\n"), *((False, refusal) for refusal in REFUSALS)}
+        wanted = {(True, ""), (True, REFUSED), *((False, refusal) for refusal in REFUSALS)}
         self.holds(wanted <= seen, wanted, seen)
 
     def order(self, audit):

@@ -3,7 +3,7 @@ reports."""
 import contextlib
 import socket
 
-from tests.harness import ACCEPTED, Case, Ended, connected, free_port, program, ran
+from tests.harness import ACCEPTED, Case, Ended, answered, connected, free_port, program, ran, rest_of, waited
 
 # The words of the server; what each client, by its host, asks and is answered; how many commands of each host are
 # reported.
@@ -40,6 +40,15 @@ DEFAULTS = (
     (("iscsi",), ("--sessions", "1"), "closed"),
     (("operator", "iscsi"), (), "closed"),
 )
+
+
+def refuses(port):
+    """Whether nothing listens at a port any more."""
+    try:
+        connected(port).close()
+    except OSError:
+        return True
+    return False
 
 
 class Serving(Case):
@@ -99,6 +108,28 @@ class Serving(Case):
                 else:
                     self.stops(server, [1, 0, 0, 0])
 
+    def test_strays_are_no_sessions(self):
+        """Connections that don't log in don't count, nor does a login that is refused."""
+        server = self.serve("--sessions", "2", "0:0:8", doors=())
+        for sent in b"", b"ARAI", b"no login of mine", b"ARAIDHO1\x09":
+            answered(server.port, sent)
+        for number in range(2):
+            host = self.kept(server.log_in_again(0))
+            self.wants((host.greeting, host.is_ready()), (ACCEPTED, True), f"session {number}")
+            host.close()
+        self.ends(server, [2, 0, 0, 0])
+
+    def test_strays_beside_the_last_session(self):
+        """The last session ends those that haven't logged in, and nobody comes after it."""
+        server = self.serve("--sessions", "1", "--login-timeout", "60", "0:0:8", doors=())
+        strays = [self.kept(connected(server.port)) for _ in range(3)]
+        host = self.kept(server.log_in(0))
+        self.wants(waited(lambda: refuses(server.port), True, seconds=5), True, "whether the port is closed")
+        self.wants([rest_of(stray) for stray in strays], [b""] * 3, "what those receive that haven't logged in")
+        self.wants(host.is_ready(), True, "TEST UNIT READY of the last session")
+        host.close()
+        self.ends(server, [1, 0, 0, 0])
+
     def test_a_host_in_use(self):
         """A second session of a host is refused while the first is open."""
         server = self.serve("--sessions", "2", doors=())
@@ -106,6 +137,9 @@ class Serving(Case):
         self.wants(first.greeting, ACCEPTED, "the first login")
         self.wants(server.client(2, "tur 2 0\n"), Ended(1, "", "login refused\n"), "the second session of a host")
         first.close()
+        last = self.kept(server.log_in_again(2))
+        self.wants(last.greeting, ACCEPTED, "the next login, once the first session has ended")
+        last.close()
         self.ends(server, [0, 0, 0, 0])
 
     def test_loopback_alone(self):
@@ -219,8 +253,7 @@ class Connections(Case):
         operator = self.kept(server.operator())
         self.wants(operator.answer_to(b"health\n"), "whole\n", "an operator beside counted sessions")
         host = server.log_in(0)
-        with self.assertRaises(ConnectionRefusedError):
-            connected(server.port).close()
+        self.wants(waited(lambda: refuses(server.port), True, seconds=5), True, "whether the port is closed")
         host.close()
         self.ends(server, [0, 0, 0, 0])
         self.wants(operator.lines.read(), "", "what an operator receives at the end")
@@ -238,5 +271,5 @@ class Connections(Case):
     def test_64_connections(self):
         self.stops(self.largest_crowd(), [1, 0, 0, 0])
 
-    def test_64_sessions(self):
-        self.ends(self.largest_crowd("--sessions", "64"), [1, 0, 0, 0])
+    def test_64_connections_and_one_session(self):
+        self.ends(self.largest_crowd("--sessions", "1"), [1, 0, 0, 0])

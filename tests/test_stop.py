@@ -1,8 +1,10 @@
-"""An operator's `stop`: beside hosts that are busy, that read slowly, that watch; with an output that can't be written;
-and signals to the start script, which passes them on as a `stop`."""
+"""An operator's `stop`: beside hosts that are busy, that read slowly, that watch; beside crowds at a door, and other
+operators; with an output that can't be written; and signals to the start script, which passes them on as a `stop`."""
 import contextlib
 import os
+import resource
 import signal
+import socket
 import threading
 import time
 
@@ -73,6 +75,74 @@ class Stop(Case):
         os.close(read_end)
         self.wants(server.answers_to("stop\n"), "fault: write fault\n", "a stop")
         self.wants(server.ended(), Ended(1, "", "write fault\n"), "the server")
+
+
+class Crowds(Case):
+    """Connections that say nothing: more than a door has threads, and more than wait for one."""
+
+    # The descriptors that a crowd takes.
+    MOST = 1100
+
+    def setUp(self):
+        super().setUp()
+        soft, hard = resource.getrlimit(resource.RLIMIT_NOFILE)
+        if soft < self.MOST:
+            resource.setrlimit(resource.RLIMIT_NOFILE, (self.MOST, hard))
+
+    def comes(self, port):
+        """A connection that is on its way. (One to a queue that is full is tried again, until there is room.)"""
+        link = self.kept(socket.socket())
+        link.setblocking(False)
+        link.connect_ex(("127.0.0.1", port))
+
+    def ends_beside(self, door, count):
+        """Looks that an operator who is in ends the service within six seconds, whatever is at this door."""
+        server = self.serve("0:0:8", doors=("operator", "http", "iscsi"))
+        operator = self.kept(server.operator())
+        self.wants(operator.asks("health"), ["whole"], "an operator before the crowd")
+        for _ in range(count):
+            self.comes(server.doors.get(door, server.port))
+        time.sleep(1)
+        begun = time.monotonic()
+        self.wants(operator.answer_to(b"stop\n"), "stopped\n", f"a stop beside {count} at the door {door}")
+        self.ends(server, [0, 0, 0, 0], error=None, seconds=20)
+        self.holds(time.monotonic() - begun < 6, "the end within six seconds", f"{time.monotonic() - begun:.1f} s")
+
+    def test_200_hosts(self):
+        self.ends_beside("hosts", 200)
+
+    def test_1000_hosts(self):
+        self.ends_beside("hosts", 1000)
+
+    def test_200_initiators(self):
+        self.ends_beside("iscsi", 200)
+
+    def test_1000_initiators(self):
+        self.ends_beside("iscsi", 1000)
+
+    def test_200_operators(self):
+        self.ends_beside("operator", 200)
+
+    def test_1000_operators(self):
+        self.ends_beside("operator", 1000)
+
+    def test_200_watchers(self):
+        self.ends_beside("http", 200)
+
+    def test_1000_watchers(self):
+        self.ends_beside("http", 1000)
+
+    def test_four_stops(self):
+        """All four operators say it at once, and each is answered."""
+        for _ in range(5):
+            server = self.serve("0:0:8")
+            operators = [self.kept(server.operator()) for _ in range(4)]
+            for operator in operators:
+                self.wants(operator.asks("health"), ["whole"], "each of four operators")
+            for operator in operators:
+                operator.link.sendall(b"stop\n")
+            self.wants([operator.lines.read() for operator in operators], ["stopped\n"] * 4, "four stops at once")
+            self.ends(server, [0, 0, 0, 0])
 
 
 class Started(Server):

@@ -1,17 +1,17 @@
 """Contents that last: a store is created, filled, stopped, killed, filled up, damaged, and taken up again."""
-import contextlib
+import fcntl
 import os
 import random
 import re
 import resource
 import shutil
-import signal
 import struct
+import subprocess
 import tempfile
-import threading
 import time
 
-from tests.harness import CHECK, GOOD, PATIENCE, Case, Host, Server, connected, program, ran
+from tests.harness import CHECK, GOOD, PATIENCE, Case, Server, connected, program, ran, waited
+from tests.test_metrics import SAMPLE
 
 SECTOR = 512
 # How many stops are cut.
@@ -27,32 +27,6 @@ def forced_write(lba, count):
 def sector_of(number):
     """The contents by which a sector says which write it has; that of no write is zeros."""
     return struct.pack(">Q", number) * (SECTOR // 8)
-
-
-class Writer(threading.Thread):
-    """A host that writes single sectors, numbered from `first` on, until its connection breaks."""
-
-    def __init__(self, port, number, sectors, written, forced):
-        super().__init__(daemon=True)
-        self.port, self.number, self.sectors, self.written, self.forced = port, number, sectors, written, forced
-        # The number of the last write that lasts by its answer, and of the last that was sent.
-        self.lasting, self.random = len(written), random.Random(number * 1000 + len(written))
-
-    def run(self):
-        with contextlib.suppress(OSError):
-            host = Host(self.port, self.number)
-            while self.write(host):
-                pass
-
-    def write(self, host):
-        lba, number = self.random.randrange(self.sectors), len(self.written) + 1
-        is_forced = self.random.random() < self.forced
-        self.written.append(lba)
-        block = forced_write(lba, 1) if is_forced else struct.pack(">BBIBHB", 0x2A, 0, lba, 0, 1, 0)
-        reply = host.asks(block, sector_of(number))
-        if reply and reply.status == GOOD and is_forced:
-            self.lasting = number
-        return reply and reply.status == GOOD
 
 
 class Stored(Case):
@@ -80,7 +54,7 @@ class Stored(Case):
         return self.kept(server.log_in(number))
 
     def checks(self):
-        return ran(program("autoraid"), "check", "--store", self.store)
+        return ran(program("autoraid"), "check", "--store", self.store, seconds=180)
 
     def refused(self, wanted, *words, status=1):
         """Looks that a server of the store doesn't start, and why."""
@@ -88,9 +62,92 @@ class Stored(Case):
         ended = ran(*line)
         self.wants((ended.status, ended.error.splitlines()[-1]), (status, wanted), "a start that is refused")
 
+    def stamps(self):
+        """What shows that a file of the store was written to."""
+        return [os.stat(os.path.join(self.store, name)).st_mtime_ns for name in FILES]
+
     def bytes_of(self, name):
         with open(os.path.join(self.store, name), "rb") as file:
             return file.read()
+
+
+class Created(Stored):
+    """A creation that was killed is repeated."""
+
+    def begins(self, when):
+        """A creation over what is there makes a store that takes a WRITE."""
+        self.refused(f"store {self.store}: no store is there")
+        self.creates()
+        server = self.takes_up("0:0:8")
+        self.wants(self.host(server, 0).asks(forced_write(3, 1), sector_of(5)).status, GOOD, f"a WRITE {when}")
+        server.kill()
+        server = self.takes_up()
+        self.wants(self.host(server, 0).reads(3, 1).data, sector_of(5), f"what was written {when}")
+        server.kill()
+
+    def leaves(self, **files):
+        """Makes these the files of the folder."""
+        shutil.rmtree(self.store, True)
+        os.mkdir(self.store)
+        for name, contents in files.items():
+            with open(os.path.join(self.store, name.replace("_", ".")), "xb") as file:
+                file.write(contents)
+
+    def test_over_each_step(self):
+        """The files are as after each step of a creation, whose logs are longer than those that follow."""
+        self.creates("--name", "n" * 64)
+        log = self.bytes_of("first.log")
+        self.wants((self.bytes_of("selector"), self.bytes_of("second.log")), (b"\0", log), "the files of a creation")
+        cuts = [log[:length] for length in (1, 8, len(log) // 2, len(log) - 1, len(log))]
+        self.leaves()
+        self.begins("in an empty folder")
+        steps = [{}, {"first_log": b""}, {"first_log": b"", "second_log": b""}]
+        steps += [{"first_log": cut, "second_log": b""} for cut in cuts]
+        steps += [{"first_log": log, "second_log": cut} for cut in cuts]
+        for step in steps:
+            self.leaves(selector=b"", **step)
+            self.begins({name: len(contents) for name, contents in step.items()})
+        # (the last step is the selector's byte)
+        self.leaves(selector=b"\0", first_log=log, second_log=log)
+        before = self.stamps()
+        ended = ran(program("autoraid"), "create", "--store", self.store)
+        self.wants((ended.status, ended.error), (1, f"store {self.store}: a store is there\n"), "a second creation")
+        self.wants(self.stamps(), before, "what a second creation has written")
+        self.wants(self.checks().out, "ok: 0 units, 0 records, generation 1\n", "a check of the first")
+
+    def test_over_kills(self):
+        """A creation that is killed before each of its calls leaves no store or the whole one."""
+        trace = ["strace", "-qq", "-o", "/dev/null"]
+        if not shutil.which("strace") or ran(*trace, "true").status:
+            return
+        line, kills = [program("autoraid"), "create", "--store", self.store], [0, 0]
+        for call in "mkdir", "openat", "flock", "ftruncate", "pwrite64", "fsync", "fdatasync":
+            for number in range(1, 100):
+                kill = f"inject={call}:signal=SIGKILL:when={number}"
+                shutil.rmtree(self.store, True)
+                if ran(*trace, "-e", f"trace={call}", "-e", kill, *line).status == 0:
+                    break
+                said = self.checks()
+                is_there = said.status == 0
+                kills[is_there] += 1
+                if not is_there:
+                    self.wants(said.error, f"store {self.store}: no store is there\n", f"at {call} {number}")
+                    self.creates()
+                    said = self.checks()
+                self.wants(said, (0, "ok: 0 units, 0 records, generation 1\n", ""), f"a store after {call} {number}")
+            self.holds(number < 100, f"an end of the calls of {call}", number)
+        self.holds(kills[False] > 20, "kills that left no store", kills)
+
+    def test_files_in_use(self):
+        """Files that a creation has locked are not written."""
+        self.leaves(selector=b"", first_log=b"something", second_log=b"")
+        with open(os.path.join(self.store, "selector"), "rb") as selector:
+            fcntl.flock(selector, fcntl.LOCK_EX)
+            ended = ran(program("autoraid"), "create", "--store", self.store)
+        cause = f"store {self.store}: in use by process {os.getpid()}\n"
+        self.wants((ended.status, ended.error), (1, cause), "a creation beside another")
+        self.wants([self.bytes_of(name) for name in FILES], [b"", b"something", b""], "the files of the other")
+        self.begins("once the other has ended")
 
 
 class Lasting(Stored):
@@ -112,48 +169,6 @@ class Lasting(Stored):
         self.wants(zero.reads(0, 64).data, wanted, "the contents after a stop")
         self.wants(one.reads(38, 2, lun=3).data, sector_of(0) + sector_of(77), "another unit's contents")
         self.stops(server)
-
-    def test_over_kills(self):
-        """After each kill a unit has a prefix of its host's writes, with all that were to last."""
-        self.creates()
-        sectors, written = 96, [[], [], [], []]
-        units = [f"{host}:0:{sectors}" for host in range(4)]
-        chance = random.Random(11)
-        for round_ in range(25):
-            server = self.takes_up(*units)
-            writers = [Writer(server.port, host, sectors, written[host], 0.3) for host in range(4)]
-            for writer in writers:
-                writer.start()
-            time.sleep(chance.random() * 0.6)
-            os.kill(server.pid, signal.SIGKILL)
-            server.ended()
-            for writer in writers:
-                writer.join(PATIENCE)
-            self.looks(writers, sectors, f"round {round_}")
-
-    def looks(self, writers, sectors, when):
-        """Compares each unit with a prefix of its host's writes, and goes on from that prefix."""
-        server = self.takes_up()
-        for writer in writers:
-            host = self.host(server, writer.number)
-            data = host.reads(0, sectors).data
-            host.close()
-            found = [struct.unpack(">Q", data[at : at + 8])[0] for at in range(0, len(data), SECTOR)]
-            last = max(found)
-            wanted = [0] * sectors
-            for number, lba in enumerate(writer.written[:last], 1):
-                wanted[lba] = number
-            self.wants(found, wanted, f"{when}: the contents of host {writer.number} are a prefix of its writes")
-            whole = all(data[at : at + SECTOR] == sector_of(found[at // SECTOR]) for at in range(0, len(data), SECTOR))
-            self.holds(whole, f"{when}: no sector is torn", found)
-            self.holds(last >= writer.lasting, f"{when}: write {writer.lasting} of host {writer.number} lasts", last)
-            # (what was sent after the prefix never was)
-            del writer.written[last:]
-        server.kill()
-
-    def stamps(self):
-        """What shows that a file of the store was written to."""
-        return [os.stat(os.path.join(self.store, name)).st_mtime_ns for name in FILES]
 
     def test_kills_in_a_stop(self):
         """A kill while a stop replaces the log leaves the old one or the new one: all that was acknowledged."""
@@ -207,18 +222,21 @@ class Lasting(Stored):
         self.wants(self.host(self.takes_up(), 0).reads(3, 1).data, sector_of(9), "a WRITE of two seconds ago")
 
     def test_flushed_by_an_initiator(self):
-        """SYNCHRONIZE CACHE over iSCSI."""
+        """SYNCHRONIZE CACHE over iSCSI, and a stop by START STOP UNIT."""
         self.creates()
-        server = self.takes_up("0:0:64", "--cache", "16", doors=("operator", "iscsi"))
-        initiator = self.kept(server.initiator(0))
-        initiator.asks(bytes(6))
-        block = struct.pack(">BBIBHB", 0x2A, 0, 5, 0, 1, 0)
-        _, said = initiator.asks(block, flags=0xA1, expected=SECTOR, data=sector_of(5))
-        self.wants(said.status, GOOD, "a WRITE over iSCSI")
-        _, said = initiator.asks(struct.pack(">BBIBHB", 0x35, 0, 0, 0, 0, 0))
-        self.wants(said.status, GOOD, "SYNCHRONIZE CACHE")
-        server.kill()
-        self.wants(self.host(self.takes_up(), 0).reads(5, 1).data, sector_of(5), "what was flushed")
+        for number, flush in (5, struct.pack(">BBIBHB", 0x35, 0, 0, 0, 0, 0)), (6, bytes([0x1B, 0, 0, 0, 0, 0])):
+            server = self.takes_up("0:0:64", "--cache", "16", "--commit-every", "3600", doors=("operator", "iscsi"))
+            initiator = self.kept(server.initiator(0))
+            initiator.asks(bytes(6))
+            block = struct.pack(">BBIBHB", 0x2A, 0, number, 0, 1, 0)
+            _, said = initiator.asks(block, flags=0xA1, expected=SECTOR, data=sector_of(number))
+            self.wants(said.status, GOOD, "a WRITE over iSCSI")
+            _, said = initiator.asks(flush)
+            self.wants(said.status, GOOD, "a flush")
+            server.kill()
+            server = self.takes_up()
+            self.wants(self.host(server, 0).reads(number, 1).data, sector_of(number), "what was flushed")
+            server.kill()
 
     def test_orders_of_operators(self):
         """Units that an operator made, extended and deleted stay so, and a pending UNIT ATTENTION."""
@@ -306,12 +324,34 @@ class Refused(Stored):
         self.refused(says + "some of its files are missing")
 
     def test_two_servers(self):
+        """Whoever comes second is told the number of the first, also that of one after a kill."""
         self.creates()
+        before = sorted(os.listdir(self.store))
+        for _ in range(2):
+            server = self.takes_up("0:0:8")
+            cause = f"store {self.store}: in use by process {server.pid}"
+            self.refused(cause)
+            for words in ["check"], ["export", "0:0"], ["import", "0:0"]:
+                ended = ran(program("autoraid"), words[0], "--store", self.store, *words[1:])
+                self.wants(ended, (1, "", f"{cause}\n"), f"`{words[0]}` of a store in use")
+            ended = ran(program("autoraid"), "create", "--store", self.store)
+            self.wants((ended.status, ended.error), (1, f"store {self.store}: a store is there\n"), "a creation")
+            server.kill()
         server = self.takes_up("0:0:8")
-        self.refused(f"store {self.store}: another program has it open")
-        self.wants(self.checks().status, 1, "a check of a store in use")
         self.stops(server)
         self.wants(self.checks().status, 0, "a check afterwards")
+        self.wants(sorted(os.listdir(self.store)), before, "the files of the folder")
+
+    def test_a_server_beside_an_import(self):
+        self.creates()
+        line = [program("autoraid"), "import", "--store", self.store, "0:0"]
+        running = self.starts(*line, stdin=subprocess.PIPE)
+        wanted = f"store {self.store}: in use by process {running.pid}\n"
+        self.wants(waited(lambda: self.checks().error, wanted), wanted, "a check beside an import")
+        running.process.stdin.write("s" * SECTOR)
+        running.process.stdin.close()
+        self.wants(running.ended(), (0, "", ""), "the import")
+        self.wants(self.checks().out.splitlines()[0], "unit 0 0 1", "the unit")
 
     def test_a_unit_of_another_length(self):
         self.creates()
@@ -345,7 +385,251 @@ class Refused(Stored):
         self.refused(f"store {self.store}: its files hold no log")
 
 
+class Images(Stored):
+    def moves(self, subcommand, *words, image=b""):
+        """What `export` or `import` has printed: status, bytes, and text on standard error."""
+        line = [program("autoraid"), subcommand, "--store", self.store, *words]
+        ended = subprocess.run(line, input=image, capture_output=True, timeout=PATIENCE, check=False)
+        return ended.returncode, ended.stdout, ended.stderr.decode()
+
+    def test_there_and_back(self):
+        """An image becomes a unit, which a host reads and writes, and which is an image again."""
+        self.creates("--geometry", "paper", "--extents", "8")
+        image = random.Random(5).randbytes((3 * 2048 + 5) * SECTOR)
+        self.wants(self.moves("import", "2:5", image=image), (0, b"", ""), "an image of 3 MiB and 5 sectors")
+        self.wants(self.checks().out.splitlines()[0], "unit 2 5 6149", "the unit that was created")
+        before = self.stamps()
+        self.holds(self.moves("export", "2:5") == (0, image, ""), "the image of the unit", "another")
+        self.wants(self.stamps(), before, "what an export has written to the store")
+        server = self.takes_up()
+        host = self.host(server, 2)
+        read = host.reads(6000, 149, lun=5).data
+        self.holds(read == image[6000 * SECTOR :], "the image that a host reads", "another")
+        self.wants(host.writes(7, sector_of(9), lun=5).status, GOOD, "a WRITE")
+        self.stops(server)
+        wanted = image[: 7 * SECTOR] + sector_of(9) + image[8 * SECTOR :]
+        self.holds(self.moves("export", "2:5")[1] == wanted, "the image after a WRITE", "another")
+        self.wants(self.moves("import", "2:5", image=sector_of(3)), (0, b"", ""), "an image of one sector")
+        self.holds(self.moves("export", "2:5")[1] == sector_of(3) + wanted[SECTOR:], "the rest stays", "it changed")
+
+    def test_a_unit_that_was_resized(self):
+        """What the unit has to report to its host first is no obstacle."""
+        self.creates()
+        server = self.takes_up("0:0:4")
+        self.wants(server.answers_to("grow 0 0 8\n"), "ok\n", "grow")
+        self.stops(server)
+        self.wants(self.moves("export", "0:0"), (0, bytes(8 * SECTOR), ""), "the image of a resized unit")
+        image = sector_of(1) * 8
+        self.wants(self.moves("import", "0:0", image=image)[0], 0, "an image for it")
+        self.wants(self.moves("export", "0:0")[1], image, "its image")
+
+    def test_refused(self):
+        """A refused image changes nothing, and one line says why."""
+        self.creates()
+        self.wants(self.moves("import", "0:0", image=sector_of(1) * 4)[0], 0, "an image")
+        fault = f"store {self.store}: "
+        for words, image, cause in (
+            (("export", "0:1"), b"", "the unit isn't there"),
+            (("import", "0:0"), bytes(5 * SECTOR), "the image has more than 4 sectors"),
+            (("import", "0:0"), bytes(SECTOR + 1), "the image ends in a part of a sector"),
+            (("import", "0:1"), b"", "the unit can't be created: M2 Size"),
+            # (three rows of two blocks in each of 63 groups, without the two blocks of the unit that is there)
+            (("import", "0:1"), bytes(4096 * SECTOR), "the unit can't be created: M3 NoRoom 376"),
+        ):
+            with self.subTest(words=words, cause=cause):
+                self.wants(self.moves(*words, image=image), (1, b"", f"{fault}{cause}\n"), "what it says")
+        self.wants(self.moves("export", "0:0")[1], sector_of(1) * 4, "the unit after refusals")
+        server = self.takes_up()
+        cause = f"in use by process {server.pid}"
+        self.wants(self.moves("export", "0:0")[2], f"{fault}{cause}\n", "beside a server")
+        self.stops(server)
+
+    def test_kills(self):
+        """A kill while an image is written leaves a front of it, and after the front what was there."""
+        self.creates("--geometry", "paper", "--extents", "64")
+        old, new = bytes(range(256)) * 2, bytes(reversed(range(256))) * 2
+        count = 18 * 2048
+        self.wants(self.moves("import", "0:0", image=old * count)[0], 0, "an image")
+        for round_ in range(4):
+            line = [program("autoraid"), "import", "--store", self.store, "0:0"]
+            with subprocess.Popen(line, stdin=subprocess.PIPE, stderr=subprocess.DEVNULL) as running:
+                running.stdin.write(new * count)
+                running.stdin.close()
+                time.sleep(0.05 * round_)
+                running.kill()
+            image = self.moves("export", "0:0")[1]
+            front = image.count(new)
+            self.holds(image == new * front + old * (count - front), "a front of the image", front)
+            self.wants(self.moves("import", "0:0", image=old * count)[0], 0, "the old image")
+
+
+class Shown(Stored):
+    """What operators and HTTP clients are shown of a store."""
+
+    STATES = ("sound", "failing", "given_up")
+
+    def watched(self, *words):
+        """A server of a store, whose files can't grow beyond a limit that a case sets."""
+        return self.takes_up(*words, doors=("operator", "http"), before=("env", "--ignore-signal=XFSZ"))
+
+    def limits(self, server, most):
+        resource.prlimit(server.pid, resource.RLIMIT_FSIZE, (most, resource.RLIM_INFINITY))
+
+    def shows(self, server, state, *lines):
+        """Looks at a store's state wherever it is shown."""
+        self.wants(self.kept(server.operator()).asks("health"), ["whole", *lines], f"health with a store {state}")
+        self.wants(server.status_json()["store"]["state"], state, "the state as JSON")
+        said = [server.sample(f'autoraid_store_state{{state="{name}"}}') for name in self.STATES]
+        self.wants(said, [str(int(name == state)) for name in self.STATES], "the state in metrics")
+        self.wants(server.get("/healthz/whole")[::2], (200, "whole\n"), "the health of the disks")
+
+    def numbers(self, server):
+        return [int(server.sample(f"autoraid_store_{name}")) for name in ("log_bytes", "commits_total")]
+
+    def test_numbers(self):
+        """Each WRITE that waits for its commit is one, and makes the log longer."""
+        self.creates()
+        server = self.watched("0:0:64", "--commit-every", "3600")
+        host, before = self.host(server, 0), self.numbers(server)
+        for lba in range(3):
+            host.asks(forced_write(lba, 1), sector_of(lba))
+        log_bytes, commits = self.numbers(server)
+        self.wants(commits, before[1] + 3, "commits")
+        self.holds(log_bytes >= before[0] + 3 * SECTOR, f"a log longer than {before[0]} by what was written", log_bytes)
+        store = server.status_json()["store"]
+        self.wants(list(store), ["state", "log_bytes", "waiting_bytes", "commits", "checkpoints"], "a store as JSON")
+        wanted = [log_bytes, 0, commits, int(server.sample("autoraid_store_checkpoints_total"))]
+        self.wants(list(store.values())[1:], wanted, "the same as JSON")
+        host.writes(7, sector_of(7))
+        waiting = server.status_json()["store"]["waiting_bytes"]
+        self.holds(waiting >= SECTOR, "a record that waits", waiting)
+        text = server.get("/metrics")[2]
+        self.wants([line for line in text.splitlines() if not SAMPLE.fullmatch(line)], [], "lines of another form")
+        self.shows(server, "sound")
+
+    def test_a_store_that_fails(self):
+        """Without room commits fail, and with room they go on."""
+        self.creates()
+        server = self.watched("0:0:64")
+        host = self.host(server, 0)
+        self.shows(server, "sound")
+        self.limits(server, 4096)
+        for lba in range(16):
+            reply = host.asks(forced_write(lba, 1), sector_of(lba))
+        self.wants((reply.status, reply.sense[2]), (CHECK, 4), "a WRITE without room")
+        self.shows(server, "failing", "store failing")
+        self.wants(server.answers_to("room\nhealth\n").splitlines()[1:], ["whole", "store failing"], "two questions")
+        self.limits(server, resource.RLIM_INFINITY)
+        self.wants(host.asks(forced_write(0, 1), sector_of(5)).status, GOOD, "a WRITE with room")
+        self.shows(server, "sound")
+        host.close()
+        self.stops(server, error=None)
+
+
 class Full(Stored):
+    SECTORS, COUNT = 1024, 64
+
+    def mounts(self, *words):
+        """Mounts a small file system for the store, and answers whether the system lets it."""
+        disk = os.path.join(self.room, "disk")
+        os.mkdir(disk)
+        if os.geteuid() or ran("mount", *words, disk).status:
+            return False
+        self.addCleanup(ran, "umount", "-l", disk)
+        self.store, self.ballast = os.path.join(disk, "store"), os.path.join(disk, "ballast")
+        return True
+
+    def leaves_room(self, count):
+        """Fills the disk but for so many bytes."""
+        with open(self.ballast, "xb") as file:
+            found = os.statvfs(self.ballast)
+            os.posix_fallocate(file.fileno(), 0, found.f_bfree * found.f_frsize - count)
+
+    def writes(self, host, written):
+        """The answer to a WRITE that is to last."""
+        lba = len(written) * self.COUNT % self.SECTORS
+        written.append(lba)
+        return host.asks(forced_write(lba, self.COUNT), sector_of(len(written)) * self.COUNT)
+
+    def writes_until_full(self, host, written, when):
+        """Writes until there is no room, and returns the number of the last WRITE that lasts."""
+        before = len(written)
+        while (reply := self.writes(host, written)).status == GOOD and len(written) < before + 100:
+            pass
+        said = reply.status, reply.sense[2:3], reply.sense[12:14]
+        self.wants(said, (CHECK, b"\4", b"\x44\0"), f"a WRITE without room {when}")
+        self.holds(len(written) > before + 2, f"some WRITEs before the disk is full {when}", len(written) - before)
+        reply = host.reads(written[-2], self.COUNT)
+        wanted = GOOD, sector_of(len(written) - 1) * self.COUNT
+        self.wants((reply.status, reply.data), wanted, f"a READ without room {when}")
+        return len(written) - 1
+
+    def looks(self, server, written, lasting, when):
+        """Compares the unit with a front of what was written, which has what was to last. Returns a host."""
+        host = self.host(server, 0)
+        data = host.reads(0, self.SECTORS).data
+        last = max(struct.unpack(">Q", data[at : at + 8])[0] for at in range(0, len(data), SECTOR))
+        wanted = [0] * self.SECTORS
+        for number, lba in enumerate(written[:last], 1):
+            wanted[lba : lba + self.COUNT] = [number] * self.COUNT
+        self.holds(data == b"".join(map(sector_of, wanted)), f"{when}: the first {last} WRITEs", "others")
+        self.holds(last >= lasting, f"{when}: WRITE {lasting} lasts", last)
+        del written[last:]
+        return host
+
+    def fills(self):
+        """A disk is full, has room again, is full at a kill, at a stop, and for the new log of a stop."""
+        self.creates("--extents", "128")
+        written, unit = [], f"0:0:{self.SECTORS}"
+        server = self.takes_up(unit)
+        host = self.host(server, 0)
+        self.leaves_room(512 << 10)
+        self.writes_until_full(host, written, "at first")
+        os.remove(self.ballast)
+        self.wants(self.writes(host, written).status, GOOD, "a WRITE once there is room")
+        self.leaves_room(512 << 10)
+        lasting = self.writes_until_full(host, written, "again")
+        server.kill()
+        self.holds("the store can't be written: " in server.ended().error, "an ERROR line", "none")
+        os.remove(self.ballast)
+        server = self.takes_up(unit)
+        host = self.looks(server, written, lasting, "after a kill")
+        self.wants(self.writes(host, written).status, GOOD, "a WRITE after a kill")
+        self.leaves_room(512 << 10)
+        lasting = self.writes_until_full(host, written, "at a stop")
+        self.wants(server.answers_to("stop\n"), "fault: store failed\n", "a stop without room")
+        self.wants(server.ended().status, 4, "the status after a stop without room")
+        os.remove(self.ballast)
+        before, server = self.generation(), self.takes_up(unit)
+        host = self.looks(server, written, lasting, "after a stop")
+        self.wants(self.writes(host, written).status, GOOD, "a WRITE after a stop")
+        self.leaves_room(384 << 10)
+        self.wants(server.answers_to("stop\n"), "stopped\n", "a stop without room for a new log")
+        ended = self.ends(server, error=None)
+        os.remove(self.ballast)
+        is_said = f"[WARN  autoraid] store {self.store}: " in ended.error
+        self.wants(is_said, self.generation() == before, "whether a line says that the old log stays")
+        before, server = self.generation(), self.takes_up(unit)
+        self.looks(server, written, len(written), "after a stop without a new log")
+        self.stops(server)
+        self.holds(self.generation() > before, f"a generation after {before}", self.generation())
+
+    def generation(self):
+        return int(self.checks().out.split()[-1])
+
+    def test_a_small_memory(self):
+        if self.mounts("-t", "tmpfs", "-o", "size=8m,mode=700", "none"):
+            self.fills()
+
+    def test_a_small_disk(self):
+        image = os.path.join(self.room, "image")
+        with open(image, "xb") as file:
+            file.truncate(12 << 20)
+        if not shutil.which("mkfs.ext4") or ran("mkfs.ext4", "-q", "-m", "0", image).status:
+            return
+        if self.mounts("-o", "loop", image):
+            self.fills()
+
     def test_a_full_disk(self):
         """No WRITE is acknowledged that doesn't last, reads go on, and a start with room goes on."""
         self.creates()

@@ -2,6 +2,7 @@
 import contextlib
 import socket
 import struct
+import threading
 import time
 
 from tests.harness import ACCEPTED, LOGIN, Case, Initiator, connected, rest_of
@@ -82,6 +83,59 @@ class Timeouts(Case):
         self.passes(begun, 1, 5, "a slow login ends")
         self.wants(quick.ping().opcode, 0x20, "the answer to a NOP-Out of an initiator that is logged in")
         quick.close()
+        self.stops(server, [0, 0, 0, 0])
+
+    def test_discovery(self):
+        """A session for discovery ends after 10 s, whether it is idle or asks for answers."""
+        server, begun = self.serve("--login-timeout", "5", doors=("operator", "iscsi")), time.monotonic()
+        idle, busy = (self.kept(Initiator(server.iscsi_port)) for _ in range(2))
+        for initiator in idle, busy:
+            said = initiator.log_in("InitiatorName=iqn.2026-11.example:host", "SessionType=Discovery")
+            self.wants((said.opcode, said.login_status), (0x23, b"\0\0"), "a login for discovery")
+        with contextlib.suppress(OSError):
+            while busy.ping() and time.monotonic() - begun < 30:
+                time.sleep(0.5)
+        self.passes(begun, 9, 14, "a session that sends NOP-Outs ends")
+        self.wants(rest_of(idle.link), b"", "what an idle session receives")
+        self.passes(begun, 9, 15, "an idle session ends")
+        self.stops(server, [0, 0, 0, 0])
+
+    def test_first_line(self):
+        """An operator's first line has to come within 30 s, and the next may be later."""
+        server, begun = self.serve(), time.monotonic()
+        silent, slow, heard = (self.kept(server.operator()) for _ in range(3))
+        self.wants(heard.asks("health"), ["whole"], "an operator at first")
+        slow.link.sendall(b"health")
+        self.wants(rest_of(silent.link), b"", "what a silent operator receives")
+        self.passes(begun, 29, 35, "a silent operator is disconnected")
+        self.wants(rest_of(slow.link), b"", "what an operator without a whole line receives")
+        self.passes(begun, 29, 36, "and so is one without a whole line")
+        self.wants(heard.asks("health"), ["whole"], "an operator half a minute later")
+        self.stops(server, [0, 0, 0, 0])
+
+    def test_slow_heads(self):
+        """Clients that send the head of a request a byte at a time keep a health check waiting for some seconds."""
+        server, is_over = self.serve(doors=("operator", "http")), threading.Event()
+
+        def asks_slowly():
+            with connected(server.http_port) as link, contextlib.suppress(OSError):
+                for byte in b"GET /healthz HTTP/1.1\r\nHost: localhost\r\nX: " + b"x" * 1000:
+                    if is_over.wait(0.3):
+                        return
+                    link.sendall(bytes([byte]))
+
+        clients = [threading.Thread(target=asks_slowly) for _ in range(24)]
+        for client in clients:
+            client.start()
+        time.sleep(0.3)
+        begun = time.monotonic()
+        status = server.get("/healthz")[0]
+        passed = time.monotonic() - begun
+        is_over.set()
+        for client in clients:
+            client.join()
+        self.wants(status, 200, "a health check beside slow clients")
+        self.holds(passed < 12, "it is answered within 12 s", f"{passed:.1f} s")
         self.stops(server, [0, 0, 0, 0])
 
     def test_half_a_login_that_ends(self):
