@@ -2,7 +2,7 @@
 _autoraid() {
     local word=${COMP_WORDS[COMP_CWORD]} previous=${COMP_WORDS[COMP_CWORD-1]} words
     local made="--geometry --disks --extents" stored="--store --sync --commit-every"
-    local served="--port --sessions --operator --http --iscsi --login-timeout --idle-timeout --audit --log"
+    local served="--port --sessions --operator --http --http-host --iscsi --login-timeout --idle-timeout --audit --log"
     case $previous in
         --geometry) words="small paper" ;;
         --audit) words="full off" ;;
@@ -13,9 +13,9 @@ _autoraid() {
             case ${COMP_WORDS[1]} in
                 run) words="$made --cache --picture" ;;
                 create) words="--store --name $made" ;;
-                check) words="--store" ;;
+                check | export | import) words="--store" ;;
                 serve) words="$made --cache $served $stored" ;;
-                *) words="run create check serve" ;;
+                *) words="run create check export import serve" ;;
             esac ;;
     esac
     COMPREPLY=($(compgen -W "$words" -- "$word"))
