@@ -55,6 +55,14 @@ enum Failure {
     Final,
 }
 
+/// A commit is put off by this part of what the last one took, in microseconds at most, and not at all where that is
+/// less than a thread takes to sleep and be woken.
+const PAUSE_PART: u64 = 16;
+
+const MOST_PAUSE: u64 = 1_000;
+
+const LEAST_PAUSE: u64 = 100;
+
 /// The most pieces of a checkpoint in a row.
 const MOST_PIECES: u32 = 64;
 
@@ -79,6 +87,8 @@ pub struct DurableArray<'a, D: Disk, L: Ledger, M: Media, R> {
     policy: CommitPolicy,
     // When a commit was made last.
     committed: Option<Instant>,
+    // Microseconds for which the next commit is put off, so that hosts share it.
+    pause: u64,
     // How the last commit failed, if it did, which was logged then.
     failure: Option<Failure>,
     // The length of the log at which a checkpoint begins.
@@ -135,6 +145,7 @@ impl<'a, D: Disk, L: Ledger, M: Media, R> DurableArray<'a, D, L, M, R> {
             head,
             policy,
             committed: None,
+            pause: 0,
             failure: None,
             longest,
             turns: 0,
@@ -175,6 +186,16 @@ impl<'a, D: Disk, L: Ledger, M: Media, R> DurableArray<'a, D, L, M, R> {
     /// Whether a commit has failed and none has succeeded since.
     pub fn has_failed(&self) -> bool {
         self.failure.is_some() || self.store.is_given_up()
+    }
+
+    /// Whether the answer to this command waits for a commit: GOOD to a WRITE that has to last by then.
+    pub fn awaits_commit(&self, cdb: &[u8; 16], reply: &Reply) -> bool {
+        is_acknowledged(cdb, reply) && (is_forced(cdb) || self.policy.always)
+    }
+
+    /// Returns for how many microseconds a commit is put off, so that others share it: a small part of what it takes.
+    pub fn commit_pause(&self) -> u64 {
+        self.pause
     }
 
     /// Returns how the store is.
@@ -306,8 +327,12 @@ impl<'a, D: Disk, L: Ledger, M: Media, R: Clock + Log> DurableArray<'a, D, L, M,
         ensures committed { result ≡ true → Lasts M.may_leave M.is_clean self.new.store self.new.kept.history }
     {
         let _kept = self.counted.array();
+        let (is_waiting, began) = (self.store.is_waiting(), Instant::now(self.rt).ok());
         let done = self.store.commit(self.alloc);
         self.committed = Instant::now(self.rt).ok();
+        if is_waiting {
+            self.pause = pause_after(self.rt, began);
+        }
         match done {
             Ok(()) => {
                 self.failure = None;
@@ -442,6 +467,18 @@ fn log_change<R: Log>(rt: &R, before: Option<Failure>, is_final: bool, cause: Lo
         error!(rt; "the store can't be written: {cause:?}; no WRITE is acknowledged until it can");
     }
     Failure::ForNow
+}
+
+// The microseconds for which a commit is put off after one that began then.
+fn pause_after<R: Clock>(rt: &R, began: Option<Instant>) -> u64 {
+    let Some(since) = began else {
+        return 0;
+    };
+    let Ok(elapsed) = since.elapsed(rt) else {
+        return 0;
+    };
+    let pause = (elapsed.as_micros() as u64 / PAUSE_PART).min(MOST_PAUSE);
+    if pause < LEAST_PAUSE { 0 } else { pause }
 }
 
 // The length at which a log of `len` bytes is replaced.

@@ -63,6 +63,14 @@ impl<'a, D: Disk + Drop, L: Ledger, M: Media + Drop, R: Clock + Log> ServedArray
         self.host(seat, lun, *cdb, payload)
     }
 
+    fn awaits_commit(&self, cdb: &[u8; 16], reply: &Reply) -> bool {
+        DurableArray::awaits_commit(self, cdb, reply)
+    }
+
+    fn commit_pause(&self) -> u64 {
+        DurableArray::commit_pause(self)
+    }
+
     fn settle(&mut self, cdb: &[u8; 16], reply: &Reply) -> bool {
         DurableArray::settle(self, cdb, reply)
     }

@@ -29,8 +29,8 @@ pub struct Mismatch {
 impl<D: Disk, L: Ledger> Kept<D, L> {
     /// Compares each host's transcript with its part of the history: `Ok` exactly if all four are equal, else the first
     /// host whose lists differ, and the first position where they do. The history is legal in any case. With `Ok` each
-    /// reply in a transcript is the one that the unit's own create, resize, delete and I/O commands before it give.
-    /// Allocates nothing, and reads the history once for each host.
+    /// reply in a transcript is the one that the unit's own creates, resizes, deletes, discards and I/O commands before
+    /// it give. Allocates nothing, and reads the history once for each host.
     pub fn close(&self, seats: &[Seat<L>; 4]) -> Result<Report, Mismatch>
         requires order { map (λ (s : SeatState). s.host.number) seats.now ≡ 0 ∷ 1 ∷ 2 ∷ 3 ∷ [] }
         ensures legal { IsLegal self.now.history }

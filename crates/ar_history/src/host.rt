@@ -37,10 +37,10 @@ struct Copies {
 
 impl<D: Disk + Drop, L: Ledger> Kept<D, L> {
     /// Executes a command of the seat's host to its LUN `lun`: `cdb` is padded with zeros, `payload` is the data-out.
-    /// Unless the reply is BUSY, history and transcript have both grown by the command with its reply, which is the one
-    /// that the unit's own entries give, and the seat's share by one. If memory to record the command can't be
-    /// allocated, the reply is BUSY and the command isn't begun; if the bytes of its reply can't be shared, it is
-    /// BUSY, too, and no unit has changed. A failed array records nothing, and nothing is allocated to record it.
+    /// Unless the reply is BUSY or the array has failed, history and transcript have both grown by the command with its
+    /// reply, which is the one that the unit's own entries give, and the seat's share by one. If memory to record the
+    /// command can't be allocated, the reply is BUSY and the command isn't begun; if the bytes of its reply can't be
+    /// shared, it is BUSY, too, and no unit has changed. For a failed array nothing is allocated to record it.
     pub fn host(&mut self, seat: &mut Seat<L>, lun: u8, cdb: [u8; 16], payload: Bytes) -> Served
         ensures serves { ServesHost self.old seat.old lun cdb payload result.reply result.at self.new seat.new }
         ensures does { DoesCommand self.old.array seat.old.host lun cdb payload result.reply self.new.array }

@@ -73,6 +73,13 @@ pub trait ServedArray<L: Ledger> {
         ensures { AnswersCommand stores (state self.old) seat.old lun cdb.now payload result (state self.new)
             seat.new };
 
+    /// Whether the answer to this command waits for a commit. `settle` makes it, unless one that others wait for, too,
+    /// has come before.
+    fn awaits_commit(&self, cdb: &[u8; 16], reply: &Reply) -> bool;
+
+    /// Returns for how many microseconds a commit is put off, so that others share it.
+    fn commit_pause(&self) -> u64;
+
     /// Commits what was done to the store, if the answer to this command has to wait for that. False where the store
     /// has failed, so that GOOD to a WRITE must not be answered; other answers never wait.
     fn settle(&mut self, cdb: &[u8; 16], reply: &Reply) -> bool
@@ -193,6 +200,14 @@ impl<D: Disk + Drop, L: Ledger> ServedArray<L> for Kept<D, L> {
         served.reply
     }
 
+    fn awaits_commit(&self, _cdb: &[u8; 16], _reply: &Reply) -> bool {
+        false
+    }
+
+    fn commit_pause(&self) -> u64 {
+        0
+    }
+
     fn settle(&mut self, _cdb: &[u8; 16], _reply: &Reply) -> bool {
         true
     }
@@ -300,6 +315,14 @@ impl<D: Disk + Drop, L: Ledger> ServedArray<L> for CountedArray<D, L> {
 
     fn ask(&mut self, seat: &mut Seat<L>, lun: u8, cdb: &[u8; 16], payload: Bytes) -> Reply {
         self.host(seat, lun, *cdb, payload)
+    }
+
+    fn awaits_commit(&self, _cdb: &[u8; 16], _reply: &Reply) -> bool {
+        false
+    }
+
+    fn commit_pause(&self) -> u64 {
+        0
     }
 
     fn settle(&mut self, _cdb: &[u8; 16], _reply: &Reply) -> bool {

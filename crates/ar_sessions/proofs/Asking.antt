@@ -19,10 +19,10 @@ use Rattle.ar_history.specs.Kept.{KeptState, exchange_of, replayed_unit}
 use Rattle.ar_history.specs.Seat.{SeatState}
 use Rattle.ar_history.specs.Served.{AnswersCommand}
 use Rattle.ar_history.specs.Serving.{ServesCommand, is_recorded}
-use Rattle.ar_history.specs.Served.{asks_commit}
+use Rattle.ar_history.specs.Served.{acknowledges, asks_commit}
 use Rattle.ar_frames.specs.Frame.{IsReply}
 use Rattle.ar_sessions.specs.Port.{AnswersLasting, AsksArray, GrowsSeat, KeepsSeat, RecordsCommand}
-use Rattle.ar_sessions.specs.Port.{is_good_access, lasting_reply}
+use Rattle.ar_sessions.specs.Port.{Settles, is_good_access, lasting_reply}
 
 -- BUSY is not GOOD
 good_is_not_busy : (status : Status) → is_good status ≡ true → status ≢ Busy
@@ -130,6 +130,44 @@ asks stores persists old new before after lun cdb payload reply answers = record
   new = new;
   answers = answers;
   entry = records stores old new before after lun cdb payload answers.own answers.answers;
+}
+
+-- what was settled twice was settled
+pub settles_twice : (persists : Bool) (acknowledged : Reply → Bool) (own first second : Reply)
+    → Settles persists (acknowledged own) own first → Settles persists (acknowledged first) first second
+    → Settles persists (acknowledged own) own second
+settles_twice persists acknowledged own first second one two =
+    by one.lasts two.lasts one.reply_is two.reply_is one.failed two.failed
+  where
+    by : (l m : Bool) → first ≡ lasting_reply l own → second ≡ lasting_reply m first
+        → (l ≡ false → (persists ≡ true) × (acknowledged own ≡ true))
+        → (m ≡ false → (persists ≡ true) × (acknowledged first ≡ true))
+        → Settles persists (acknowledged own) own second
+    by true m is then_is failed then_failed = record {
+      lasts = m;
+      reply_is = then_is ∙ ap (λ (r : Reply). lasting_reply m r) is;
+      failed = λ e. ((then_failed e).0, sym (ap acknowledged is) ∙ (then_failed e).1);
+    }
+    by false true is then_is failed then_failed =
+        record { lasts = false; reply_is = then_is ∙ is; failed = failed }
+    by false false is then_is failed then_failed =
+        record { lasts = false; reply_is = then_is; failed = failed }
+
+-- so it is of a command whose reply was settled again
+pub asks_settled : (stores persists : Bool) (before after : SeatState) (lun : ℕ) (cdb payload : List ℕ)
+    (first second : Reply)
+    → AsksArray stores persists before lun cdb payload first after
+    → Settles persists (acknowledges cdb first) first second
+    → AsksArray stores persists before lun cdb payload second after
+asks_settled stores persists before after lun cdb payload first second asked settled = record {
+  old = asked.old;
+  new = asked.new;
+  answers = record {
+    own = asked.answers.own;
+    answers = asked.answers.answers;
+    settles = settles_twice persists (acknowledges cdb) asked.answers.own first second asked.answers.settles settled;
+  };
+  entry = asked.entry;
 }
 
 -- of a replaced reply as of the array's own: it is one that a frame can carry

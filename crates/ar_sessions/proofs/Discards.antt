@@ -1,4 +1,4 @@
--- The reply to a discard is one that a frame can carry.
+-- The reply to a discard is one that a frame can carry, and may be settled twice.
 use Rattle.std.proofs.Common.{◌≡◌, ◌∙◌, ℕ, Bool, true, false, cond, List, refl, sym, subst, arith}
 use Rattle.ar_disks.specs.declared.address.Addr.{Addr}
 use Rattle.ar_scsi.specs.declared.reply.Reply.{Reply}
@@ -13,9 +13,12 @@ use Rattle.ar_core.specs.Step.{is_busy}
 use Rattle.ar_history.specs.declared.entry.Entry.{Entry}
 use Rattle.ar_history.specs.History.{replay}
 use Rattle.ar_history.specs.Kept.{KeptState, replayed_unit}
-use Rattle.ar_history.specs.Served.{DiscardsSectors}
+use Rattle.ar_history.specs.Served.{DiscardsSectors, acknowledges}
 use Rattle.ar_history.specs.Serving.{ServesUnmap}
 use Rattle.ar_frames.specs.Frame.{IsReply}
+use Rattle.ar_sessions.specs.Port.{Settles}
+use Rattle.ar_sessions.specs.Discarding.{DiscardedAtOneMoment}
+use Rattle.ar_sessions.proofs.Asking.{both, settles_twice}
 
 -- of a unit
 unit_reply : (state : UnitState) (lba count : ℕ) → IsReply (unmap_answer state lba count).reply
@@ -55,3 +58,30 @@ pub discard_reply :
     → IsReply reply
 discard_reply old new addr lba count reply discards =
     reply_by (is_busy reply.status) old new addr lba count reply refl discards
+
+-- what acknowledges a WRITE is GOOD
+pub settled_as_good : (persists : Bool) (cdb : List ℕ) (own reply : Reply)
+    → Settles persists (acknowledges cdb own) own reply → Settles persists (is_good own.status) own reply
+settled_as_good persists cdb own reply settled = record {
+  lasts = settled.lasts;
+  reply_is = settled.reply_is;
+  failed = λ e. let failed = settled.failed e in (failed.0, (both _ _ failed.1).0);
+}
+
+-- so a discard whose reply was settled again is as one that was settled once
+pub discarded_settled : (persists : Bool) (addr : Addr) (lba count : ℕ) (cdb : List ℕ) (first second : Reply)
+    → DiscardedAtOneMoment persists addr lba count first
+    → Settles persists (acknowledges cdb first) first second
+    → DiscardedAtOneMoment persists addr lba count second
+discarded_settled persists addr lba count cdb first second discarded settled =
+    let discards = discarded.discards in
+    record {
+      old = discarded.old;
+      new = discarded.new;
+      discards = record {
+        own = discards.own;
+        discards = discards.discards;
+        settles = settles_twice persists (λ r. is_good r.status) discards.own first second discards.settles
+            (settled_as_good persists cdb first second settled);
+      };
+    }

@@ -10,18 +10,16 @@ use Rattle.ar_core.specs.Step.{addr_in}
 use Rattle.ar_history.specs.Kept.{KeptState, HistoryAgrees}
 use Rattle.ar_history.specs.Seat.{SeatState}
 use Rattle.ar_history.specs.Served.{DiscardsSectors}
-use Rattle.ar_sessions.specs.Port.{lasting_reply}
+use Rattle.ar_sessions.specs.Port.{Settles}
 use Rattle.ar_target.specs.declared.discard_port.BlockRun.{BlockRun}
 
--- The array discarded the sectors, which is one step of it at most, and this reply is its own. Only GOOD, where there
--- is a store, may be replaced.
+-- The array discarded the sectors, which is one step of it at most, and its own reply was settled: only GOOD, where
+-- there is a store, may be replaced.
 pub record DiscardsLasting (persists : Bool) (old : KeptState) (addr : Addr) (lba count : ℕ) (reply : Reply)
     (new : KeptState) : Type 0 where
   pub own : Reply
-  pub lasts : Bool
   pub discards : DiscardsSectors old addr lba count own new
-  pub reply_is : reply ≡ lasting_reply lasts own
-  pub failed : lasts ≡ false → (persists ≡ true) × (is_good own.status ≡ true)
+  pub settles : Settles persists (is_good own.status) own reply
 
 -- The sectors were discarded at one moment: there are a state of an array before it and one after it, in both of which
 -- each unit is what its history makes it. That these are states of the array behind the lock is not specified.

@@ -20,26 +20,35 @@ flush_outcome flushes.Broken = outcomes.ArrayFailed
 abbrev pub lasting_outcome : Bool → FlushOutcome → FlushOutcome
 lasting_outcome lasts outcome = if lasts then outcome else outcomes.ArrayFailed
 
--- The array flushed the unit, which is one step of it, and the flush was answered by what the array returned or, only
--- where there is a store, by that this has failed.
-pub record FlushesLasting (persists : Bool) (old : KeptState) (addr : Addr) (outcome : FlushOutcome)
-    (new : KeptState) : Type 0 where
+-- The array flushed the unit, which is one step of it, and this is the outcome of what it returned.
+pub record Destages (old : KeptState) (addr : Addr) (outcome : FlushOutcome) (new : KeptState) : Type 0 where
   pub answer : UnitFlush
-  pub lasts : Bool
   pub destages : DestagesUnit old addr answer new
-  pub outcome_is : outcome ≡ lasting_outcome lasts (flush_outcome answer)
-  pub failed : lasts ≡ false → persists ≡ true
+  pub outcome_is : outcome ≡ flush_outcome answer
 
 -- The unit was flushed at one moment: there are a state of an array before it and one after it, in both of which each
 -- unit is what its history makes it. That these are states of the array behind the lock is not specified.
-pub record FlushedAtOneMoment (persists : Bool) (addr : Addr) (outcome : FlushOutcome) : Type 0 where
+pub record DestagedAtOneMoment (addr : Addr) (outcome : FlushOutcome) : Type 0 where
   pub old : KeptState
   pub new : KeptState
-  pub flushes : FlushesLasting persists old addr outcome new
+  pub flushes : Destages old addr outcome new
+
+-- A commit followed a flush of this outcome: the answer is that outcome or, only where there is a store, that this has
+-- failed.
+pub record CommitsFlush (persists : Bool) (flushed outcome : FlushOutcome) : Type 0 where
+  pub lasts : Bool
+  pub outcome_is : outcome ≡ lasting_outcome lasts flushed
+  pub failed : lasts ≡ false → persists ≡ true
+
+-- the unit was flushed at one moment, and a commit followed at a later one
+pub record FlushesThenCommits (persists : Bool) (addr : Addr) (outcome : FlushOutcome) : Type 0 where
+  pub flushed : FlushOutcome
+  pub destaged : DestagedAtOneMoment addr flushed
+  pub commits : CommitsFlush persists flushed outcome
 
 -- A flush of a host's LUN: 0 to 7 may have a unit, which was flushed; others have none.
 pub record FlushesLun (persists : Bool) (host : Host) (lun : ℕ) (outcome : FlushOutcome) : Type 0 where
-  pub known : lun < 8 → FlushedAtOneMoment persists (record { host = host; lun = lun }) outcome
+  pub known : lun < 8 → FlushesThenCommits persists (record { host = host; lun = lun }) outcome
   pub unknown : 8 ≤ lun → outcome ≡ outcomes.NoUnit
 
 -- a flush of a unit of the seat's host: the seat stays, and the unit was flushed

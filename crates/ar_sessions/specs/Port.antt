@@ -43,15 +43,19 @@ pub record RecordsCommand (stores : Bool) (before : SeatState) (lun : ℕ) (cdb 
 abbrev pub lasting_reply : Bool → Reply → Reply
 lasting_reply lasts reply = if lasts then reply else check internal_target_failure
 
--- The array answered a command, which is one step of it at most, and this reply is its own. Only GOOD to a WRITE,
--- where there is a store, may it be replaced, and the seat has then grown by the array's own.
+-- The array's own reply became this one: it is replaced at most where it acknowledges what a store has failed to keep.
+pub record Settles (persists acknowledged : Bool) (own reply : Reply) : Type 0 where
+  pub lasts : Bool
+  pub reply_is : reply ≡ lasting_reply lasts own
+  pub failed : lasts ≡ false → (persists ≡ true) × (acknowledged ≡ true)
+
+-- The array answered a command, which is one step of it at most, and its own reply was settled: only GOOD to a WRITE,
+-- where there is a store, may be replaced. The seat has grown by the array's own.
 pub record AnswersLasting (stores persists : Bool) (old : KeptState) (before : SeatState) (lun : ℕ)
     (cdb payload : List ℕ) (reply : Reply) (new : KeptState) (after : SeatState) : Type 0 where
   pub own : Reply
-  pub lasts : Bool
   pub answers : AnswersCommand stores old before lun cdb payload own new after
-  pub reply_is : reply ≡ lasting_reply lasts own
-  pub failed : lasts ≡ false → (persists ≡ true) × (acknowledges cdb own ≡ true)
+  pub settles : Settles persists (acknowledges cdb own) own reply
 
 -- A host's command to a served array, which stores transcripts or doesn't and has a store or hasn't, was executed
 -- atomically: there are a state of an array before it and one after it, in both of which each unit is what its history

@@ -7,7 +7,7 @@ ghost use Rattle.ar_sessions.specs.Discarding.{DiscardedAtOneMoment, DiscardsLas
 ghost use Rattle.ar_sessions.specs.Discarding.{LookedUpAtOneMoment, LooksUp, LooksUpLun, run_of};
 
 use crate::flushing::LUNS;
-use crate::port::{lasting_reply, lock_soon};
+use crate::port::{Asked, lock_soon, settle_locked, settle_now};
 use crate::{LockPort, SeatDesk};
 use ar_core::Allocation;
 use ar_disks::{Addr, Host};
@@ -16,11 +16,12 @@ use ar_scsi::Reply;
 use ar_target::{BlockRun, DiscardPort};
 use std::sync::ledger::Ledger;
 use std::sync::{Mutex, Wait};
+use std::time::Clock;
 
 // A WRITE (10) of no blocks: GOOD to a discard waits for the store as GOOD to a WRITE without FORCE UNIT ACCESS does.
 const WRITE: [u8; 16] = [0x2A, 0, 0, 0, 0, 0, 0, 0, 0, 0, 0, 0, 0, 0, 0, 0];
 
-impl<'a, R: Wait, A: ServedArray<L> + Drop, K: SeatDesk<L> + Drop, L: Ledger> DiscardPort
+impl<'a, R: Wait + Clock, A: ServedArray<L> + Drop, K: SeatDesk<L> + Drop, L: Ledger> DiscardPort
     for LockPort<'a, R, A, K, L> {
     ghost use Rattle.ar_sessions.specs.Discarding.{DiscardsSeat, LooksUpSeat};
 
@@ -44,7 +45,7 @@ impl<'a, R: Wait, A: ServedArray<L> + Drop, K: SeatDesk<L> + Drop, L: Ledger> Di
 }
 
 // Discards sectors of a host's LUN under the lock.
-fn discard_locked<R: Wait, A: ServedArray<L> + Drop, L: Ledger>(
+fn discard_locked<R: Wait + Clock, A: ServedArray<L> + Drop, L: Ledger>(
     rt: &R,
     array: &Mutex<A>,
     host: Host,
@@ -55,24 +56,42 @@ fn discard_locked<R: Wait, A: ServedArray<L> + Drop, L: Ledger>(
     ensures discarded { DiscardedAtOneMoment A.persists (addr_in host lun) lba count result }
     ensures reply { IsReply result }
 {
+    let asked = discard_once(rt, array, host, lun, lba, count);
+    match asked.pause {
+        Some(pause) => settle_locked(rt, array, pause, &WRITE, asked.reply),
+        None => asked.reply,
+    }
+}
+
+// Discards sectors of a host's LUN under the lock, once.
+fn discard_once<R: Wait, A: ServedArray<L> + Drop, L: Ledger>(
+    rt: &R,
+    array: &Mutex<A>,
+    host: Host,
+    lun: u8,
+    lba: u64,
+    count: u32,
+) -> Asked
+    ensures discarded { DiscardedAtOneMoment A.persists (addr_in host lun) lba count result.reply }
+    ensures reply { IsReply result.reply }
+{
     discard_with::<A, L>(&mut lock_soon(rt, array), host, lun, lba, count)
 }
 
-// Discards sectors of a host's LUN. Where the store has failed, the reply is replaced.
+// Discards sectors of a host's LUN. Where the store has failed, the reply is replaced, unless it waits for a commit.
 fn discard_with<A: ServedArray<L>, L: Ledger>(
     array: &mut A,
     host: Host,
     lun: u8,
     lba: u64,
     count: u32,
-) -> Reply
-    ensures discards { DiscardsLasting A.persists (A.state array.old) (addr_in host lun) lba count result
+) -> Asked
+    ensures discards { DiscardsLasting A.persists (A.state array.old) (addr_in host lun) lba count result.reply
         (A.state array.new) }
-    ensures reply { IsReply result }
+    ensures reply { IsReply result.reply }
 {
     let reply = array.discard(host, lun, lba, count);
-    let lasts = array.settle(&WRITE, &reply);
-    lasting_reply(lasts, reply)
+    settle_now::<A, L>(array, &WRITE, reply)
 }
 
 // Looks up blocks of a host's LUN under the lock.

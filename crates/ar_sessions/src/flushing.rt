@@ -1,10 +1,11 @@
 // What a device server needs of a session's port beyond commands: that the cached blocks of a unit are written to the
 // disks.
 ghost use Rattle.std.specs.Prelude.{◌≡◌};
-ghost use Rattle.ar_sessions.specs.Flushing.{FlushedAtOneMoment, FlushesLasting, FlushesLun};
+ghost use Rattle.ar_sessions.specs.Flushing.{CommitsFlush, Destages, DestagedAtOneMoment, FlushesThenCommits, FlushesLun};
 ghost use Rattle.ar_sessions.specs.Flushing.{flush_outcome, lasting_outcome};
 ghost use Rattle.ar_target.specs.declared.flush_port.FlushOutcome.TheVariants as outcomes;
 
+use crate::port::{lock_soon, wait_for_others};
 use crate::{LockPort, SeatDesk};
 use ar_core::UnitFlush;
 use ar_disks::{Addr, Host};
@@ -12,11 +13,19 @@ use ar_history::ServedArray;
 use ar_target::{FlushOutcome, FlushPort};
 use std::sync::ledger::Ledger;
 use std::sync::{Mutex, Wait};
+use std::time::Clock;
 
 /// The LUNs that a unit may have are below this one.
 pub(crate) const LUNS: u8 = 8;
 
-impl<'a, R: Wait, A: ServedArray<L> + Drop, K: SeatDesk<L> + Drop, L: Ledger> FlushPort
+// A flush that is to be committed: its outcome, and for how many microseconds others are let in first.
+#[derive(Clone, Copy)]
+struct Flushed {
+    outcome: FlushOutcome,
+    pause: u64,
+}
+
+impl<'a, R: Wait + Clock, A: ServedArray<L> + Drop, K: SeatDesk<L> + Drop, L: Ledger> FlushPort
     for LockPort<'a, R, A, K, L> {
     ghost use Rattle.ar_sessions.specs.Flushing.{FlushesSeat};
 
@@ -31,7 +40,7 @@ impl<'a, R: Wait, A: ServedArray<L> + Drop, K: SeatDesk<L> + Drop, L: Ledger> Fl
 }
 
 // Destages a unit of a host under the lock.
-fn flush_locked<R: Wait, A: ServedArray<L> + Drop, L: Ledger>(
+fn flush_locked<R: Wait + Clock, A: ServedArray<L> + Drop, L: Ledger>(
     rt: &R,
     array: &Mutex<A>,
     host: Host,
@@ -45,25 +54,60 @@ fn flush_locked<R: Wait, A: ServedArray<L> + Drop, L: Ledger>(
     flush_at(rt, array, Addr { host, lun })
 }
 
-// Destages the unit at an address under the lock.
-fn flush_at<R: Wait, A: ServedArray<L> + Drop, L: Ledger>(
+// Destages the unit at an address under the lock, and commits under it after a pause in which others flush theirs.
+fn flush_at<R: Wait + Clock, A: ServedArray<L> + Drop, L: Ledger>(
     rt: &R,
     array: &Mutex<A>,
     addr: Addr,
 ) -> FlushOutcome
-    ensures { FlushedAtOneMoment A.persists addr result }
+    ensures { FlushesThenCommits A.persists addr result }
+{
+    let flushed = flush_once(rt, array, addr);
+    wait_for_others(rt, flushed.pause);
+    commit_locked(rt, array, flushed.outcome)
+}
+
+// Destages the unit at an address under the lock.
+fn flush_once<R: Wait, A: ServedArray<L> + Drop, L: Ledger>(
+    rt: &R,
+    array: &Mutex<A>,
+    addr: Addr,
+) -> Flushed
+    ensures { DestagedAtOneMoment addr result.outcome }
 {
     flush_with::<A, L>(&mut array.lock(rt), addr)
 }
 
-// Destages the unit at an address, and commits what was done to the store.
-fn flush_with<A: ServedArray<L>, L: Ledger>(array: &mut A, addr: Addr) -> FlushOutcome
-    ensures flushes { FlushesLasting A.persists (A.state array.old) addr result (A.state array.new) }
-    ensures lasts { result ≡ outcomes.Done → A.lasts array.new }
+// Destages the unit at an address. What was done is still to be committed.
+fn flush_with<A: ServedArray<L>, L: Ledger>(array: &mut A, addr: Addr) -> Flushed
+    ensures { Destages (A.state array.old) addr result.outcome (A.state array.new) }
 {
     let answer = array.flush_unit(addr);
+    Flushed {
+        outcome: outcome_of(answer),
+        pause: array.commit_pause(),
+    }
+}
+
+// Commits what was done to the store under the lock.
+fn commit_locked<R: Wait, A: ServedArray<L> + Drop, L: Ledger>(
+    rt: &R,
+    array: &Mutex<A>,
+    outcome: FlushOutcome,
+) -> FlushOutcome
+    ensures { CommitsFlush A.persists outcome result }
+{
+    commit_with::<A, L>(&mut lock_soon(rt, array), outcome)
+}
+
+// Commits what was done to the store, and returns the outcome of a flush or, where that has failed, that it has.
+fn commit_with<A: ServedArray<L>, L: Ledger>(array: &mut A, outcome: FlushOutcome) -> FlushOutcome
+    ensures same { A.state array.new ≡ A.state array.old }
+    ensures commits { CommitsFlush A.persists outcome result }
+    ensures lasts { result ≡ outcomes.Done → A.lasts array.new }
+{
     let lasts = array.commit();
-    lasting_outcome(lasts, outcome_of(answer))
+    lasting_outcome(lasts, outcome)
 }
 
 // The outcome of a flush, or that the array has failed where its store has.

@@ -2,9 +2,9 @@
 // and the next.
 ghost use Rattle.std.specs.Prelude.{◌≡◌, None, true};
 ghost use Rattle.ar_frames.specs.Frame.{IsReply};
-ghost use Rattle.ar_history.specs.Served.{asks_commit};
+ghost use Rattle.ar_history.specs.Served.{acknowledges, asks_commit};
 ghost use Rattle.ar_sessions.specs.Desk.{receipt_for};
-ghost use Rattle.ar_sessions.specs.Port.{AnswersLasting, AsksArray, lasting_reply};
+ghost use Rattle.ar_sessions.specs.Port.{AnswersLasting, AsksArray, Settles, lasting_reply};
 
 use crate::{Desk, Receipt, SeatDesk, SeatSlot};
 use ar_disks::Host;
@@ -17,6 +17,8 @@ use std::hint::spin_loop;
 use std::marker::Model;
 use std::sync::ledger::Ledger;
 use std::sync::{Mutex, MutexGuard, Wait};
+use std::thread;
+use std::time::{Clock, Duration};
 
 /// How often a command looks at a held lock before its thread sleeps, and the pauses between two looks: some 50 µs, in
 /// which three other hosts' commands of 64 KiB are executed. To sleep and be woken takes a thread about as long.
@@ -80,7 +82,15 @@ impl<'a, R: Wait, A: Drop, L: Ledger> LockPort<'a, R, A, Desk<L>, L> {
     }
 }
 
-impl<'a, R: Wait, A: ServedArray<L> + Drop, K: SeatDesk<L> + Drop, L: Ledger> Port
+// A command that the array has executed: its reply and, if that waits for a commit, for how many microseconds others
+// are let in first.
+#[derive(Drop)]
+pub(crate) struct Asked {
+    pub reply: Reply,
+    pub pause: Option<u64>,
+}
+
+impl<'a, R: Wait + Clock, A: ServedArray<L> + Drop, K: SeatDesk<L> + Drop, L: Ledger> Port
     for LockPort<'a, R, A, K, L> {
     ghost use Rattle.std.specs.Prelude.{is_some};
     ghost use Rattle.ar_sessions.specs.Port.{TakesSeat, AsksArray, AsksSeat};
@@ -118,7 +128,7 @@ impl<'a, R: Wait, A: ServedArray<L> + Drop, K: SeatDesk<L> + Drop, L: Ledger> Po
 }
 
 // Executes a command, and then counts it at the desk.
-fn ask_counted<R: Wait, A: ServedArray<L> + Drop, K: SeatDesk<L> + Drop, L: Ledger>(
+fn ask_counted<R: Wait + Clock, A: ServedArray<L> + Drop, K: SeatDesk<L> + Drop, L: Ledger>(
     rt: &R,
     array: &Mutex<A>,
     desk: &Mutex<K>,
@@ -138,8 +148,8 @@ fn ask_counted<R: Wait, A: ServedArray<L> + Drop, K: SeatDesk<L> + Drop, L: Ledg
     reply
 }
 
-// Executes a command under the lock.
-fn ask_locked<R: Wait, A: ServedArray<L> + Drop, L: Ledger>(
+// Executes a command under the lock. A commit that its answer waits for is made under it later, and others share it.
+fn ask_locked<R: Wait + Clock, A: ServedArray<L> + Drop, L: Ledger>(
     rt: &R,
     array: &Mutex<A>,
     memory: Option<Vec<u8>>,
@@ -151,10 +161,31 @@ fn ask_locked<R: Wait, A: ServedArray<L> + Drop, L: Ledger>(
     ensures asks { AsksArray A.stores A.persists seat.old lun cdb.now payload result seat.new }
     ensures reply { IsReply result }
 {
+    let asked = ask_once(rt, array, memory, seat, lun, cdb, payload);
+    match asked.pause {
+        Some(pause) => settle_locked(rt, array, pause, cdb, asked.reply),
+        None => asked.reply,
+    }
+}
+
+// Executes a command under the lock, once.
+fn ask_once<R: Wait, A: ServedArray<L> + Drop, L: Ledger>(
+    rt: &R,
+    array: &Mutex<A>,
+    memory: Option<Vec<u8>>,
+    seat: &mut Seat<L>,
+    lun: u8,
+    cdb: &[u8; 16],
+    payload: Bytes,
+) -> Asked
+    ensures asks { AsksArray A.stores A.persists seat.old lun cdb.now payload result.reply seat.new }
+    ensures reply { IsReply result.reply }
+{
     ask_with::<A, L>(&mut lock_soon(rt, array), memory, seat, lun, cdb, payload)
 }
 
-// Executes a command on the array, for which memory may be lent. Where the store has failed, its reply is replaced.
+// Executes a command on the array, for which memory may be lent. Where the store has failed, its reply is replaced,
+// unless it waits for a commit.
 fn ask_with<A: ServedArray<L>, L: Ledger>(
     array: &mut A,
     memory: Option<Vec<u8>>,
@@ -162,20 +193,88 @@ fn ask_with<A: ServedArray<L>, L: Ledger>(
     lun: u8,
     cdb: &[u8; 16],
     payload: Bytes,
-) -> Reply
-    ensures answers { AnswersLasting A.stores A.persists (A.state array.old) seat.old lun cdb.now payload result
+) -> Asked
+    ensures answers { AnswersLasting A.stores A.persists (A.state array.old) seat.old lun cdb.now payload result.reply
         (A.state array.new) seat.new }
-    ensures lasts { asks_commit cdb.now result ≡ true → A.lasts array.new }
-    ensures reply { IsReply result }
+    ensures lasts { result.pause ≡ None → asks_commit cdb.now result.reply ≡ true → A.lasts array.new }
+    ensures reply { IsReply result.reply }
 {
     lend(array, memory);
     let reply = array.ask(seat, lun, cdb, payload);
+    settle_now::<A, L>(array, cdb, reply)
+}
+
+/// Settles a reply, unless it waits for a commit.
+pub(crate) fn settle_now<A: ServedArray<L>, L: Ledger>(array: &mut A, cdb: &[u8; 16], reply: Reply) -> Asked
+    requires { IsReply reply }
+    ensures same { A.state array.new ≡ A.state array.old }
+    ensures settles { Settles A.persists (acknowledges cdb.now reply) reply result.reply }
+    ensures lasts { result.pause ≡ None → asks_commit cdb.now result.reply ≡ true → A.lasts array.new }
+    ensures reply { IsReply result.reply }
+{
+    match pause_for::<A, L>(&*array, cdb, &reply) {
+        Some(pause) => Asked {
+            reply,
+            pause: Some(pause),
+        },
+        None => Asked {
+            reply: settle_with::<A, L>(array, cdb, reply),
+            pause: None,
+        },
+    }
+}
+
+// For how long a reply that waits for a commit lets others in first. None: it waits for none.
+fn pause_for<A: ServedArray<L>, L: Ledger>(
+    array: &A,
+    cdb: &[u8; 16],
+    reply: &Reply,
+) -> Option<u64> {
+    if array.awaits_commit(cdb, reply) {
+        Some(array.commit_pause())
+    } else {
+        None
+    }
+}
+
+/// Settles the reply to a command under the lock, after a pause in microseconds in which others send theirs.
+pub(crate) fn settle_locked<R: Wait + Clock, A: ServedArray<L> + Drop, L: Ledger>(
+    rt: &R,
+    array: &Mutex<A>,
+    pause: u64,
+    cdb: &[u8; 16],
+    reply: Reply,
+) -> Reply
+    requires { IsReply reply }
+    ensures settles { Settles A.persists (acknowledges cdb.now reply) reply result }
+    ensures reply { IsReply result }
+{
+    wait_for_others(rt, pause);
+    settle_with::<A, L>(&mut lock_soon(rt, array), cdb, reply)
+}
+
+/// Waits for some microseconds, if there are any.
+pub(crate) fn wait_for_others<R: Clock>(rt: &R, micros: u64) {
+    if micros > 0 {
+        thread::sleep(rt, Duration::from_micros(micros));
+    }
+}
+
+// Settles the reply to a command: commits what was done, if it has to wait for that. Where the store has failed, the
+// reply is replaced.
+fn settle_with<A: ServedArray<L>, L: Ledger>(array: &mut A, cdb: &[u8; 16], reply: Reply) -> Reply
+    requires { IsReply reply }
+    ensures same { A.state array.new ≡ A.state array.old }
+    ensures settles { Settles A.persists (acknowledges cdb.now reply) reply result }
+    ensures lasts { asks_commit cdb.now result ≡ true → A.lasts array.new }
+    ensures reply { IsReply result }
+{
     let lasts = array.settle(cdb, &reply);
     lasting_reply(lasts, reply)
 }
 
-/// The reply to a command or, where the store has failed to keep it, HARDWARE ERROR in its place.
-pub(crate) fn lasting_reply(lasts: bool, reply: Reply) -> Reply
+// The reply to a command or, where the store has failed to keep it, HARDWARE ERROR in its place.
+fn lasting_reply(lasts: bool, reply: Reply) -> Reply
     ensures { result ≡ lasting_reply lasts reply }
 {
     if lasts {

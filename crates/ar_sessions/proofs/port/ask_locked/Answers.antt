@@ -1,5 +1,6 @@
-use Rattle.ar_sessions.proofs.Asking.{asks}
+use Rattle.ar_sessions.proofs.Asking.{asks_settled}
 use Rattle.ar_sessions.proofs.port.ask_locked.Goals as goal
 
-pub returns-clause-asks : goal.returns-clause-asks
-returns-clause-asks g c = asks _ _ _ _ _ _ _ _ _ _ c.ask_with.ensures.answers
+pub returns-in-Some-clause-asks : goal.returns-in-Some-clause-asks
+returns-in-Some-clause-asks g c =
+    asks_settled _ _ _ _ _ _ _ _ _ c.ask_once-asked.ensures.asks c.settle_locked.ensures.settles
