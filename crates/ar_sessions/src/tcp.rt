@@ -56,6 +56,9 @@ pub type TcpWriter<'a, R> = Linked<SocketWriter<'a, R>>;
 /// As the number of connections to accept: any number.
 pub const ANY_NUMBER: usize = usize::MAX;
 
+/// Bytes that a session reads ahead, so that a small frame takes one system call.
+const READ_AHEAD: usize = 8_192;
+
 /// Milliseconds that a door waits for a connection before it looks at the stop flag, and after an accept that failed.
 const PAUSE: u64 = 100;
 
@@ -294,8 +297,7 @@ fn descriptor_left(listener: &TcpListener, protocol: Protocol) -> io::Result<Opt
     }
 }
 
-// The streams of a connection, for which another may make room. Reads are buffered, so that a small frame takes one
-// system call; writes are sent at once.
+// The streams of a connection, for which another may make room. Writes are sent at once.
 fn opened<'a, R: Clock>(
     rt: &'a R,
     alloc: Global,
@@ -307,8 +309,17 @@ fn opened<'a, R: Clock>(
     let progress = Arc::new(alloc, crowd.new_progress()?)?;
     let (reader, writer) = SocketReader::open(rt, alloc, stream, limits, &progress)?;
     crowd.add(reader.socket(), &progress)?;
-    let reader = BufReader::new(alloc, reader)?;
+    let reader = BufReader::with_capacity(alloc, read_ahead(limits.protocol), reader)?;
     Ok((Linked::with_progress(reader, progress), Linked::new(writer)))
+}
+
+// Bytes that are read ahead. An operator's lines are read in pieces as it is, and need no memory for that when it is used
+// up.
+fn read_ahead(protocol: Protocol) -> usize {
+    match protocol {
+        Protocol::Lines => 0,
+        Protocol::Sessions | Protocol::Http => READ_AHEAD,
+    }
 }
 
 // Listens at a port, by waits that are cut into slices: a wait that only a connection ended might never end, since a
