@@ -1,9 +1,10 @@
 // An array whose history is on a journal, as far as it changes units. Its records are those of the history, or the
 // store is given up.
-ghost use Rattle.std.specs.Prelude.{◌≡◌, ◌∷◌, [], false, map, true};
+ghost use Rattle.std.specs.Prelude.{◌≡◌, ◌≤◌, ◌∷◌, [], count_by, false, map, true};
 ghost use Rattle.ar_core.specs.declared.event.EventOf.TheVariants as events;
 ghost use Rattle.ar_core.specs.Step.{addr_in};
 ghost use Rattle.ar_extents.specs.Set.{CanCount};
+ghost use Rattle.ar_history.specs.History.{is_command};
 ghost use Rattle.ar_history.specs.Kept.{HistoryAgrees};
 ghost use Rattle.ar_history.specs.Seat.{SeatState};
 ghost use Rattle.ar_history.specs.Served.{AnswersCommand, DestagesUnit, DiscardsSectors, Maintains, Operates};
@@ -181,6 +182,15 @@ impl<'a, D: Disk, L: Ledger, M: Media, R> DurableArray<'a, D, L, M, R> {
         ensures { self.new ≡ self.old }
     {
         self.counted.lend_memory(memory);
+    }
+
+    /// Compares a seat with the ledger (`CountedArray::audit_seat`).
+    pub fn audit_seat(&mut self, seat: &mut Seat<L>)
+        ensures same { self.new ≡ self.old }
+        ensures seat { seat.new ≡ seat.old }
+        ensures counted { seat.old.commands ≤ count_by is_command self.old.kept.history }
+    {
+        self.counted.audit_seat(seat);
     }
 
     /// Whether a commit has failed and none has succeeded since.

@@ -63,6 +63,10 @@ impl<'a, D: Disk + Drop, L: Ledger, M: Media + Drop, R: Clock + Log> ServedArray
         self.host(seat, lun, *cdb, payload)
     }
 
+    fn audit_seat(&mut self, seat: &mut Seat<L>) {
+        DurableArray::audit_seat(self, seat);
+    }
+
     fn awaits_commit(&self, cdb: &[u8; 16], reply: &Reply) -> bool {
         DurableArray::awaits_commit(self, cdb, reply)
     }

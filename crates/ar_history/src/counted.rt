@@ -1,8 +1,9 @@
 // A live array whose commands are counted in a ledger: a seat's share grows with the history, and nowhere else, so that
 // who holds the seat can tell that its commands were executed.
-ghost use Rattle.std.specs.Prelude.{◌≡◌, ◌∷◌, [], false, map};
+ghost use Rattle.std.specs.Prelude.{◌≡◌, ◌≤◌, ◌∷◌, [], count_by, false, map};
 ghost use Rattle.ar_core.specs.Step.{addr_in};
 ghost use Rattle.ar_history.specs.Counts.{no_counts};
+ghost use Rattle.ar_history.specs.History.{is_command};
 ghost use Rattle.ar_history.specs.Kept.{HistoryAgrees};
 ghost use Rattle.ar_history.specs.Seat.{SeatState};
 ghost use Rattle.ar_history.specs.Served.{AnswersCommand, DestagesUnit, DiscardsSectors, Maintains, Operates};
@@ -86,6 +87,15 @@ impl<D: Disk, L: Ledger> CountedArray<D, L> {
         ensures kept { HistoryAgrees self.now.array self.now.history }
     {
         self.live.array()
+    }
+
+    /// Compares a seat with the ledger: the history has at least the commands that the seat counts.
+    pub fn audit_seat(&mut self, seat: &mut Seat<L>)
+        ensures same { self.new ≡ self.old }
+        ensures seat { seat.new ≡ seat.old }
+        ensures counted { seat.old.commands ≤ count_by is_command self.old.history }
+    {
+        seat.audit(&mut self.book);
     }
 
     /// Returns what was counted since the start.

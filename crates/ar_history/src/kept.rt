@@ -1,7 +1,8 @@
 // A live array with its history stored: the stored list is the one that contracts see of the live array, so that what
 // is proved of that one (`HistoryAgrees`) is true of it. The ledger's total is the number of commands in the history.
-ghost use Rattle.std.specs.Prelude.{◌≡◌, ◌<◌, ◌+◌, [], ◌∷◌, map};
+ghost use Rattle.std.specs.Prelude.{◌≡◌, ◌<◌, ◌≤◌, ◌+◌, [], ◌∷◌, count_by, map};
 ghost use Rattle.ar_history.specs.Counts.{no_counts};
+ghost use Rattle.ar_history.specs.History.{is_command};
 ghost use Rattle.ar_history.specs.Kept.{HistoryAgrees};
 ghost use Rattle.ar_history.specs.Seat.{SeatState};
 
@@ -69,6 +70,15 @@ impl<D: Disk, L: Ledger> Kept<D, L> {
             book,
         };
         (kept, seats(alloc, &mut rest))
+    }
+
+    /// Compares a seat with the ledger: the history has at least the commands that the seat counts.
+    pub fn audit_seat(&mut self, seat: &mut Seat<L>)
+        ensures same { self.new ≡ self.old }
+        ensures seat { seat.new ≡ seat.old }
+        ensures counted { seat.old.commands ≤ count_by is_command self.old.history }
+    {
+        seat.audit(&mut self.book);
     }
 
     /// Returns the entries so far, in the order in which they were done. Each unit is what its entries make it: until

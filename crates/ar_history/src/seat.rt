@@ -1,6 +1,6 @@
 // A host's seat. Its share of the ledger is the number of its commands in the history, so that neither the share nor
 // the transcript grows without the history.
-ghost use Rattle.std.specs.Prelude.{◌≡◌, ◌<◌, ◌+◌, ◌++◌, ◌∷◌, [], length};
+ghost use Rattle.std.specs.Prelude.{◌≡◌, ◌<◌, ◌≤◌, ◌+◌, ◌++◌, ◌∷◌, [], length};
 
 use crate::Exchange;
 use ar_disks::Host;
@@ -58,6 +58,15 @@ impl<L: Ledger> Seat<L> {
     {
         self.transcript.push_reserved(exchange);
         book.add(&mut self.share, 1);
+    }
+
+    // Compares the share with the ledger: it is at most the total.
+    pub(crate) fn audit(&mut self, book: &mut Book<L>)
+        ensures same { self.new ≡ self.old }
+        ensures total { book.new.total ≡ book.old.total }
+        ensures bound { self.old.commands ≤ book.old.total }
+    {
+        book.audit(&mut self.share);
     }
 
     // Counts a command in the ledger, of which no transcript is stored.

@@ -1,10 +1,11 @@
 // An array with its history, as all that serve it use it: hosts, initiators, operators, the maintenance and the pages.
 // The history is stored, or seen by contracts alone.
-ghost use Rattle.std.specs.Prelude.{◌≡◌, Bool, true, false, if◌then◌else◌, length, None};
+ghost use Rattle.std.specs.Prelude.{◌≡◌, ◌≤◌, Bool, true, false, if◌then◌else◌, count_by, length, None};
 ghost use Rattle.ar_book.specs.Tables.{free_groups};
 ghost use Rattle.ar_core.specs.Allocation.{allocation_of};
 ghost use Rattle.ar_core.specs.Step.{addr_in};
 ghost use Rattle.ar_extents.specs.Set.{CanCount};
+ghost use Rattle.ar_history.specs.History.{is_command};
 ghost use Rattle.ar_history.specs.Kept.{KeptState, HistoryAgrees};
 ghost use Rattle.ar_history.specs.Served.{AnswersCommand, DestagesUnit, DiscardsSectors, Maintains, Operates, Works};
 ghost use Rattle.ar_history.specs.Served.{acknowledges, asks_commit};
@@ -72,6 +73,12 @@ pub trait ServedArray<L: Ledger> {
     fn ask(&mut self, seat: &mut Seat<L>, lun: u8, cdb: &[u8; 16], payload: Bytes) -> Reply
         ensures { AnswersCommand stores (state self.old) seat.old lun cdb.now payload result (state self.new)
             seat.new };
+
+    /// Compares a seat with the history, which has at least the commands that the seat counts. It costs nothing.
+    fn audit_seat(&mut self, seat: &mut Seat<L>)
+        ensures same { state self.new ≡ state self.old }
+        ensures seat { seat.new ≡ seat.old }
+        ensures counted { seat.old.commands ≤ count_by is_command (state self.old).history };
 
     /// Whether the answer to this command waits for a commit. `settle` makes it, unless one that others wait for, too,
     /// has come before.
@@ -200,6 +207,10 @@ impl<D: Disk + Drop, L: Ledger> ServedArray<L> for Kept<D, L> {
         served.reply
     }
 
+    fn audit_seat(&mut self, seat: &mut Seat<L>) {
+        Kept::audit_seat(self, seat);
+    }
+
     fn awaits_commit(&self, _cdb: &[u8; 16], _reply: &Reply) -> bool {
         false
     }
@@ -315,6 +326,10 @@ impl<D: Disk + Drop, L: Ledger> ServedArray<L> for CountedArray<D, L> {
 
     fn ask(&mut self, seat: &mut Seat<L>, lun: u8, cdb: &[u8; 16], payload: Bytes) -> Reply {
         self.host(seat, lun, *cdb, payload)
+    }
+
+    fn audit_seat(&mut self, seat: &mut Seat<L>) {
+        CountedArray::audit_seat(self, seat);
     }
 
     fn awaits_commit(&self, _cdb: &[u8; 16], _reply: &Reply) -> bool {

@@ -1,7 +1,8 @@
 // A session's port to the shared array. Each command is executed under the array's lock, between one state of the array
 // and the next.
-ghost use Rattle.std.specs.Prelude.{◌≡◌, None, true};
+ghost use Rattle.std.specs.Prelude.{◌≡◌, ◌≤◌, None, count_by, true};
 ghost use Rattle.ar_frames.specs.Frame.{IsReply};
+ghost use Rattle.ar_history.specs.History.{is_command};
 ghost use Rattle.ar_history.specs.Served.{acknowledges, asks_commit};
 ghost use Rattle.ar_sessions.specs.Desk.{receipt_for};
 ghost use Rattle.ar_sessions.specs.Port.{AnswersLasting, AsksArray, Settles, lasting_reply};
@@ -163,9 +164,46 @@ fn ask_locked<R: Wait + Clock, A: ServedArray<L> + Drop, L: Ledger>(
 {
     let asked = ask_once(rt, array, memory, seat, lun, cdb, payload);
     match asked.pause {
-        Some(pause) => settle_locked(rt, array, pause, cdb, asked.reply),
+        Some(pause) => settle_later(rt, array, seat, pause, cdb, asked.reply),
         None => asked.reply,
     }
+}
+
+// Settles the reply to a seat's command under the lock, after a pause in microseconds in which others send theirs.
+fn settle_later<R: Wait + Clock, A: ServedArray<L> + Drop, L: Ledger>(
+    rt: &R,
+    array: &Mutex<A>,
+    seat: &mut Seat<L>,
+    pause: u64,
+    cdb: &[u8; 16],
+    reply: Reply,
+) -> Reply
+    requires { IsReply reply }
+    ensures seat { seat.new ≡ seat.old }
+    ensures settles { Settles A.persists (acknowledges cdb.now reply) reply result }
+    ensures reply { IsReply result }
+{
+    wait_for_others(rt, pause);
+    settle_seat::<A, L>(&mut lock_soon(rt, array), seat, cdb, reply)
+}
+
+// Settles the reply to a command of a seat. A reply that waits for a commit has all commands of the seat in what lasts.
+fn settle_seat<A: ServedArray<L>, L: Ledger>(
+    array: &mut A,
+    seat: &mut Seat<L>,
+    cdb: &[u8; 16],
+    reply: Reply,
+) -> Reply
+    requires { IsReply reply }
+    ensures same { A.state array.new ≡ A.state array.old }
+    ensures seat { seat.new ≡ seat.old }
+    ensures counted { seat.old.commands ≤ count_by is_command (A.state array.new).history }
+    ensures settles { Settles A.persists (acknowledges cdb.now reply) reply result }
+    ensures lasts { asks_commit cdb.now result ≡ true → A.lasts array.new }
+    ensures reply { IsReply result }
+{
+    array.audit_seat(seat);
+    settle_with::<A, L>(array, cdb, reply)
 }
 
 // Executes a command under the lock, once.
