@@ -22,7 +22,7 @@ use Rattle.ar_history.specs.Serving.{ServesCommand, is_recorded}
 use Rattle.ar_history.specs.Served.{acknowledges, asks_commit}
 use Rattle.ar_frames.specs.Frame.{IsReply}
 use Rattle.ar_sessions.specs.Port.{AnswersLasting, AsksArray, GrowsSeat, KeepsSeat, RecordsCommand}
-use Rattle.ar_sessions.specs.Port.{Settles, is_good_access, lasting_reply}
+use Rattle.ar_sessions.specs.Port.{SettlesReply, is_good_access, lasting_reply}
 
 -- BUSY is not GOOD
 good_is_not_busy : (status : Status) → is_good status ≡ true → status ≢ Busy
@@ -134,15 +134,15 @@ asks stores persists old new before after lun cdb payload reply answers = record
 
 -- what was settled twice was settled
 pub settles_twice : (persists : Bool) (acknowledged : Reply → Bool) (own first second : Reply)
-    → Settles persists (acknowledged own) own first → Settles persists (acknowledged first) first second
-    → Settles persists (acknowledged own) own second
+    → SettlesReply persists (acknowledged own) own first → SettlesReply persists (acknowledged first) first second
+    → SettlesReply persists (acknowledged own) own second
 settles_twice persists acknowledged own first second one two =
     by one.lasts two.lasts one.reply_is two.reply_is one.failed two.failed
   where
     by : (l m : Bool) → first ≡ lasting_reply l own → second ≡ lasting_reply m first
         → (l ≡ false → (persists ≡ true) × (acknowledged own ≡ true))
         → (m ≡ false → (persists ≡ true) × (acknowledged first ≡ true))
-        → Settles persists (acknowledged own) own second
+        → SettlesReply persists (acknowledged own) own second
     by true m is then_is failed then_failed = record {
       lasts = m;
       reply_is = then_is ∙ ap (λ (r : Reply). lasting_reply m r) is;
@@ -157,7 +157,7 @@ settles_twice persists acknowledged own first second one two =
 pub asks_settled : (stores persists : Bool) (before after : SeatState) (lun : ℕ) (cdb payload : List ℕ)
     (first second : Reply)
     → AsksArray stores persists before lun cdb payload first after
-    → Settles persists (acknowledges cdb first) first second
+    → SettlesReply persists (acknowledges cdb first) first second
     → AsksArray stores persists before lun cdb payload second after
 asks_settled stores persists before after lun cdb payload first second asked settled = record {
   old = asked.old;

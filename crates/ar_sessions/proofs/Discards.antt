@@ -16,7 +16,7 @@ use Rattle.ar_history.specs.Kept.{KeptState, replayed_unit}
 use Rattle.ar_history.specs.Served.{DiscardsSectors, acknowledges}
 use Rattle.ar_history.specs.Serving.{ServesUnmap}
 use Rattle.ar_frames.specs.Frame.{IsReply}
-use Rattle.ar_sessions.specs.Port.{Settles}
+use Rattle.ar_sessions.specs.Port.{SettlesReply}
 use Rattle.ar_sessions.specs.Discarding.{DiscardedAtOneMoment}
 use Rattle.ar_sessions.proofs.Asking.{both, settles_twice}
 
@@ -61,7 +61,7 @@ discard_reply old new addr lba count reply discards =
 
 -- what acknowledges a WRITE is GOOD
 pub settled_as_good : (persists : Bool) (cdb : List ℕ) (own reply : Reply)
-    → Settles persists (acknowledges cdb own) own reply → Settles persists (is_good own.status) own reply
+    → SettlesReply persists (acknowledges cdb own) own reply → SettlesReply persists (is_good own.status) own reply
 settled_as_good persists cdb own reply settled = record {
   lasts = settled.lasts;
   reply_is = settled.reply_is;
@@ -71,7 +71,7 @@ settled_as_good persists cdb own reply settled = record {
 -- so a discard whose reply was settled again is as one that was settled once
 pub discarded_settled : (persists : Bool) (addr : Addr) (lba count : ℕ) (cdb : List ℕ) (first second : Reply)
     → DiscardedAtOneMoment persists addr lba count first
-    → Settles persists (acknowledges cdb first) first second
+    → SettlesReply persists (acknowledges cdb first) first second
     → DiscardedAtOneMoment persists addr lba count second
 discarded_settled persists addr lba count cdb first second discarded settled =
     let discards = discarded.discards in

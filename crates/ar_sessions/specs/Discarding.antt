@@ -10,7 +10,7 @@ use Rattle.ar_core.specs.Step.{addr_in}
 use Rattle.ar_history.specs.Kept.{KeptState, HistoryAgrees}
 use Rattle.ar_history.specs.Seat.{SeatState}
 use Rattle.ar_history.specs.Served.{DiscardsSectors}
-use Rattle.ar_sessions.specs.Port.{Settles}
+use Rattle.ar_sessions.specs.Port.{SettlesReply}
 use Rattle.ar_target.specs.declared.discard_port.BlockRun.{BlockRun}
 
 -- The array discarded the sectors, which is one step of it at most, and its own reply was settled: only GOOD, where
@@ -19,7 +19,7 @@ pub record DiscardsLasting (persists : Bool) (old : KeptState) (addr : Addr) (lb
     (new : KeptState) : Type 0 where
   pub own : Reply
   pub discards : DiscardsSectors old addr lba count own new
-  pub settles : Settles persists (is_good own.status) own reply
+  pub settles : SettlesReply persists (is_good own.status) own reply
 
 -- The sectors were discarded at one moment: there are a state of an array before it and one after it, in both of which
 -- each unit is what its history makes it. That these are states of the array behind the lock is not specified.

@@ -21,7 +21,7 @@ abbrev pub lasting_outcome : Bool → FlushOutcome → FlushOutcome
 lasting_outcome lasts outcome = if lasts then outcome else outcomes.ArrayFailed
 
 -- The array flushed the unit, which is one step of it, and this is the outcome of what it returned.
-pub record Destages (old : KeptState) (addr : Addr) (outcome : FlushOutcome) (new : KeptState) : Type 0 where
+pub record FlushesAs (old : KeptState) (addr : Addr) (outcome : FlushOutcome) (new : KeptState) : Type 0 where
   pub answer : UnitFlush
   pub destages : DestagesUnit old addr answer new
   pub outcome_is : outcome ≡ flush_outcome answer
@@ -31,7 +31,7 @@ pub record Destages (old : KeptState) (addr : Addr) (outcome : FlushOutcome) (ne
 pub record DestagedAtOneMoment (addr : Addr) (outcome : FlushOutcome) : Type 0 where
   pub old : KeptState
   pub new : KeptState
-  pub flushes : Destages old addr outcome new
+  pub flushes : FlushesAs old addr outcome new
 
 -- A commit followed a flush of this outcome: the answer is that outcome or, only where there is a store, that this has
 -- failed.

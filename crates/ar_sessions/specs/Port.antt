@@ -44,7 +44,7 @@ abbrev pub lasting_reply : Bool → Reply → Reply
 lasting_reply lasts reply = if lasts then reply else check internal_target_failure
 
 -- The array's own reply became this one: it is replaced at most where it acknowledges what a store has failed to keep.
-pub record Settles (persists acknowledged : Bool) (own reply : Reply) : Type 0 where
+pub record SettlesReply (persists acknowledged : Bool) (own reply : Reply) : Type 0 where
   pub lasts : Bool
   pub reply_is : reply ≡ lasting_reply lasts own
   pub failed : lasts ≡ false → (persists ≡ true) × (acknowledged ≡ true)
@@ -55,7 +55,7 @@ pub record AnswersLasting (stores persists : Bool) (old : KeptState) (before : S
     (cdb payload : List ℕ) (reply : Reply) (new : KeptState) (after : SeatState) : Type 0 where
   pub own : Reply
   pub answers : AnswersCommand stores old before lun cdb payload own new after
-  pub settles : Settles persists (acknowledges cdb own) own reply
+  pub settles : SettlesReply persists (acknowledges cdb own) own reply
 
 -- A host's command to a served array, which stores transcripts or doesn't and has a store or hasn't, was executed
 -- atomically: there are a state of an array before it and one after it, in both of which each unit is what its history

@@ -1,7 +1,7 @@
 // What a device server needs of a session's port beyond commands: that the cached blocks of a unit are written to the
 // disks.
 ghost use Rattle.std.specs.Prelude.{◌≡◌};
-ghost use Rattle.ar_sessions.specs.Flushing.{CommitsFlush, Destages, DestagedAtOneMoment, FlushesThenCommits, FlushesLun};
+ghost use Rattle.ar_sessions.specs.Flushing.{CommitsFlush, FlushesAs, DestagedAtOneMoment, FlushesThenCommits, FlushesLun};
 ghost use Rattle.ar_sessions.specs.Flushing.{flush_outcome, lasting_outcome};
 ghost use Rattle.ar_target.specs.declared.flush_port.FlushOutcome.TheVariants as outcomes;
 
@@ -39,7 +39,7 @@ impl<'a, R: Wait + Clock, A: ServedArray<L> + Drop, K: SeatDesk<L> + Drop, L: Le
     }
 }
 
-// Destages a unit of a host under the lock.
+// FlushesAs a unit of a host under the lock.
 fn flush_locked<R: Wait + Clock, A: ServedArray<L> + Drop, L: Ledger>(
     rt: &R,
     array: &Mutex<A>,
@@ -54,7 +54,7 @@ fn flush_locked<R: Wait + Clock, A: ServedArray<L> + Drop, L: Ledger>(
     flush_at(rt, array, Addr { host, lun })
 }
 
-// Destages the unit at an address under the lock, and commits under it after a pause in which others flush theirs.
+// FlushesAs the unit at an address under the lock, and commits under it after a pause in which others flush theirs.
 fn flush_at<R: Wait + Clock, A: ServedArray<L> + Drop, L: Ledger>(
     rt: &R,
     array: &Mutex<A>,
@@ -67,7 +67,7 @@ fn flush_at<R: Wait + Clock, A: ServedArray<L> + Drop, L: Ledger>(
     commit_locked(rt, array, flushed.outcome)
 }
 
-// Destages the unit at an address under the lock.
+// FlushesAs the unit at an address under the lock.
 fn flush_once<R: Wait, A: ServedArray<L> + Drop, L: Ledger>(
     rt: &R,
     array: &Mutex<A>,
@@ -78,9 +78,9 @@ fn flush_once<R: Wait, A: ServedArray<L> + Drop, L: Ledger>(
     flush_with::<A, L>(&mut array.lock(rt), addr)
 }
 
-// Destages the unit at an address. What was done is still to be committed.
+// FlushesAs the unit at an address. What was done is still to be committed.
 fn flush_with<A: ServedArray<L>, L: Ledger>(array: &mut A, addr: Addr) -> Flushed
-    ensures { Destages (A.state array.old) addr result.outcome (A.state array.new) }
+    ensures flushes { FlushesAs (A.state array.old) addr result.outcome (A.state array.new) }
 {
     let answer = array.flush_unit(addr);
     Flushed {

@@ -5,7 +5,7 @@ ghost use Rattle.ar_frames.specs.Frame.{IsReply};
 ghost use Rattle.ar_history.specs.History.{is_command};
 ghost use Rattle.ar_history.specs.Served.{acknowledges, asks_commit};
 ghost use Rattle.ar_sessions.specs.Desk.{receipt_for};
-ghost use Rattle.ar_sessions.specs.Port.{AnswersLasting, AsksArray, Settles, lasting_reply};
+ghost use Rattle.ar_sessions.specs.Port.{AnswersLasting, AsksArray, SettlesReply, lasting_reply};
 
 use crate::{Desk, Receipt, SeatDesk, SeatSlot};
 use ar_disks::Host;
@@ -169,7 +169,7 @@ fn ask_locked<R: Wait + Clock, A: ServedArray<L> + Drop, L: Ledger>(
     }
 }
 
-// Settles the reply to a seat's command under the lock, after a pause in microseconds in which others send theirs.
+// SettlesReply the reply to a seat's command under the lock, after a pause in microseconds in which others send theirs.
 fn settle_later<R: Wait + Clock, A: ServedArray<L> + Drop, L: Ledger>(
     rt: &R,
     array: &Mutex<A>,
@@ -180,14 +180,14 @@ fn settle_later<R: Wait + Clock, A: ServedArray<L> + Drop, L: Ledger>(
 ) -> Reply
     requires { IsReply reply }
     ensures seat { seat.new ≡ seat.old }
-    ensures settles { Settles A.persists (acknowledges cdb.now reply) reply result }
+    ensures settles { SettlesReply A.persists (acknowledges cdb.now reply) reply result }
     ensures reply { IsReply result }
 {
     wait_for_others(rt, pause);
     settle_seat::<A, L>(&mut lock_soon(rt, array), seat, cdb, reply)
 }
 
-// Settles the reply to a command of a seat. A reply that waits for a commit has all commands of the seat in what lasts.
+// SettlesReply the reply to a command of a seat. A reply that waits for a commit has all commands of the seat in what lasts.
 fn settle_seat<A: ServedArray<L>, L: Ledger>(
     array: &mut A,
     seat: &mut Seat<L>,
@@ -198,7 +198,7 @@ fn settle_seat<A: ServedArray<L>, L: Ledger>(
     ensures same { A.state array.new ≡ A.state array.old }
     ensures seat { seat.new ≡ seat.old }
     ensures counted { seat.old.commands ≤ count_by is_command (A.state array.new).history }
-    ensures settles { Settles A.persists (acknowledges cdb.now reply) reply result }
+    ensures settles { SettlesReply A.persists (acknowledges cdb.now reply) reply result }
     ensures lasts { asks_commit cdb.now result ≡ true → A.lasts array.new }
     ensures reply { IsReply result }
 {
@@ -242,11 +242,11 @@ fn ask_with<A: ServedArray<L>, L: Ledger>(
     settle_now::<A, L>(array, cdb, reply)
 }
 
-/// Settles a reply, unless it waits for a commit.
+/// SettlesReply a reply, unless it waits for a commit.
 pub(crate) fn settle_now<A: ServedArray<L>, L: Ledger>(array: &mut A, cdb: &[u8; 16], reply: Reply) -> Asked
     requires { IsReply reply }
     ensures same { A.state array.new ≡ A.state array.old }
-    ensures settles { Settles A.persists (acknowledges cdb.now reply) reply result.reply }
+    ensures settles { SettlesReply A.persists (acknowledges cdb.now reply) reply result.reply }
     ensures lasts { result.pause ≡ None → asks_commit cdb.now result.reply ≡ true → A.lasts array.new }
     ensures reply { IsReply result.reply }
 {
@@ -275,7 +275,7 @@ fn pause_for<A: ServedArray<L>, L: Ledger>(
     }
 }
 
-/// Settles the reply to a command under the lock, after a pause in microseconds in which others send theirs.
+/// SettlesReply the reply to a command under the lock, after a pause in microseconds in which others send theirs.
 pub(crate) fn settle_locked<R: Wait + Clock, A: ServedArray<L> + Drop, L: Ledger>(
     rt: &R,
     array: &Mutex<A>,
@@ -284,7 +284,7 @@ pub(crate) fn settle_locked<R: Wait + Clock, A: ServedArray<L> + Drop, L: Ledger
     reply: Reply,
 ) -> Reply
     requires { IsReply reply }
-    ensures settles { Settles A.persists (acknowledges cdb.now reply) reply result }
+    ensures settles { SettlesReply A.persists (acknowledges cdb.now reply) reply result }
     ensures reply { IsReply result }
 {
     wait_for_others(rt, pause);
@@ -298,12 +298,12 @@ pub(crate) fn wait_for_others<R: Clock>(rt: &R, micros: u64) {
     }
 }
 
-// Settles the reply to a command: commits what was done, if it has to wait for that. Where the store has failed, the
+// SettlesReply the reply to a command: commits what was done, if it has to wait for that. Where the store has failed, the
 // reply is replaced.
 fn settle_with<A: ServedArray<L>, L: Ledger>(array: &mut A, cdb: &[u8; 16], reply: Reply) -> Reply
     requires { IsReply reply }
     ensures same { A.state array.new ≡ A.state array.old }
-    ensures settles { Settles A.persists (acknowledges cdb.now reply) reply result }
+    ensures settles { SettlesReply A.persists (acknowledges cdb.now reply) reply result }
     ensures lasts { asks_commit cdb.now result ≡ true → A.lasts array.new }
     ensures reply { IsReply result }
 {
