@@ -1,4 +1,5 @@
 """Contents that last: a store is created, filled, stopped, killed, filled up, damaged, and taken up again."""
+import concurrent.futures
 import fcntl
 import os
 import random
@@ -304,6 +305,53 @@ class Lasting(Stored):
         with open(os.path.join(self.store, "first.log"), "ab") as log:
             log.write(os.urandom(300))
         self.wants(self.host(self.takes_up(), 0).reads(1, 1).data, sector_of(1), "what was committed")
+
+
+class Shared(Stored):
+    """Commits that several hosts wait for."""
+
+    WRITES = 60
+    # A commit whose two syncs take as long as this each, in seconds, is put off until other hosts' WRITEs have come.
+    LONG = 0.001
+
+    def commits(self, server):
+        return int(server.sample("autoraid_store_commits_total"))
+
+    def sync(self):
+        """The least seconds that a sync takes where the store is."""
+        taken = []
+        with open(os.path.join(self.room, "synced"), "wb", buffering=0) as file:
+            for _ in range(10):
+                file.write(bytes(SECTOR))
+                begun = time.monotonic()
+                os.fdatasync(file.fileno())
+                taken.append(time.monotonic() - begun)
+        return min(taken)
+
+    def writes(self, host):
+        """Forced WRITEs one after another, each GOOD."""
+        for number in range(self.WRITES):
+            self.wants(host.asks(forced_write(number, 1), sector_of(number)).status, GOOD, f"WRITE {number}")
+
+    def test_hosts_share_commits(self):
+        self.creates()
+        server = self.takes_up(*[f"{number}:0:64" for number in range(4)], doors=("operator", "http"))
+        hosts = [self.host(server, number) for number in range(4)]
+        before = self.commits(server)
+        self.writes(hosts[0])
+        alone = self.commits(server)
+        self.wants(alone - before, self.WRITES, "commits of a host that is alone")
+        with concurrent.futures.ThreadPoolExecutor(4) as pool:
+            list(pool.map(self.writes, hosts))
+        shared, every = self.commits(server) - alone, 4 * self.WRITES
+        most = every * 19 // 20 if self.sync() > self.LONG else every
+        self.holds(shared <= most, f"at most {most} commits for {every} WRITEs", shared)
+        wanted = b"".join(map(sector_of, range(self.WRITES)))
+        server.kill()
+        server = self.takes_up()
+        for number in range(4):
+            self.wants(self.host(server, number).reads(0, self.WRITES).data, wanted, f"host {number} after a kill")
+        self.stops(server)
 
 
 class Refused(Stored):
