@@ -11,7 +11,7 @@ import subprocess
 import tempfile
 import time
 
-from tests.harness import CHECK, GOOD, PATIENCE, Case, Server, connected, program, ran, waited
+from tests.harness import CHECK, GOOD, PATIENCE, Case, Server, connected, program, ran, waited, write_10
 from tests.test_metrics import SAMPLE
 
 SECTOR = 512
@@ -311,40 +311,33 @@ class Shared(Stored):
     """Commits that several hosts wait for."""
 
     WRITES = 60
-    # A commit whose two syncs take as long as this each, in seconds, is put off until other hosts' WRITEs have come.
-    LONG = 0.001
+    # A commit that takes as long as this, in seconds, is put off until other hosts' WRITEs have come.
+    LONG = 0.003
 
     def commits(self, server):
         return int(server.sample("autoraid_store_commits_total"))
 
-    def sync(self):
-        """The least seconds that a sync takes where the store is."""
-        taken = []
-        with open(os.path.join(self.room, "synced"), "wb", buffering=0) as file:
-            for _ in range(10):
-                file.write(bytes(SECTOR))
-                begun = time.monotonic()
-                os.fdatasync(file.fileno())
-                taken.append(time.monotonic() - begun)
-        return min(taken)
-
-    def writes(self, host):
-        """Forced WRITEs one after another, each GOOD."""
+    def writes(self, host, block=forced_write):
+        """WRITEs one after another, each GOOD, and the seconds of one."""
+        begun = time.monotonic()
         for number in range(self.WRITES):
-            self.wants(host.asks(forced_write(number, 1), sector_of(number)).status, GOOD, f"WRITE {number}")
+            self.wants(host.asks(block(number, 1), sector_of(number)).status, GOOD, f"WRITE {number}")
+        return (time.monotonic() - begun) / self.WRITES
 
     def test_hosts_share_commits(self):
         self.creates()
         server = self.takes_up(*[f"{number}:0:64" for number in range(4)], doors=("operator", "http"))
         hosts = [self.host(server, number) for number in range(4)]
+        plain = self.writes(hosts[0], write_10)
+        self.wants(hosts[0].asks(forced_write(0, 1), sector_of(0)).status, GOOD, "a WRITE that commits what waits")
         before = self.commits(server)
-        self.writes(hosts[0])
+        forced = self.writes(hosts[0])
         alone = self.commits(server)
         self.wants(alone - before, self.WRITES, "commits of a host that is alone")
         with concurrent.futures.ThreadPoolExecutor(4) as pool:
             list(pool.map(self.writes, hosts))
         shared, every = self.commits(server) - alone, 4 * self.WRITES
-        most = every * 19 // 20 if self.sync() > self.LONG else every
+        most = every * 19 // 20 if forced - plain > self.LONG else every
         self.holds(shared <= most, f"at most {most} commits for {every} WRITEs", shared)
         wanted = b"".join(map(sector_of, range(self.WRITES)))
         server.kill()

@@ -56,13 +56,13 @@ enum Failure {
     Final,
 }
 
-/// A commit is put off by this part of what the last one took, in microseconds at most, and not at all where that is
-/// less than a thread takes to sleep and be woken.
-const PAUSE_PART: u64 = 16;
+/// While several hosts write, a commit is put off by this part of what the last one took, between these microseconds: in
+/// that time the others' WRITEs come, which wait for the array while a commit is made.
+const PAUSE_PART: u64 = 8;
+
+const LEAST_PAUSE: u64 = 50;
 
 const MOST_PAUSE: u64 = 1_000;
-
-const LEAST_PAUSE: u64 = 100;
 
 /// The most pieces of a checkpoint in a row.
 const MOST_PIECES: u32 = 64;
@@ -88,8 +88,11 @@ pub struct DurableArray<'a, D: Disk, L: Ledger, M: Media, R> {
     policy: CommitPolicy,
     // When a commit was made last.
     committed: Option<Instant>,
-    // Microseconds for which the next commit is put off, so that hosts share it.
+    // Microseconds for which the next commit is put off, if hosts share it.
     pause: u64,
+    // The host that wrote last, and whether it was another one before.
+    writer: Option<Host>,
+    is_shared: bool,
     // How the last commit failed, if it did, which was logged then.
     failure: Option<Failure>,
     // The length of the log at which a checkpoint begins.
@@ -146,7 +149,9 @@ impl<'a, D: Disk, L: Ledger, M: Media, R> DurableArray<'a, D, L, M, R> {
             head,
             policy,
             committed: None,
-            pause: 0,
+            pause: LEAST_PAUSE,
+            writer: None,
+            is_shared: false,
             failure: None,
             longest,
             turns: 0,
@@ -203,9 +208,10 @@ impl<'a, D: Disk, L: Ledger, M: Media, R> DurableArray<'a, D, L, M, R> {
         is_acknowledged(cdb, reply) && (is_forced(cdb) || self.policy.always)
     }
 
-    /// Returns for how many microseconds a commit is put off, so that others share it: a small part of what it takes.
+    /// Returns for how many microseconds a commit is put off, so that others share it: a small part of what it takes, and
+    /// nothing while one host writes alone.
     pub fn commit_pause(&self) -> u64 {
-        self.pause
+        if self.is_shared { self.pause } else { 0 }
     }
 
     /// Returns how the store is.
@@ -240,6 +246,9 @@ impl<'a, D: Disk + Drop, L: Ledger, M: Media, R> DurableArray<'a, D, L, M, R> {
         let reply = self.counted.host(seat, lun, cdb, payload);
         let noted = is_noted(self.counted.array(), &cdb, &reply);
         note_if(&mut self.store, noted, encoding);
+        if noted {
+            self.is_shared = self.writer.replace(addr.host) != Some(addr.host);
+        }
         reply
     }
 
@@ -482,13 +491,12 @@ fn log_change<R: Log>(rt: &R, before: Option<Failure>, is_final: bool, cause: Lo
 // The microseconds for which a commit is put off after one that began then.
 fn pause_after<R: Clock>(rt: &R, began: Option<Instant>) -> u64 {
     let Some(since) = began else {
-        return 0;
+        return LEAST_PAUSE;
     };
-    let Ok(elapsed) = since.elapsed(rt) else {
-        return 0;
-    };
-    let pause = (elapsed.as_micros() as u64 / PAUSE_PART).min(MOST_PAUSE);
-    if pause < LEAST_PAUSE { 0 } else { pause }
+    match since.elapsed(rt) {
+        Ok(elapsed) => (elapsed.as_micros() as u64 / PAUSE_PART).clamp(LEAST_PAUSE, MOST_PAUSE),
+        Err(_) => LEAST_PAUSE,
+    }
 }
 
 // The length at which a log of `len` bytes is replaced.
