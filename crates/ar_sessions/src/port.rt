@@ -243,7 +243,11 @@ fn ask_with<A: ServedArray<L>, L: Ledger>(
 }
 
 /// SettlesReply a reply, unless it waits for a commit.
-pub(crate) fn settle_now<A: ServedArray<L>, L: Ledger>(array: &mut A, cdb: &[u8; 16], reply: Reply) -> Asked
+pub(crate) fn settle_now<A: ServedArray<L>, L: Ledger>(
+    array: &mut A,
+    cdb: &[u8; 16],
+    reply: Reply,
+) -> Asked
     requires { IsReply reply }
     ensures same { A.state array.new ≡ A.state array.old }
     ensures settles { SettlesReply A.persists (acknowledges cdb.now reply) reply result.reply }
