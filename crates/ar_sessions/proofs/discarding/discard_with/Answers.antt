@@ -5,8 +5,8 @@ use Rattle.ar_history.specs.Served.{DiscardsSectors}
 use Rattle.ar_sessions.proofs.Discards.{discard_reply, settled_as_good}
 use Rattle.ar_sessions.proofs.discarding.discard_with.Goals as goal
 
-pub calls-settle_now-requires : goal.calls-settle_now-requires
-calls-settle_now-requires g c = discard_reply _ _ _ _ _ _ c.discard-reply.ensures
+pub settle_now-requires : goal.settle_now-requires
+settle_now-requires g c = discard_reply _ _ _ _ _ _ c.discard-reply.ensures
 
 pub returns-clause-discards : goal.returns-clause-discards
 returns-clause-discards g c =

@@ -4,8 +4,8 @@ use Rattle.ar_history.specs.Served.{AnswersCommand}
 use Rattle.ar_sessions.proofs.Replies.{served_reply}
 use Rattle.ar_sessions.proofs.port.ask_with.Goals as goal
 
-pub calls-settle_now-requires : goal.calls-settle_now-requires
-calls-settle_now-requires g c =
+pub settle_now-requires : goal.settle_now-requires
+settle_now-requires g c =
     let state = g.A.ServedArray.state in
     served_reply (state c.lend.new.array).array (state c.ask-reply.new.self).array c.args.seat.now.host c.args.lun
     c.args.cdb.now c.args.payload c.ask-reply.result
