@@ -8,7 +8,7 @@ _autoraid() {
         --audit) words="full off" ;;
         --sync) words="flush always" ;;
         --store) COMPREPLY=($(compgen -d -- "$word")); return ;;
-        --picture) COMPREPLY=($(compgen -f -- "$word")); return ;;
+        --operator | --picture) COMPREPLY=($(compgen -f -- "$word")); return ;;
         *)
             case ${COMP_WORDS[1]} in
                 run) words="$made --cache --picture" ;;

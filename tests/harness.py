@@ -188,9 +188,14 @@ def free_port():
             return port
 
 
-def connected(port):
-    """A connection to a port of this machine."""
-    link = socket.create_connection(("127.0.0.1", port), timeout=PATIENCE)
+def connected(door):
+    """A connection to a port of this machine, or to the Unix socket at a path."""
+    if isinstance(door, str):
+        link = socket.socket(socket.AF_UNIX)
+        link.settimeout(PATIENCE)
+        link.connect(door)
+        return link
+    link = socket.create_connection(("127.0.0.1", door), timeout=PATIENCE)
     link.setsockopt(socket.IPPROTO_TCP, socket.TCP_NODELAY, 1)
     return link
 
@@ -212,9 +217,9 @@ def rest_of(link):
     return said
 
 
-def answered(port, sent):
+def answered(door, sent):
     """What a client that sends these bytes is answered, until the connection is closed."""
-    with connected(port) as link:
+    with connected(door) as link:
         with contextlib.suppress(OSError):
             link.sendall(sent)
             link.shutdown(socket.SHUT_WR)
@@ -302,8 +307,8 @@ class Operator:
     # A line after each one that is asked: its answer says that the one before is whole.
     AFTER, AFTER_IT = "that-was-all", "fault: unknown word\n"
 
-    def __init__(self, port):
-        self.link = connected(port)
+    def __init__(self, door):
+        self.link = connected(door)
         self.lines = self.link.makefile("r", encoding="ascii", newline="\n")
 
     def asks(self, line):
@@ -445,7 +450,8 @@ def get(port, path, method="GET"):
 
 
 class Server(Running):
-    """`autoraid serve` with these words, at free ports: that of hosts, and by name those of `doors`.
+    """`autoraid serve` with these words, at free ports: that of hosts, and by name those of `doors`, which may also
+    have them, or the path of a Unix socket: {"operator": path}.
 
     It compares transcripts with the history, unless `audit` is "off". With None the option is left out: `ending` is
     then the last line of the report that is wanted.
@@ -457,7 +463,8 @@ class Server(Running):
 
     def __init__(self, *words, doors=("operator",), audit="full", ending=None, before=(), **how):
         self.ending = ending or ("closed ok" if audit == "full" else "closed")
-        self.port, self.doors = free_port(), {door: free_port() for door in doors}
+        self.port = free_port()
+        self.doors = doors if isinstance(doors, dict) else {door: free_port() for door in doors}
         options = [word for door in doors for word in (self.DOORS[door], self.doors[door])]
         options += ["--audit", audit] if audit else []
         line = [self.PROGRAM or program("autoraid"), "serve", "--port", self.port, *options]

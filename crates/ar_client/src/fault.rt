@@ -7,7 +7,7 @@ use thiserror::Error;
 /// Why the program exits with a status of 1. A refused command line has a fault of its own.
 #[derive(Clone, Copy, Debug, PartialEq, Eq, Error)]
 pub enum Failure {
-    /// Nothing listens at the port.
+    /// Nothing listens at the port or the path.
     #[error("connect fault")]
     Connect,
     /// A session of this host is open.

@@ -1,5 +1,6 @@
 //! A host or an operator of a served array. As a host, `ar_client` sends the commands of a script on standard input to
-//! the server over TCP, and prints the answers as `autoraid run` does; as an operator it sends the lines as they are.
+//! the server over TCP, and prints the answers as `autoraid run` does; as an operator it sends the lines as they are,
+//! also to a Unix socket.
 #![tactic(auto)]
 
 mod client;
@@ -7,7 +8,7 @@ mod fault;
 mod operator;
 
 use ar_cli::{end_with, fail, words_of};
-use ar_command_line::{Account, UsageFault, account_in};
+use ar_command_line::{Account, OperatorDoor, UsageFault, account_in};
 use ar_disks::Host;
 use ar_frames::Linked;
 use client::Client;
@@ -16,6 +17,8 @@ use operator::operate;
 use std::alloc::Global;
 use std::io::{self, BufReader, Read, Write};
 use std::net::{Net, TcpListener, TcpStream};
+use std::os::fd::OwnedFd;
+use std::os::unix::net::UnixStream;
 use std::process::ExitCode;
 use std::thread::Threads;
 use std::time::Duration;
@@ -28,8 +31,8 @@ fn main(rt: HostRuntime) -> ExitCode {
     let done = match account(&rt) {
         Ok(Account::Shown(text)) => print!(rt; "{text}").map_err(|_| Failure::Write),
         Ok(Account::Host { host, port }) => run(&rt, alloc, host, port, rt.stdin(), rt.stdout()),
-        Ok(Account::Operator { port }) => {
-            run_operator(&rt, alloc, port, rt.stdin(), rt.stdout())
+        Ok(Account::Operator { door }) => {
+            run_operator(&rt, alloc, &door, rt.stdin(), rt.stdout())
         }
         Err(fault) => return fail(&rt, &fault),
     };
@@ -65,11 +68,25 @@ fn run_operator<
     R: Threads + Net<Listener = TcpListener, Stream = TcpStream>,
     I: Read + Send + Drop + 'static,
     O: Write + Drop,
->(rt: &R, alloc: Global, port: u16, input: I, output: O) -> Result<(), Failure> {
-    let Ok(stream) = TcpStream::connect(rt, ("127.0.0.1", port)) else {
+>(rt: &R, alloc: Global, door: &OperatorDoor, input: I, output: O) -> Result<(), Failure> {
+    let Ok(stream) = connect_operator(rt, door) else {
         return Err(Failure::Connect);
     };
     operate(rt, alloc, stream, input, output)
+}
+
+// A connection to the operators' door. At a Unix socket it has the same calls, by its descriptor.
+fn connect_operator<R: Net<Listener = TcpListener, Stream = TcpStream>>(
+    rt: &R,
+    door: &OperatorDoor,
+) -> io::Result<TcpStream> {
+    match door {
+        OperatorDoor::Port(port) => TcpStream::connect(rt, ("127.0.0.1", *port)),
+        OperatorDoor::Path(path) => {
+            let stream = UnixStream::connect(rt, path.as_str())?;
+            Ok(TcpStream::from(OwnedFd::from(stream)))
+        }
+    }
 }
 
 // A connection to a port of 127.0.0.1, without Nagle's delay; replies are read through a buffer, and a read that waits

@@ -5,6 +5,7 @@ ghost use Rattle.std.specs.String.{string_bytes};
 use crate::array_forms::command;
 use crate::command::{Parsed, parse};
 use crate::fault::{UsageFault, bad_value};
+use crate::operator::{OperatorDoor, door_named};
 use ar_cli::CommandLineFault;
 use ar_disks::{Addr, Geometry, Host};
 use ar_numbers::{number, sectors};
@@ -78,7 +79,7 @@ pub struct ServeOptions {
     pub log: bool,
     pub port: u16,
     pub sessions: Option<u8>,
-    pub operator: Option<u16>,
+    pub operator: Option<OperatorDoor>,
     pub http: Option<u16>,
     /// A name by which HTTP clients may ask for the service, beside those of 127.0.0.1.
     pub http_host: Option<String>,
@@ -310,11 +311,11 @@ fn name_of(alloc: Global, options: &ArgMatches<'_>) -> Result<String, UsageFault
 fn serve_options_of(alloc: Global, options: &ArgMatches<'_>) -> Result<ServeOptions, UsageFault> {
     let array = array_of(alloc, options)?;
     let sessions = options.get_one("sessions");
-    let operator = options.get_one("operator");
+    let operator = operator_of(alloc, options)?;
     if sessions.is_none() && operator.is_none() {
         return Err(bad_value(
             alloc,
-            "one of --sessions COUNT and --operator PORT is required",
+            "one of --sessions COUNT and --operator PORT|PATH is required",
         ));
     }
     let audit = audit_of(alloc, options)?;
@@ -336,6 +337,17 @@ fn serve_options_of(alloc: Global, options: &ArgMatches<'_>) -> Result<ServeOpti
         units,
         words,
     })
+}
+
+// Where operators connect, if any may.
+fn operator_of(
+    alloc: Global,
+    options: &ArgMatches<'_>,
+) -> Result<Option<OperatorDoor>, UsageFault> {
+    match options.get_str("operator") {
+        Some(word) => Ok(Some(door_named(alloc, word)?)),
+        None => Ok(None),
+    }
 }
 
 // The name by which HTTP clients may ask for the service.

@@ -110,10 +110,10 @@ static PORTS: [Form; 6] = [
     ),
     Form(
         "operator",
-        "PORT",
-        PORT,
+        "PORT|PATH",
+        Value::Text,
         Otherwise::Nothing,
-        "The port for operators, whose stop ends the service",
+        "The port or Unix socket for operators, whose stop ends the service",
     ),
     Form(
         "http",
@@ -223,9 +223,10 @@ static IMPORT_EXAMPLE: &str =
     Example:\n  autoraid import --store /srv/array 0:0 < image";
 
 static SERVE_EXAMPLE: &str =
-    "All ports are those of 127.0.0.1. One of --sessions and --operator is required, since nothing\n\
-    else ends the service. --audit is full with --sessions, unless --iscsi or --store is given,\n\
-    and off otherwise. The array of a store has the store's own geometry, disks and extents.\n\n\
+    "All ports are those of 127.0.0.1; a Unix socket has mode 600. One of --sessions and --operator is\n\
+    required, since nothing else ends the service. --audit is full with --sessions, unless --iscsi or\n\
+    --store is given, and off otherwise. The array of a store has the store's own geometry, disks and\n\
+    extents.\n\n\
     Example:\n  \
     autoraid serve --port 7117 --operator 7118 --http 7119 --geometry paper --extents 40 0:0:32M";
 

@@ -2,19 +2,20 @@
 use crate::command::{Parsed, parse};
 use crate::fault::{UsageFault, bad_value};
 use crate::form::{Form, Otherwise, Value, with_forms};
+use crate::operator::{OperatorDoor, door_named};
 use ar_cli::VERSION;
 use ar_disks::Host;
 use clap::{ArgMatches, Command};
 use std::alloc::{AllocError, Global};
 use std::convert::AsStr;
 
-/// Whom the client speaks for, and the port of the door.
+/// Whom the client speaks for, and the door.
 #[derive(Drop)]
 pub enum Account {
     /// The help or the version is printed.
     Shown(String),
     Host { host: Host, port: u16 },
-    Operator { port: u16 },
+    Operator { door: OperatorDoor },
 }
 
 static FORMS: [Form; 3] = [
@@ -22,7 +23,7 @@ static FORMS: [Form; 3] = [
         "port",
         "PORT",
         Value::Number(1, 65_535),
-        Otherwise::Refused,
+        Otherwise::Nothing,
         "The server's port for hosts or, with --operator, for operators",
     ),
     Form(
@@ -34,25 +35,22 @@ static FORMS: [Form; 3] = [
     ),
     Form(
         "operator",
-        "OPERATOR",
-        Value::Flag,
+        "PORT|PATH",
+        Value::OptionalText,
         Otherwise::Nothing,
-        "Give orders as an operator",
+        "Give orders as an operator, at --port or at this port or Unix socket",
     ),
 ];
 
 static EXAMPLE: &str = "It reads its lines from standard input, and prints the answers:\n\n  \
     printf 'write 0 0 1 1 AA\\nread 0 0 0 2\\n' | ar_client --port 7117 --host 0\n  \
-    echo health | ar_client --port 7118 --operator";
+    echo health | ar_client --operator 7118";
 
 /// Reads the words of a command line, the program's name first.
 pub fn account_in<S: AsStr>(alloc: Global, words: &[S]) -> Result<Account, UsageFault> {
     match parse(alloc, command(alloc)?, words)? {
         Parsed::Shown(text) => Ok(Account::Shown(text)),
-        Parsed::Matches(matches) => match account_of(&matches) {
-            Some(account) => Ok(account),
-            None => Err(bad_value(alloc, "one of --host HOST and --operator is wanted")),
-        },
+        Parsed::Matches(matches) => account_of(alloc, &matches),
     }
 }
 
@@ -65,14 +63,36 @@ fn command<'a>(alloc: Global) -> Result<Command<'a>, AllocError> {
 }
 
 // A host, or else an operator.
-fn account_of(matches: &ArgMatches<'_>) -> Option<Account> {
-    let port = matches.get_one("port")?;
-    match (matches.get_one("host"), matches.get_flag("operator")) {
-        (Some(number), false) => Some(Account::Host {
-            host: Host::new(number)?,
-            port,
+fn account_of(alloc: Global, matches: &ArgMatches<'_>) -> Result<Account, UsageFault> {
+    let port = matches.get_one("port");
+    match (matches.get_one("host"), matches.get_str("operator")) {
+        (Some(number), None) => host_of(alloc, number, port),
+        (None, Some(word)) => Ok(Account::Operator {
+            door: door_of(alloc, word, port)?,
         }),
-        (None, true) => Some(Account::Operator { port }),
-        _ => None,
+        _ => Err(bad_value(alloc, "one of --host HOST and --operator is wanted")),
+    }
+}
+
+fn host_of(alloc: Global, number: u8, port: Option<u16>) -> Result<Account, UsageFault> {
+    match (Host::new(number), port) {
+        (Some(host), Some(port)) => Ok(Account::Host { host, port }),
+        _ => Err(bad_value(alloc, "'--host <HOST>' requires '--port <PORT>'")),
+    }
+}
+
+// The operators' door: a port or a path that --operator has, or else the port.
+fn door_of(alloc: Global, word: &str, port: Option<u16>) -> Result<OperatorDoor, UsageFault> {
+    match port {
+        Some(port) if word.is_empty() => Ok(OperatorDoor::Port(port)),
+        Some(_) => Err(bad_value(
+            alloc,
+            "'--operator <PORT|PATH>' cannot be used with '--port <PORT>'",
+        )),
+        None if word.is_empty() => Err(bad_value(
+            alloc,
+            "'--operator' requires a port or a path, or '--port <PORT>'",
+        )),
+        None => door_named(alloc, word),
     }
 }

@@ -12,6 +12,8 @@ pub enum Value {
     Name(&'static [&'static str]),
     /// Any text.
     Text,
+    /// Any text, or nothing: then it is empty.
+    OptionalText,
     /// Nothing.
     Flag,
     /// It is no option, but the word after them.
@@ -76,6 +78,7 @@ fn with_value(argument: Arg<'_>, value: Value) -> Arg<'_> {
         // The row's help says what each name means, which the bare list would repeat.
         Value::Name(names) => argument.value_parser(names).hide_possible_values(true),
         Value::Flag => argument.action(ArgAction::SetTrue),
+        Value::OptionalText => argument.num_args(0..=1).default_missing_value(""),
         Value::Text | Value::Word | Value::Words => argument,
     }
 }

@@ -8,6 +8,7 @@ mod client;
 mod command;
 mod fault;
 mod form;
+mod operator;
 
 pub use array::{
     ArrayOptions, Audit, CreateOptions, Order, ServeOptions, ShapeOptions, StoreOptions,
@@ -15,3 +16,4 @@ pub use array::{
 };
 pub use client::{Account, account_in};
 pub use fault::UsageFault;
+pub use operator::OperatorDoor;

@@ -19,5 +19,8 @@ pub use initiators::{IscsiPort, Targets};
 pub use monitoring::Monitor;
 pub use operators::{MOST_OPERATORS, PendingStops};
 pub use runtime::ServiceRuntime;
-pub use service::{Closing, HttpPort, NewUnit, Plan, ServiceFault, TcpStops, serve, serve_lasting};
+pub use service::{
+    Closing, HttpPort, NewUnit, OperatorListener, Plan, ServiceFault, TcpStops, serve,
+    serve_lasting,
+};
 pub use watching::Watch;

@@ -21,12 +21,13 @@ use ar_sessions::{
 use ar_status::EventLog;
 use std::alloc::Global;
 use std::hash::RandomState;
+use std::os::unix::net::UnixListener;
 use std::sync::Mutex;
 use std::sync::atomic::{AtomicBool, Ordering};
 use std::sync::ledger::{Blank, Ledger};
 use std::time::Instant;
 
-/// Operators over TCP whose `stop` was accepted.
+/// Operators whose `stop` was accepted.
 pub type TcpStops<'a, R> = PendingStops<TcpReader<'a, R>, TcpWriter<'a, R>>;
 
 /// The seconds in which an operator's first line has to come, and those for which the operator may be silent later.
@@ -61,8 +62,17 @@ pub struct HttpPort {
     pub keys: RandomState,
 }
 
+/// Where operators connect.
+#[derive(Drop)]
+pub enum OperatorListener {
+    /// The TCP port to listen at, on 127.0.0.1.
+    Port(u16),
+    /// A Unix socket that listens.
+    Socket(UnixListener),
+}
+
 /// What a service is to do.
-#[derive(Clone, Copy)]
+#[derive(Drop)]
 pub struct Plan<'a> {
     /// The units to create before listening, in order.
     pub units: &'a [NewUnit],
@@ -70,8 +80,8 @@ pub struct Plan<'a> {
     pub port: u16,
     /// The number of hosts' sessions. None: any number, until an operator's `stop`.
     pub sessions: Option<u8>,
-    /// The TCP port to listen at for operators, on 127.0.0.1.
-    pub operator: Option<u16>,
+    /// Where operators connect, if any may.
+    pub operator: Option<OperatorListener>,
     /// The TCP port to listen at for HTTP clients, on 127.0.0.1.
     pub http: Option<HttpPort>,
     /// A name by which HTTP clients may ask for the service, beside those of 127.0.0.1.
@@ -87,7 +97,7 @@ pub struct Plan<'a> {
 pub enum ServiceFault {
     /// The unit of this number in the plan, from 0, can't be created.
     Unit(usize, Refusal),
-    /// Listening at a port failed.
+    /// Listening at a port or a path failed.
     Listen,
     /// Standard output can't be written.
     Write,
@@ -297,9 +307,10 @@ fn serve_plan<
     stop: &'s AtomicBool,
     plan: Plan<'_>,
 ) -> (TcpStops<'s, R>, Result<(), ServiceFault>) {
+    let port = plan.port;
     match open_doors(rt, operated.alloc, stop, plan) {
         Ok((hosts, doors)) => {
-            let announcer = Announcer::new(rt, plan.port, stop);
+            let announcer = Announcer::new(rt, port, stop);
             let (stops, served) = run_operated(operated, hosts, doors, &announcer);
             (stops, announcer.judge(served))
         }
@@ -314,17 +325,18 @@ fn open_doors<'s, R: ServiceRuntime + Sync>(
     stop: &'s AtomicBool,
     plan: Plan<'_>,
 ) -> Result<(TcpDoor<'s, R>, SideDoors<TcpDoor<'s, R>>), ServiceFault> {
-    let hosts = open_hosts(rt, alloc, stop, plan)?;
-    let operators = match plan.operator {
-        Some(port) => Some(open_operators(rt, alloc, port, stop)?),
+    let hosts = open_hosts(rt, alloc, stop, &plan)?;
+    let initiators = match plan.iscsi {
+        Some(iscsi) => Some((open_initiators(rt, alloc, stop, iscsi.port, &plan)?, iscsi)),
         None => None,
     };
     let watchers = match plan.http {
         Some(http) => Some((open_watchers(rt, alloc, http.port, stop)?, http.keys)),
         None => None,
     };
-    let initiators = match plan.iscsi {
-        Some(iscsi) => Some((open_initiators(rt, alloc, stop, iscsi.port, plan)?, iscsi)),
+    let Plan { operator, .. } = plan;
+    let operators = match operator {
+        Some(listener) => Some(open_operators(rt, alloc, listener, stop)?),
         None => None,
     };
     Ok((
@@ -342,7 +354,7 @@ fn open_hosts<'s, R: ServiceRuntime>(
     rt: &'s R,
     alloc: Global,
     stop: &'s AtomicBool,
-    plan: Plan<'_>,
+    plan: &Plan<'_>,
 ) -> Result<TcpDoor<'s, R>, ServiceFault> {
     let hosts = TcpDoor::listen(rt, alloc, plan.port, ANY_NUMBER)?;
     let hosts = hosts.limited(Protocol::Sessions, plan.timeouts, Some(stop));
@@ -354,7 +366,7 @@ fn open_hosts<'s, R: ServiceRuntime>(
 fn open_operators<'s, R: ServiceRuntime>(
     rt: &'s R,
     alloc: Global,
-    port: u16,
+    listener: OperatorListener,
     stop: &'s AtomicBool,
 ) -> Result<TcpDoor<'s, R>, ServiceFault> {
     let timeouts = Timeouts {
@@ -362,7 +374,10 @@ fn open_operators<'s, R: ServiceRuntime>(
         idle: Some(OPERATOR_IDLE),
         ..Timeouts::NONE
     };
-    let door = TcpDoor::listen(rt, alloc, port, ANY_NUMBER)?;
+    let door = match listener {
+        OperatorListener::Port(port) => TcpDoor::listen(rt, alloc, port, ANY_NUMBER)?,
+        OperatorListener::Socket(socket) => TcpDoor::at_socket(rt, alloc, socket, ANY_NUMBER)?,
+    };
     let door = door.limited(Protocol::Lines, timeouts, Some(stop));
     let door = door.crowded(MOST_OPERATORS as usize, None);
     door.map_err(|_| ServiceFault::NoMemory)
@@ -390,7 +405,7 @@ fn open_initiators<'s, R: ServiceRuntime>(
     alloc: Global,
     stop: &'s AtomicBool,
     port: u16,
-    plan: Plan<'_>,
+    plan: &Plan<'_>,
 ) -> Result<TcpDoor<'s, R>, ServiceFault> {
     let timeouts = Timeouts {
         login: plan.timeouts.login,

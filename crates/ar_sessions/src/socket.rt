@@ -1,6 +1,5 @@
-// The two streams of a connection over TCP. Each waits in slices: between them it looks at its limits and at the stop
-// flag, so that no peer holds a session for longer than the limits say. A limit that is reached is a fault of the
-// stream.
+// The two streams of a connection. Each waits in slices: between them it looks at its limits and at the stop flag, so
+// that no peer holds a session for longer than the limits say. A limit that is reached is a fault of the stream.
 use crate::limits::{Greeting, greeting_after, session_limit};
 use crate::tcp::{Protocol, Timeouts};
 use ar_frames::{PairWrite, Progress};
@@ -103,7 +102,6 @@ impl<'a, R: Clock> SocketReader<'a, R> {
         limits: Limits<'a>,
         progress: &Arc<Progress>,
     ) -> io::Result<(SocketReader<'a, R>, SocketWriter<'a, R>)> {
-        stream.set_nodelay(true)?;
         stream.set_read_timeout(Some(Duration::from_millis(SLICE)))?;
         stream.set_write_timeout(Some(Duration::from_millis(SLICE)))?;
         let opened = Instant::now(rt)?;

@@ -1,9 +1,10 @@
-// Connections over TCP. A door listens at 127.0.0.1, so that only this machine can connect, and stops listening once no
-// connection is left to come.
+// Connections over TCP, and over Unix sockets. A door listens at 127.0.0.1 or at a path, so that only this machine can
+// connect, and stops listening once no connection is left to come.
 ghost use Rattle.std.specs.Prelude.{◌≡◌, ◌<◌, ◌+◌, IfOk, true, ⊤};
 
 use crate::Door;
 use crate::crowd::Crowd;
+use crate::listener::{Listener, PAUSE};
 use crate::refusals::Refusals;
 use crate::socket::{Limits, SocketReader, SocketWriter};
 use ar_frames::{Linked, SessionCount};
@@ -12,13 +13,13 @@ use std::alloc::Global;
 use std::io::{self, BufReader, ErrorKind};
 use std::marker::Model;
 use std::net::{Net, TcpListener, TcpStream};
-use std::os::fd::OwnedFd;
+use std::os::unix::net::UnixListener;
 use std::sync::Arc;
 use std::sync::atomic::AtomicBool;
 use std::thread;
 use std::time::{Clock, Duration};
 
-/// The port can't be listened at: another program has it, or the system refuses it.
+/// The port or the path can't be listened at: another program has it, or the system refuses it.
 #[derive(Clone, Copy, Debug, PartialEq, Eq)]
 pub struct ListenFault;
 
@@ -59,16 +60,13 @@ pub const ANY_NUMBER: usize = usize::MAX;
 /// Bytes that a session reads ahead, so that a small frame takes one system call.
 const READ_AHEAD: usize = 8_192;
 
-/// Milliseconds that a door waits for a connection before it looks at the stop flag, and after an accept that failed.
-const PAUSE: u64 = 100;
-
-/// A door to TCP connections at a port of 127.0.0.1.
+/// A door to connections at a port of 127.0.0.1, or at a Unix socket.
 #[derive(Drop)]
 pub struct TcpDoor<'a, R: Clock + Log> {
     rt: &'a R,
     alloc: Global,
     // None: no connection is left to come, or the door is closed.
-    listener: Option<TcpListener>,
+    listener: Option<Listener>,
     left: usize,
     limits: Limits<'a>,
     crowd: Crowd,
@@ -104,7 +102,33 @@ impl<'a, R: Clock + Log + Net<Listener = TcpListener, Stream = TcpStream>> TcpDo
     ) -> Result<TcpDoor<'a, R>, ListenFault>
         ensures { IfOk result (λ door. door ≡ sessions) }
     {
-        match listener_at(rt, port) {
+        TcpDoor::at(rt, alloc, Listener::at_port(rt, port), sessions)
+    }
+}
+
+impl<'a, R: Clock + Log> TcpDoor<'a, R> {
+    /// A door at a Unix socket that listens, for `sessions` connections, or `ANY_NUMBER`.
+    pub fn at_socket(
+        rt: &'a R,
+        alloc: Global,
+        socket: UnixListener,
+        sessions: usize,
+    ) -> Result<TcpDoor<'a, R>, ListenFault>
+        ensures { IfOk result (λ door. door ≡ sessions) }
+    {
+        TcpDoor::at(rt, alloc, Listener::of_socket(socket), sessions)
+    }
+
+    // A door without limits at a listener, if there is one.
+    fn at(
+        rt: &'a R,
+        alloc: Global,
+        listener: io::Result<Listener>,
+        sessions: usize,
+    ) -> Result<TcpDoor<'a, R>, ListenFault>
+        ensures { IfOk result (λ door. door ≡ sessions) }
+    {
+        match listener {
             Ok(listener) => Ok(TcpDoor {
                 rt,
                 alloc,
@@ -117,9 +141,7 @@ impl<'a, R: Clock + Log + Net<Listener = TcpListener, Stream = TcpStream>> TcpDo
             Err(_) => Err(ListenFault),
         }
     }
-}
 
-impl<'a, R: Clock + Log> TcpDoor<'a, R> {
     /// The door with limits for the connections that it opens. Once `stop` is set they read no more, and it opens none.
     pub fn limited(
         self,
@@ -181,10 +203,10 @@ impl<'a, R: Clock + Log> TcpDoor<'a, R> {
         })
     }
 
-    /// The port at which it listens, if the system reports it.
+    /// The port at which it listens, if it has one, and the system reports it.
     pub fn port(&self) -> Option<u16> {
         match &self.listener {
-            Some(listener) => port_of(listener),
+            Some(listener) => listener.port(),
             None => None,
         }
     }
@@ -251,7 +273,7 @@ fn unless_refused<R: Clock + Log, T>(
 // closed.
 fn next_stream<R: Clock + Log>(
     rt: &R,
-    listener: &Option<TcpListener>,
+    listener: &Option<Listener>,
     limits: Limits<'_>,
     crowd: &mut Crowd,
 ) -> Option<TcpStream> {
@@ -283,17 +305,16 @@ fn next_stream<R: Clock + Log>(
 }
 
 // A connection at a listener. All doors but the operators' leave a descriptor, so that there is one for a `stop`.
-fn accept_at(listener: &TcpListener, protocol: Protocol) -> io::Result<TcpStream> {
+fn accept_at(listener: &Listener, protocol: Protocol) -> io::Result<TcpStream> {
     let _left = descriptor_left(listener, protocol)?;
-    let (stream, _) = listener.accept()?;
-    Ok(stream)
+    listener.accept()
 }
 
 // A descriptor that is taken while a door accepts, if it is to leave one.
-fn descriptor_left(listener: &TcpListener, protocol: Protocol) -> io::Result<Option<TcpStream>> {
+fn descriptor_left(listener: &Listener, protocol: Protocol) -> io::Result<Option<TcpStream>> {
     match protocol {
         Protocol::Lines => Ok(None),
-        Protocol::Sessions | Protocol::Http => Ok(Some(socket_of(listener)?)),
+        Protocol::Sessions | Protocol::Http => Ok(Some(listener.socket()?)),
     }
 }
 
@@ -322,26 +343,10 @@ fn read_ahead(protocol: Protocol) -> usize {
     }
 }
 
-// Listens at a port, by waits that are cut into slices: a wait that only a connection ended might never end, since a
-// queue that is full takes none. (A listener has no call for that; it heeds the read timeout of its socket.)
-fn listener_at<R: Net<Listener = TcpListener, Stream = TcpStream>>(
-    rt: &R,
-    port: u16,
-) -> io::Result<TcpListener> {
-    let listener = TcpListener::bind(rt, ("127.0.0.1", port))?;
-    socket_of(&listener)?.set_read_timeout(Some(Duration::from_millis(PAUSE)))?;
-    Ok(listener)
-}
-
-// Another handle of a listener's socket, with the calls of a stream.
-fn socket_of(listener: &TcpListener) -> io::Result<TcpStream> {
-    Ok(TcpStream::from(OwnedFd::from(listener.try_clone()?)))
-}
-
 // Counts the sessions at a listener, if their number is limited.
 fn counted(
     alloc: Global,
-    listener: &Option<TcpListener>,
+    listener: &Option<Listener>,
     sessions: Option<u8>,
 ) -> io::Result<Option<Arc<SessionCount>>> {
     let Some(listener) = listener else {
@@ -350,11 +355,6 @@ fn counted(
     let Some(most) = sessions else {
         return Ok(None);
     };
-    let count = SessionCount::new(u64::from(most), socket_of(listener)?);
+    let count = SessionCount::new(u64::from(most), listener.socket()?);
     Ok(Some(Arc::new(alloc, count)?))
-}
-
-fn port_of(listener: &TcpListener) -> Option<u16> {
-    let address = listener.local_addr().ok()?;
-    Some(address.port())
 }

@@ -1,7 +1,7 @@
 // From the options of the command line to what the libraries take.
 use ar_command_line::{ArrayOptions, ServeOptions, UnitOption};
 use ar_script::Setup;
-use ar_service::{HttpPort, IscsiPort, NewUnit, Plan};
+use ar_service::{HttpPort, IscsiPort, NewUnit, OperatorListener, Plan};
 use ar_sessions::Timeouts;
 use std::alloc::{AllocError, Global};
 use std::hash::RandomState;
@@ -35,13 +35,19 @@ impl Service {
         setup_of(self.options.array)
     }
 
-    /// The plan of the service, with these random numbers. `setup` is that of the array that is served.
-    pub fn plan(&self, setup: Setup, random: RandomNumbers) -> Plan<'_> {
+    /// The plan of the service, with these random numbers and this door for operators. `setup` is that of the array
+    /// that is served.
+    pub fn plan(
+        &self,
+        setup: Setup,
+        random: RandomNumbers,
+        operator: Option<OperatorListener>,
+    ) -> Plan<'_> {
         Plan {
             units: self.units.as_slice(),
             port: self.options.port,
             sessions: self.options.sessions,
-            operator: self.options.operator,
+            operator,
             http: http_port(self.options.http, random.keys),
             http_host: name_of(&self.options.http_host),
             iscsi: iscsi_port(self.options.iscsi, setup, random.array),

@@ -7,6 +7,7 @@ mod command_line;
 mod drawing;
 mod failure;
 mod images;
+mod operators;
 mod serve;
 mod stored;
 
@@ -65,8 +66,8 @@ fn import(rt: &HostRuntime, alloc: Global, unit: &StoredUnit) -> Result<(), Fail
     images::import(&logged.with_target("autoraid"), rt, alloc, unit).map_err(Failure::Store)
 }
 
-// Serves hosts. `files` is `rt` once more: a store's files are opened by the runtime's own type, which starts no
-// threads outside of `main`.
+// Serves hosts. `files` is `rt` once more: a store's files and an operators' socket are opened by the runtime's own
+// type, which starts no threads outside of `main`.
 fn serve_hosts<
     R: Threads
         + Wait
@@ -107,7 +108,7 @@ fn serve_array<R: ServiceRuntime + Sync>(
 ) -> Result<(), Failure> {
     match &service.options.store {
         Some(options) => stored::serve(rt, files, alloc, service, options, random),
-        None => run_server(rt, alloc, service, random).map_err(Failure::Serve),
+        None => run_server(rt, files, alloc, service, random).map_err(Failure::Serve),
     }
 }
 

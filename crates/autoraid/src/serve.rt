@@ -1,5 +1,6 @@
 // Serves an array to hosts and operators, and prints what came of it.
 use crate::command_line::{RandomNumbers, Service};
+use crate::operators::{OperatorsEntry, remove_file};
 use ar_command_line::Audit;
 use ar_core::Refusal;
 use ar_history::Mismatch;
@@ -21,7 +22,7 @@ pub enum ServeFault {
     /// A unit can't be created.
     #[error("unit {word} refused {refusal}")]
     Unit { word: String, refusal: Refusal },
-    /// Listening at a port failed, or the system has no random numbers for HTTP or iSCSI.
+    /// Listening at a port or a path failed, or the system has no random numbers for HTTP or iSCSI.
     #[error("listen fault")]
     Listen,
     /// A session did not return its seat.
@@ -49,9 +50,10 @@ pub enum ServeFault {
 
 /// Creates the array and its units, listens, and serves hosts, operators, initiators and HTTP clients. Then it compares
 /// the hosts' transcripts with the history, unless none is stored. Operators that have asked for the end are answered
-/// last.
+/// last. `files` is the runtime that makes the file of an operators' socket.
 pub fn run_server<R: ServiceRuntime + Sync>(
     rt: &R,
+    files: &HostRuntime,
     alloc: Global,
     service: &Service,
     random: RandomNumbers,
@@ -62,6 +64,11 @@ pub fn run_server<R: ServiceRuntime + Sync>(
     let Ok(array) = start_fused(alloc, setup, &fuses) else {
         return Err(ServeFault::Start);
     };
+    let OperatorsEntry { listener, file } = OperatorsEntry::open(
+        files,
+        alloc,
+        &service.options.operator,
+    )?;
     let (stops, served) = serve::<FusedDisk<'_>, Brand, FusedMaker<'_>, R>(
         rt,
         alloc,
@@ -69,9 +76,10 @@ pub fn run_server<R: ServiceRuntime + Sync>(
         array,
         (&fuses, FusedMaker::new(&fuses)),
         &stop,
-        service.plan(setup, random),
+        service.plan(setup, random, listener),
         service.options.audit == Audit::Full,
     );
+    remove_file(files, file);
     conclude(rt, alloc, service, stops, served)
 }
 

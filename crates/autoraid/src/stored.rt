@@ -5,6 +5,7 @@ ghost use Rattle.ar_durable.specs.Durable.{AreRecords};
 
 use crate::command_line::{RandomNumbers, Service};
 use crate::failure::Failure;
+use crate::operators::{OperatorsEntry, remove_file};
 use crate::serve::conclude;
 use ar_checkpoint::CheckpointError;
 use ar_command_line::{CreateOptions, ShapeOptions, StoreOptions, SyncMode};
@@ -20,7 +21,9 @@ use ar_log::LogError;
 use ar_media::{Media, RegularFile};
 use ar_operator::{DiskMaker, Fuse, FusedDisk, FusedMaker, start_fused};
 use ar_script::Setup;
-use ar_service::{Closing, Plan, ServiceFault, ServiceRuntime, TcpStops, serve_lasting};
+use ar_service::{
+    Closing, OperatorListener, Plan, ServiceFault, ServiceRuntime, TcpStops, serve_lasting,
+};
 use log::{Log, warn};
 use std::alloc::Global;
 use std::io::{self, ErrorKind};
@@ -258,7 +261,8 @@ fn unit_in<D: Disk>(array: &Array<D>, number: u8) -> Option<(Addr, u32)> {
     Some((addr, array.sectors(addr)?))
 }
 
-/// Takes up the array of a store, and serves it. `files` is the runtime by which the store's files are opened.
+/// Takes up the array of a store, and serves it. `files` is the runtime by which the store's files are opened, and that
+/// makes the file of an operators' socket.
 pub fn serve<R: ServiceRuntime + Sync>(
     rt: &R,
     files: &HostRuntime,
@@ -274,7 +278,12 @@ pub fn serve<R: ServiceRuntime + Sync>(
         Ok(taken) => taken,
         Err(cause) => return Err(Failure::Store(fault(alloc, folder, cause))),
     };
-    let plan = plan_of(service, &head, options, random);
+    let OperatorsEntry { listener, file } = OperatorsEntry::open(
+        files,
+        alloc,
+        &service.options.operator,
+    ).map_err(Failure::Serve)?;
+    let plan = plan_of(service, &head, options, random, listener);
     let policy = policy_of(options);
     let (stops, served) = serve_taken_up::<FusedDisk<'_>, Brand, FusedMaker<'_>, R, RegularFile>(
         rt,
@@ -286,6 +295,7 @@ pub fn serve<R: ServiceRuntime + Sync>(
         &stop,
         plan,
     );
+    remove_file(files, file);
     if served.is_ok() {
         compact(rt, files, alloc, folder);
     }
@@ -408,6 +418,7 @@ fn plan_of<'s>(
     head: &StoreHead,
     options: &StoreOptions,
     random: RandomNumbers,
+    operator: Option<OperatorListener>,
 ) -> Plan<'s> {
     let [a, b, c, d, ..] = head.identity;
     let random = RandomNumbers {
@@ -415,7 +426,7 @@ fn plan_of<'s>(
         ..random
     };
     let setup = setup_in(head, service.options.array.cache);
-    let mut plan = service.plan(setup, random);
+    let mut plan = service.plan(setup, random, operator);
     if let Some(iscsi) = &mut plan.iscsi {
         iscsi.write_back = options.sync == SyncMode::Flush;
     }
