@@ -17,6 +17,7 @@ use crate::records::{
     encoded, encoded_command, is_acknowledged, is_added, is_forced, is_grown, is_made, is_noted,
     is_removed, note_if,
 };
+use crate::sharing::Sharing;
 use ar_checkpoint::CheckpointError;
 use ar_compaction::{MAX_NAME, StoreHead};
 use ar_core::{Array, NewDisk, Outcome, UnitFlush};
@@ -56,14 +57,6 @@ enum Failure {
     Final,
 }
 
-/// While several hosts write, a commit is put off by this part of what the last one took, between these microseconds: in
-/// that time the others' WRITEs come, which wait for the array while a commit is made.
-const PAUSE_PART: u64 = 8;
-
-const LEAST_PAUSE: u64 = 50;
-
-const MOST_PAUSE: u64 = 1_000;
-
 /// The most pieces of a checkpoint in a row.
 const MOST_PIECES: u32 = 64;
 
@@ -88,11 +81,8 @@ pub struct DurableArray<'a, D: Disk, L: Ledger, M: Media, R> {
     policy: CommitPolicy,
     // When a commit was made last.
     committed: Option<Instant>,
-    // Microseconds for which the next commit is put off, if hosts share it.
-    pause: u64,
-    // The host that wrote last, and whether it was another one before.
-    writer: Option<Host>,
-    is_shared: bool,
+    // Whether hosts share commits.
+    sharing: Sharing,
     // How the last commit failed, if it did, which was logged then.
     failure: Option<Failure>,
     // The length of the log at which a checkpoint begins.
@@ -149,9 +139,7 @@ impl<'a, D: Disk, L: Ledger, M: Media, R> DurableArray<'a, D, L, M, R> {
             head,
             policy,
             committed: None,
-            pause: LEAST_PAUSE,
-            writer: None,
-            is_shared: false,
+            sharing: Sharing::new(),
             failure: None,
             longest,
             turns: 0,
@@ -211,7 +199,7 @@ impl<'a, D: Disk, L: Ledger, M: Media, R> DurableArray<'a, D, L, M, R> {
     /// Returns for how many microseconds a commit is put off, so that others share it: a small part of what it takes, and
     /// nothing while one host writes alone.
     pub fn commit_pause(&self) -> u64 {
-        if self.is_shared { self.pause } else { 0 }
+        self.sharing.pause()
     }
 
     /// Returns how the store is.
@@ -246,9 +234,7 @@ impl<'a, D: Disk + Drop, L: Ledger, M: Media, R> DurableArray<'a, D, L, M, R> {
         let reply = self.counted.host(seat, lun, cdb, payload);
         let noted = is_noted(self.counted.array(), &cdb, &reply);
         note_if(&mut self.store, noted, encoding);
-        if noted {
-            self.is_shared = self.writer.replace(addr.host) != Some(addr.host);
-        }
+        self.sharing.note(noted, addr.host);
         reply
     }
 
@@ -349,9 +335,7 @@ impl<'a, D: Disk, L: Ledger, M: Media, R: Clock + Log> DurableArray<'a, D, L, M,
         let (is_waiting, began) = (self.store.is_waiting(), Instant::now(self.rt).ok());
         let done = self.store.commit(self.alloc);
         self.committed = Instant::now(self.rt).ok();
-        if is_waiting {
-            self.pause = pause_after(self.rt, began);
-        }
+        self.sharing.note_commit(self.rt, is_waiting, began);
         match done {
             Ok(()) => {
                 self.failure = None;
@@ -486,17 +470,6 @@ fn log_change<R: Log>(rt: &R, before: Option<Failure>, is_final: bool, cause: Lo
         error!(rt; "the store can't be written: {cause:?}; no WRITE is acknowledged until it can");
     }
     Failure::ForNow
-}
-
-// The microseconds for which a commit is put off after one that began then.
-fn pause_after<R: Clock>(rt: &R, began: Option<Instant>) -> u64 {
-    let Some(since) = began else {
-        return LEAST_PAUSE;
-    };
-    match since.elapsed(rt) {
-        Ok(elapsed) => (elapsed.as_micros() as u64 / PAUSE_PART).clamp(LEAST_PAUSE, MOST_PAUSE),
-        Err(_) => LEAST_PAUSE,
-    }
 }
 
 // The length at which a log of `len` bytes is replaced.

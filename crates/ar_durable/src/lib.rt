@@ -7,6 +7,7 @@ mod folder;
 mod records;
 mod restarts;
 mod served;
+mod sharing;
 mod store;
 
 pub use durable::{CommitPolicy, DurableArray};
