@@ -46,7 +46,7 @@ pub fn works<L: Ledger + Send + Sync, R: Threads + Wait + Clock + Abort + Sync>(
 }
 
 // A host writes a block, which the cache takes.
-fn write<L: Ledger, R: Wait + Abort>(rt: &R, alloc: Global, rig: &Rig<L>) {
+fn write<L: Ledger, R: Wait + Clock + Abort>(rt: &R, alloc: Global, rig: &Rig<L>) {
     let payload = filled(alloc, 2, 0xAA).expect(rt, "memory");
     let mut port = LockPort::new(rt, alloc, &rig.kept, &rig.desk);
     if let Login::Taken = port.login(0) {
@@ -144,7 +144,7 @@ pub fn rebuilds<L: Ledger + Send + Sync, R: Threads + Wait + Clock + Abort + Syn
 }
 
 // The host's writes never leave a pause; the rebuild ends between them.
-fn write_until_whole<L: Ledger, R: Wait + Abort>(rt: &R, alloc: Global, rig: &Rig<L>) {
+fn write_until_whole<L: Ledger, R: Wait + Clock + Abort>(rt: &R, alloc: Global, rig: &Rig<L>) {
     for _ in 0..WRITES {
         write(rt, alloc, rig);
         if is_whole(rt, &rig.kept) {

@@ -10,6 +10,7 @@ use ar_frames::{EndReason, SessionEnd, Source};
 use std::process::Abort;
 use std::sync::Wait;
 use std::sync::ledger::Ledger;
+use std::time::Clock;
 use test_support::{Answer, Ask, Command, FOUR_GROUPS, Run, Shape, Tally, agrees, kind_of_work};
 
 /// The frames of a host's session.
@@ -44,7 +45,7 @@ fn drawn_sessions_are_answered_as_by_plain_lists(rt: HostRuntime) {
 }
 
 /// The four hosts, one after another.
-pub fn draw<L: Ledger, R: Wait + Abort + AllocGlobal>(rt: &R, rig: &Rig<L>, shape: Shape) {
+pub fn draw<L: Ledger, R: Wait + Clock + Abort + AllocGlobal>(rt: &R, rig: &Rig<L>, shape: Shape) {
     let mut run = Run::new(rt.alloc(), 8, ROOM);
     for host in 0..4 {
         session(rt, rig, host, &mut run);
@@ -53,7 +54,7 @@ pub fn draw<L: Ledger, R: Wait + Abort + AllocGlobal>(rt: &R, rig: &Rig<L>, shap
     drop(run);
 }
 
-fn session<L: Ledger, R: Wait + Abort + AllocGlobal>(
+fn session<L: Ledger, R: Wait + Clock + Abort + AllocGlobal>(
     rt: &R,
     rig: &Rig<L>,
     host: u8,
@@ -75,7 +76,7 @@ fn session<L: Ledger, R: Wait + Abort + AllocGlobal>(
     drop(reader);
 }
 
-fn is_served<L: Ledger, R: Wait + Abort + AllocGlobal>(
+fn is_served<L: Ledger, R: Wait + Clock + Abort + AllocGlobal>(
     rt: &R,
     rig: &Rig<L>,
     reader: &mut Asking<'_, R, L>,

@@ -204,7 +204,7 @@ fn audited<L: Ledger>(rt: &impl Abort, kept: Kept<FuseDisk, L>, desk: Desk<L>) -
 }
 
 /// Serves a session on the array, with a port of its own.
-pub fn serves<R: Wait + Abort, L: Ledger, S: Source>(
+pub fn serves<R: Wait + Clock + Abort, L: Ledger, S: Source>(
     rt: &R,
     alloc: Global,
     rig: &Rig<L>,

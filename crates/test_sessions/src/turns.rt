@@ -10,6 +10,7 @@ use std::alloc::Global;
 use std::process::Abort;
 use std::sync::Wait;
 use std::sync::ledger::Ledger;
+use std::time::Clock;
 use test_support::FOUR_GROUPS;
 
 /// A part of a session.
@@ -87,7 +88,7 @@ impl Session {
 }
 
 /// Plays sessions one after another, where host 0 has a unit if that is asked.
-pub fn play_turns<L: Ledger, R: Wait + Abort>(
+pub fn play_turns<L: Ledger, R: Wait + Clock + Abort>(
     rt: &R,
     alloc: Global,
     rig: &Rig<L>,
@@ -103,7 +104,7 @@ pub fn play_turns<L: Ledger, R: Wait + Abort>(
 }
 
 // Plays one session, and compares what it wrote and how it ended.
-fn play<L: Ledger, R: Wait + Abort>(rt: &R, alloc: Global, rig: &Rig<L>, turn: &Turn) {
+fn play<L: Ledger, R: Wait + Clock + Abort>(rt: &R, alloc: Global, rig: &Rig<L>, turn: &Turn) {
     let mut session = Session {
         input: Vec::new(alloc),
         grows_at: None,
@@ -114,7 +115,7 @@ fn play<L: Ledger, R: Wait + Abort>(rt: &R, alloc: Global, rig: &Rig<L>, turn: &
     drop(session);
 }
 
-fn play_session<L: Ledger, R: Wait + Abort>(
+fn play_session<L: Ledger, R: Wait + Clock + Abort>(
     rt: &R,
     alloc: Global,
     rig: &Rig<L>,
