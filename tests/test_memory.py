@@ -8,9 +8,10 @@ any moment; with FIGURES=1 each is printed, and the largest array of large block
 import os
 import resource
 import time
+import unittest.mock
 
 from tests.harness import ACCEPTED, BUSY, GOOD, TEST_UNIT_READY, Case, Ended, connected, free_port, most_resident
-from tests.harness import program, ran, rest_of, write_10
+from tests.harness import program, ran, rest_of, text_of, write_10
 
 FIGURES = os.environ.get("FIGURES")
 KIB, MIB, SECTOR = 1 << 10, 1 << 20, 512
@@ -147,6 +148,15 @@ class NoMore(Case):
     """Servers with a limit of the system on their memory."""
 
     DOORS = ("operator", "http", "iscsi")
+    # What the start script has the C library do for a server that keeps a history.
+    TUNABLES = "glibc.malloc.arena_max=1"
+
+    def setUp(self):
+        super().setUp()
+        self.holds(self.TUNABLES in text_of("packaging", "start"), f"{self.TUNABLES} in the start script", self.TUNABLES)
+        patched = unittest.mock.patch.dict(os.environ, GLIBC_TUNABLES=self.TUNABLES)
+        patched.start()
+        self.addCleanup(patched.stop)
 
     def tasks(self, pid):
         """How many threads a program has."""
