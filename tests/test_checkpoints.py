@@ -56,10 +56,10 @@ class Unit:
                 pass
 
     def fills(self, session, length):
-        """Writes so many bytes, or until the session ends: 1 MiB after the other, the last one so that all last."""
+        """Writes so many bytes, or until the session ends: 1 MiB after the other. The last one makes all last."""
         with contextlib.suppress(OSError):
             for left in range(-(-length // MIB) - 1, -1, -1):
-                if not self.write(session, len(self.written) * PIECE % self.sectors, PIECE, left % 8 == 0):
+                if not self.write(session, len(self.written) * PIECE % self.sectors, PIECE, left % 2 == 0):
                     break
 
     def looks(self, case, session, when):
