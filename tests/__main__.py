@@ -18,7 +18,9 @@ import unittest
 from tests import harness
 
 # The slowest begin first.
-SLOWEST = "initiators drill databases memory refused_allocations http_clients conformance serving largest stop".split()
+SLOWEST = (
+    "checkpoints initiators drill databases memory refused_allocations http_clients conformance serving largest stop"
+).split()
 # Seconds that a file may take.
 LONGEST = 900
 

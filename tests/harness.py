@@ -454,14 +454,14 @@ class Server(Running):
     have them, or the path of a Unix socket: {"operator": path}.
 
     It compares transcripts with the history, unless `audit` is "off". With None the option is left out: `ending` is
-    then the last line of the report that is wanted.
+    then the last line of the report that is wanted. A start takes up to `patience` seconds.
     """
 
     DOORS = {"operator": "--operator", "http": "--http", "iscsi": "--iscsi"}
     # None: the built program.
     PROGRAM = None
 
-    def __init__(self, *words, doors=("operator",), audit="full", ending=None, before=(), **how):
+    def __init__(self, *words, doors=("operator",), audit="full", ending=None, before=(), patience=PATIENCE, **how):
         self.ending = ending or ("closed ok" if audit == "full" else "closed")
         self.port = free_port()
         self.doors = doors if isinstance(doors, dict) else {door: free_port() for door in doors}
@@ -471,7 +471,7 @@ class Server(Running):
         super().__init__(*before, *line, *words, **how)
         # What a start from a store says that it has done.
         self.recovered = ""
-        first = self.line() if how.get("stdout") is None else f"listening {self.port}\n"
+        first = self.line(patience) if how.get("stdout") is None else f"listening {self.port}\n"
         if first.startswith("recovered "):
             self.recovered, first = first, self.line()
         if first != f"listening {self.port}\n":
