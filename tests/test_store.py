@@ -11,7 +11,7 @@ import subprocess
 import tempfile
 import time
 
-from tests.harness import CHECK, GOOD, PATIENCE, Case, Server, connected, program, ran, waited, write_10
+from tests.harness import CHECK, GOOD, PATIENCE, Case, Server, connected, program, ran, waited
 from tests.test_metrics import SAMPLE
 
 SECTOR = 512
@@ -311,34 +311,46 @@ class Shared(Stored):
     """Commits that several hosts wait for."""
 
     WRITES = 60
-    # A commit that takes as long as this, in seconds, is put off until other hosts' WRITEs have come.
-    LONG = 0.003
+    # A sync that takes 5 ms, so that the next commit is put off until other hosts' WRITEs have come. (Its file lasts over
+    # a kill as it is.)
+    SLOW = """
+        #include <time.h>
+        int fdatasync(int file) { struct timespec pause = {0, 5000000}; (void)file; return nanosleep(&pause, 0); }
+    """
+
+    def slow_syncs(self):
+        """An environment in which each sync takes 5 ms."""
+        source, library = os.path.join(self.room, "slow.c"), os.path.join(self.room, "slow.so")
+        with open(source, "w", encoding="ascii") as file:
+            file.write(self.SLOW)
+        made = ran(os.environ.get("CC", "cc"), "-shared", "-fPIC", "-o", library, source)
+        self.wants((made.status, made.error), (0, ""), "the library of slow syncs")
+        return {**os.environ, "LD_PRELOAD": library}
 
     def commits(self, server):
         return int(server.sample("autoraid_store_commits_total"))
 
-    def writes(self, host, block=forced_write):
-        """WRITEs one after another, each GOOD, and the seconds of one."""
+    def writes(self, host):
+        """Forced WRITEs one after another, each GOOD, and the seconds of one."""
         begun = time.monotonic()
         for number in range(self.WRITES):
-            self.wants(host.asks(block(number, 1), sector_of(number)).status, GOOD, f"WRITE {number}")
+            self.wants(host.asks(forced_write(number, 1), sector_of(number)).status, GOOD, f"WRITE {number}")
         return (time.monotonic() - begun) / self.WRITES
 
     def test_hosts_share_commits(self):
         self.creates()
-        server = self.takes_up(*[f"{number}:0:64" for number in range(4)], doors=("operator", "http"))
+        units = [f"{number}:0:64" for number in range(4)]
+        server = self.takes_up(*units, doors=("operator", "http"), env=self.slow_syncs())
         hosts = [self.host(server, number) for number in range(4)]
-        plain = self.writes(hosts[0], write_10)
-        self.wants(hosts[0].asks(forced_write(0, 1), sector_of(0)).status, GOOD, "a WRITE that commits what waits")
         before = self.commits(server)
-        forced = self.writes(hosts[0])
+        each = self.writes(hosts[0])
         alone = self.commits(server)
         self.wants(alone - before, self.WRITES, "commits of a host that is alone")
+        self.holds(each >= 0.005, "a WRITE that waits for a sync", each)
         with concurrent.futures.ThreadPoolExecutor(4) as pool:
             list(pool.map(self.writes, hosts))
-        shared, every = self.commits(server) - alone, 4 * self.WRITES
-        most = every * 19 // 20 if forced - plain > self.LONG else every
-        self.holds(shared <= most, f"at most {most} commits for {every} WRITEs", shared)
+        shared, most = self.commits(server) - alone, 4 * self.WRITES * 19 // 20
+        self.holds(shared <= most, f"at most {most} commits for {4 * self.WRITES} WRITEs", shared)
         wanted = b"".join(map(sector_of, range(self.WRITES)))
         server.kill()
         server = self.takes_up()
