@@ -153,7 +153,7 @@ class NoMore(Case):
 
     def setUp(self):
         super().setUp()
-        self.holds(self.TUNABLES in text_of("packaging", "start"), f"{self.TUNABLES} in the start script", self.TUNABLES)
+        self.holds(self.TUNABLES in text_of("packaging", "start"), "the start script's tunables", self.TUNABLES)
         patched = unittest.mock.patch.dict(os.environ, GLIBC_TUNABLES=self.TUNABLES)
         patched.start()
         self.addCleanup(patched.stop)

@@ -196,8 +196,8 @@ impl<'a, D: Disk, L: Ledger, M: Media, R> DurableArray<'a, D, L, M, R> {
         is_acknowledged(cdb, reply) && (is_forced(cdb) || self.policy.always)
     }
 
-    /// Returns for how many microseconds a commit is put off, so that others share it: a small part of what it takes, and
-    /// nothing while one host writes alone.
+    /// Returns for how many microseconds a commit is put off, so that others share it: a small part of what it takes,
+    /// and 0 while one host writes alone.
     pub fn commit_pause(&self) -> u64 {
         self.sharing.pause()
     }

@@ -19,8 +19,8 @@ use std::snapshot::Snapshot;
 
 impl<D: Disk + Drop> LiveArray<D> {
     /// Executes a command of a host to its LUN `lun`: `cdb` is padded with zeros, `payload` is the data-out. Unless the
-    /// reply is BUSY or the array has failed, the history has grown by the command with its reply, which is the one that
-    /// the unit's own entries give. BUSY is for a lack of memory for the reply's own data.
+    /// reply is BUSY or the array has failed, the history has grown by the command with its reply, which is the one
+    /// that the unit's own entries give. BUSY is for a lack of memory for the reply's own data.
     pub fn host(&mut self, host: Host, lun: u8, cdb: [u8; 16], payload: Bytes) -> Reply
         ensures serves { ServesCommand self.old.array self.old.history host lun cdb payload result self.new.array
             self.new.history }

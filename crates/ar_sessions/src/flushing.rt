@@ -1,8 +1,8 @@
 // What a device server needs of a session's port beyond commands: that the cached blocks of a unit are written to the
 // disks.
 ghost use Rattle.std.specs.Prelude.{◌≡◌};
-ghost use Rattle.ar_sessions.specs.Flushing.{CommitsFlush, FlushesAs, DestagedAtOneMoment, FlushesThenCommits, FlushesLun};
-ghost use Rattle.ar_sessions.specs.Flushing.{flush_outcome, lasting_outcome};
+ghost use Rattle.ar_sessions.specs.Flushing.{CommitsFlush, DestagedAtOneMoment, FlushesAs, FlushesLun};
+ghost use Rattle.ar_sessions.specs.Flushing.{FlushesThenCommits, flush_outcome, lasting_outcome};
 ghost use Rattle.ar_target.specs.declared.flush_port.FlushOutcome.TheVariants as outcomes;
 
 use crate::port::{lock_soon, wait_for_others};
@@ -39,7 +39,7 @@ impl<'a, R: Wait + Clock, A: ServedArray<L> + Drop, K: SeatDesk<L> + Drop, L: Le
     }
 }
 
-// FlushesAs a unit of a host under the lock.
+// Destages a unit of a host under the lock.
 fn flush_locked<R: Wait + Clock, A: ServedArray<L> + Drop, L: Ledger>(
     rt: &R,
     array: &Mutex<A>,
@@ -54,7 +54,7 @@ fn flush_locked<R: Wait + Clock, A: ServedArray<L> + Drop, L: Ledger>(
     flush_at(rt, array, Addr { host, lun })
 }
 
-// FlushesAs the unit at an address under the lock, and commits under it after a pause in which others flush theirs.
+// Destages the unit at an address under the lock, and commits under it after a pause in which others flush theirs.
 fn flush_at<R: Wait + Clock, A: ServedArray<L> + Drop, L: Ledger>(
     rt: &R,
     array: &Mutex<A>,
@@ -67,7 +67,7 @@ fn flush_at<R: Wait + Clock, A: ServedArray<L> + Drop, L: Ledger>(
     commit_locked(rt, array, flushed.outcome)
 }
 
-// FlushesAs the unit at an address under the lock.
+// Destages the unit at an address under the lock.
 fn flush_once<R: Wait, A: ServedArray<L> + Drop, L: Ledger>(
     rt: &R,
     array: &Mutex<A>,
@@ -78,7 +78,7 @@ fn flush_once<R: Wait, A: ServedArray<L> + Drop, L: Ledger>(
     flush_with::<A, L>(&mut array.lock(rt), addr)
 }
 
-// FlushesAs the unit at an address. What was done is still to be committed.
+// Destages the unit at an address. What was done is still to be committed.
 fn flush_with<A: ServedArray<L>, L: Ledger>(array: &mut A, addr: Addr) -> Flushed
     ensures flushes { FlushesAs (A.state array.old) addr result.outcome (A.state array.new) }
 {

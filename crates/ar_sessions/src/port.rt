@@ -169,7 +169,7 @@ fn ask_locked<R: Wait + Clock, A: ServedArray<L> + Drop, L: Ledger>(
     }
 }
 
-// SettlesReply the reply to a seat's command under the lock, after a pause in microseconds in which others send theirs.
+// Settles the reply to a seat's command under the lock, after a pause in microseconds in which others send theirs.
 fn settle_later<R: Wait + Clock, A: ServedArray<L> + Drop, L: Ledger>(
     rt: &R,
     array: &Mutex<A>,
@@ -187,7 +187,7 @@ fn settle_later<R: Wait + Clock, A: ServedArray<L> + Drop, L: Ledger>(
     settle_seat::<A, L>(&mut lock_soon(rt, array), seat, cdb, reply)
 }
 
-// SettlesReply the reply to a command of a seat. A reply that waits for a commit has all commands of the seat in what lasts.
+// Settles the reply to a command of a seat. A reply that waits for a commit has all commands of the seat in what lasts.
 fn settle_seat<A: ServedArray<L>, L: Ledger>(
     array: &mut A,
     seat: &mut Seat<L>,
@@ -242,7 +242,7 @@ fn ask_with<A: ServedArray<L>, L: Ledger>(
     settle_now::<A, L>(array, cdb, reply)
 }
 
-/// SettlesReply a reply, unless it waits for a commit.
+/// Settles a reply, unless it waits for a commit.
 pub(crate) fn settle_now<A: ServedArray<L>, L: Ledger>(
     array: &mut A,
     cdb: &[u8; 16],
@@ -279,7 +279,7 @@ fn pause_for<A: ServedArray<L>, L: Ledger>(
     }
 }
 
-/// SettlesReply the reply to a command under the lock, after a pause in microseconds in which others send theirs.
+/// Settles the reply to a command under the lock, after a pause in microseconds in which others send theirs.
 pub(crate) fn settle_locked<R: Wait + Clock, A: ServedArray<L> + Drop, L: Ledger>(
     rt: &R,
     array: &Mutex<A>,
@@ -302,7 +302,7 @@ pub(crate) fn wait_for_others<R: Clock>(rt: &R, micros: u64) {
     }
 }
 
-// SettlesReply the reply to a command: commits what was done, if it has to wait for that. Where the store has failed, the
+// Settles the reply to a command: commits what was done, if it has to wait for that. Where the store has failed, the
 // reply is replaced.
 fn settle_with<A: ServedArray<L>, L: Ledger>(array: &mut A, cdb: &[u8; 16], reply: Reply) -> Reply
     requires { IsReply reply }

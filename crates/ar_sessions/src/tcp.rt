@@ -334,8 +334,8 @@ fn opened<'a, R: Clock>(
     Ok((Linked::with_progress(reader, progress), Linked::new(writer)))
 }
 
-// Bytes that are read ahead. An operator's lines are read in pieces as it is, and need no memory for that when it is used
-// up.
+// Bytes that are read ahead. An operator's lines are read in pieces as it is, and need no memory for that when it is
+// used up.
 fn read_ahead(protocol: Protocol) -> usize {
     match protocol {
         Protocol::Lines => 0,
