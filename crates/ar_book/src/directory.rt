@@ -11,13 +11,10 @@ ghost use Rattle.ar_book.specs.Listing as spec;
 ghost use Rattle.ar_book.specs.Listing.{AreListed, HaveSpots};
 
 use crate::UnitTable;
-use ar_disks::Addr;
+use ar_disks::{Addr, MAX_LUN};
 use indexmap::IndexMap;
 use std::alloc::Global;
 use std::marker::Model;
-
-/// The greatest LUN of a unit.
-pub(crate) const MAX_LUN: u8 = 7;
 
 /// The number of addresses: those of four hosts with LUNs up to `MAX_LUN`.
 const SPOTS: usize = 32;

@@ -5,17 +5,15 @@ ghost use Rattle.ar_book.specs.Choices.{IsMirrored, IsNoNewer};
 
 use crate::Book;
 use ar_disks::Key;
-use ar_index::Steps;
 
 impl Book {
     /// The mirrored block with the least write sequence number (`stamp`). Ties go to the unit created first, and in a
-    /// unit to the lowest block. None if no block is at the mirrored level. Counts no step.
-    pub fn oldest_mirrored(&self, steps: &mut Steps) -> Option<Key>
+    /// unit to the lowest block. None if no block is at the mirrored level.
+    pub fn oldest_mirrored(&self) -> Option<Key>
         ensures found { IfSome result (IsMirrored self.now) }
         ensures oldest { IfSome result (λ key. (other : Key) → IsMirrored self.now other
             → IsNoNewer self.now key other) }
         ensures none { IfNone result ((other : Key) → IsMirrored self.now other → ⊥) }
-        ensures still { steps.new.count ≡ steps.old.count }
     {
         match self.index.best().oldest {
             Some(age) => Some(age.key),

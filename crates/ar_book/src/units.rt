@@ -11,12 +11,11 @@ ghost use Rattle.ar_book.specs.Changes.{made, grown, dropped};
 ghost use Rattle.ar_book.specs.Deletion.{KeepsOtherUnits};
 ghost use Rattle.ar_book.specs.Refusals.{unit_make_refusal, unit_grow_refusal};
 
-use crate::directory::MAX_LUN;
 use crate::index::{blank_all, refresh_blank};
 use crate::tables::{add_unit, grow_unit, take_unit, vacate_all};
 use crate::unit::blocks_of;
 use crate::{Book, Refusal};
-use ar_disks::Addr;
+use ar_disks::{Addr, MAX_LUN};
 use ar_index::Steps;
 
 /// The greatest length of a unit, in sectors.

@@ -15,5 +15,5 @@ pub record IsEmptying {S : Type 0} (block_at : S → Key → List ℕ) (geometry
   pub known : KnowsAll (knows to) new
   pub same_broken : is_broken to ≡ is_broken from
   pub untouched : length new.entries ≡ length old.entries → to ≡ from
-  pub told : length new.entries < length old.entries → is_broken to ≡ false
+  pub reported : length new.entries < length old.entries → is_broken to ≡ false
   pub kept : KeepsBacking geometry knows is_broken follows from to

@@ -16,7 +16,7 @@ impl Model for AccessCount {
     ghost also_owns = { λ _. ftrue };
 }
 
-// It owns nothing.
+// SAFETY: it owns nothing.
 unsafe impl Send for AccessCount {}
 
 impl AccessCount {

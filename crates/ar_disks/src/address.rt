@@ -30,6 +30,9 @@ impl Host {
     }
 }
 
+/// The highest LUN of a host's units: the first is 0.
+pub const MAX_LUN: u8 = 7;
+
 /// The address of a logical unit: the host that owns it, and its logical unit number (LUN).
 #[derive(Clone, Copy, Debug, PartialEq, Eq, Hash)]
 pub struct Addr {

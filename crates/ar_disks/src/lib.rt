@@ -15,7 +15,7 @@ mod memory;
 mod scratch;
 
 pub use accesses::AccessCount;
-pub use address::{Addr, Host, Key, Members, Place};
+pub use address::{Addr, Host, Key, MAX_LUN, Members, Place};
 pub use block::Block;
 pub use bytes::{add_both_into, add_into, zero};
 pub use completion::Completion;

@@ -24,9 +24,9 @@ use Rattle.ar_extents.proofs.Losses.{lost_or_sound}
 use Rattle.ar_extents.proofs.GroupLemmas.{same_place, place_is}
 use Rattle.ar_extents.proofs.Plans.{none_made, one_made}
 
-fault_told : (n m k : ℕ) (done : Bool) → m ≡ n + k → k ≡ cond (not done) 1 0 → m ≡ cond done n (n + 1)
-fault_told n m k true is one = omega arith
-fault_told n m k false is one = omega arith
+fault_reported : (n m k : ℕ) (done : Bool) → m ≡ n + k → k ≡ cond (not done) 1 0 → m ≡ cond done n (n + 1)
+fault_reported n m k true is one = omega arith
+fault_reported n m k false is one = omega arith
 
 -- one access touches its disk alone
 touched_one : (t : Attempt) (done : Bool) (a b : SetState) → AccountsFor (access_of t done ∷ []) a b
@@ -43,7 +43,7 @@ touched_one t done a b made =
         len = made.count;
       };
       health = made.health;
-      faults = fault_told (faults_of a d) (faults_of b d) (count_by (is_fault_of d) (x ∷ [])) done (made.faults d)
+      faults = fault_reported (faults_of a d) (faults_of b d) (count_by (is_fault_of d) (x ∷ [])) done (made.faults d)
           (count_one (is_fault_of d) x (not done) (ap (λ k. k && not done) here));
       loose = made.loose;
     }

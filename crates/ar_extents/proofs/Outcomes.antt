@@ -8,24 +8,24 @@ use Rattle.ar_extents.specs.Changes.{is_broken_set}
 use Rattle.ar_extents.specs.Groups.{outcome_of}
 
 -- whether an answer says that the set is broken
-told : Completion → Bool
-told Done = false
-told Broken = true
+reported : Completion → Bool
+reported Done = false
+reported Broken = true
 
 -- a call that is done leaves no broken set
 pub done_sound : (h : Health) → Done ≡ outcome_of h → h ≢ AllBroken
-unfolding told
+unfolding reported
 done_sound Whole done broken = true≢false (sym (ap is_broken_set broken))
 done_sound (Out x) done broken = true≢false (sym (ap is_broken_set broken))
 done_sound (Rebuilding x d) done broken = true≢false (sym (ap is_broken_set broken))
-done_sound AllBroken done broken = true≢false (sym (ap told done))
+done_sound AllBroken done broken = true≢false (sym (ap reported done))
 
 -- one that isn't leaves one
 pub broken_is : (h : Health) → Broken ≡ outcome_of h → h ≡ AllBroken
-unfolding told
-broken_is Whole answer = absurd (true≢false (ap told answer))
-broken_is (Out x) answer = absurd (true≢false (ap told answer))
-broken_is (Rebuilding x d) answer = absurd (true≢false (ap told answer))
+unfolding reported
+broken_is Whole answer = absurd (true≢false (ap reported answer))
+broken_is (Out x) answer = absurd (true≢false (ap reported answer))
+broken_is (Rebuilding x d) answer = absurd (true≢false (ap reported answer))
 broken_is AllBroken answer = refl
 
 -- and on a set that isn't broken a call is done

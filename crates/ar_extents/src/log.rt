@@ -40,7 +40,7 @@ impl Model for AccessLog {
     ghost also_owns = { λ _. ftrue };
 }
 
-// It owns nothing.
+// SAFETY: it owns nothing.
 unsafe impl Send for AccessLog {}
 
 impl AccessLog {

@@ -62,15 +62,15 @@ same_numbers a b e = subst (λ x. HaveSameNumbers x b) (sym e) refl
 
 -- a change that is reported is one
 pub change_is : (old new : Choices) (change : Change) → IsChangedTo old new change → change ≢ Nothing → new ≢ old
-change_is old new Nothing told some = absurd (some refl)
-change_is old new Oldest told some = told.1
-change_is old new Anything told some = λ e. told (same_numbers new old e)
+change_is old new Nothing reported some = absurd (some refl)
+change_is old new Oldest reported some = reported.1
+change_is old new Anything reported some = λ e. reported (same_numbers new old e)
 
 -- and where there is none, none is reported
-pub none_told : (old new : Choices) (change : Change) → IsChangedTo old new change → new ≡ old → change ≡ Nothing
-none_told old new Nothing told same = refl
-none_told old new Oldest told same = absurd (told.1 same)
-none_told old new Anything told same = absurd (told (same_numbers new old same))
+pub none_reported : (old new : Choices) (change : Change) → IsChangedTo old new change → new ≡ old → change ≡ Nothing
+none_reported old new Nothing reported same = refl
+none_reported old new Oldest reported same = absurd (reported.1 same)
+none_reported old new Anything reported same = absurd (reported (same_numbers new old same))
 
 -- two lists of nodes that differ at one node at most
 module _ (nodes next : List Choices) (n : ℕ) (elsewhere : (i : ℕ) → i ≢ n → node_at next i ≡ node_at nodes i) where

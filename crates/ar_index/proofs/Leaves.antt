@@ -11,7 +11,7 @@ use Rattle.ar_disks.specs.declared.address.Addr.{Addr}
 use Rattle.ar_index.specs.declared.choices.Choices.{Choices}
 use Rattle.ar_index.specs.Choices.{nothing, search_all}
 use Rattle.ar_index.specs.Tree.{node_at, AreJoinedBut, IsGrown, IsValidTree, leaves_in, free_in, leaves_under}
-use Rattle.ar_index.proofs.Search.{root, search_behind}
+use Rattle.ar_index.proofs.Search.{root, search_after}
 
 module _ (size leaf : ℕ) (old new : List Choices) (c : Choices) (put : drop size new ≡ set (drop size old) leaf c) where
   -- the leaf that was put
@@ -31,9 +31,9 @@ module _ (size leaf : ℕ) (old new : List Choices) (c : Choices) (put : drop si
   put_leaves count inside = ap (take count) put ∙ take-set-lt count (drop size old) leaf c inside
 
   -- and where it is the next
-  pub put_behind : length old ≡ 2 * size → leaf < size
+  pub put_after : length old ≡ 2 * size → leaf < size
       → leaves_in size (leaf + 1) new ≡ leaves_in size leaf old ++ c ∷ []
-  put_behind twice there =
+  put_after twice there =
       ap (λ n. take n (drop size new)) (let e : leaf + 1 ≡ suc leaf = omega arith in e) ∙ ap (take (suc leaf)) put
       ∙ take-suc-set (drop size old) leaf c (omega (arith, length-drop size old))
 
@@ -114,7 +114,7 @@ pub best_kept : (place : Addr → ℕ) (size count free : ℕ) (nodes : List Cho
 best_kept place size count free nodes ok joined some =
     let p = ok.grown.height some in
     root place size nodes (record { twice = ok.grown.twice; joined = joined }) p.0 p.1
-    ∙ search_behind place (drop size nodes) count
+    ∙ search_after place (drop size nodes) count
     (λ i h. get_or-drop size nodes i nothing ∙ ok.grown.empty (size + i) (omega arith))
 
 -- the choices of a leaf are put
@@ -165,7 +165,7 @@ module _ (size more count free : ℕ) (old mid new : List Choices) (c : Choices)
     (room : (count < more) × (more ≤ 2 * (count + 1) - 1)) (same : leaves_in more count mid ≡ leaves_in size count old)
     (twice : length new ≡ 2 * more) (put : drop more new ≡ set (drop more mid) count c) where
   pub push_leaves : leaves_in more (count + 1) new ≡ leaves_in size count old ++ c ∷ []
-  push_leaves = put_behind more count mid new c put grown.twice room.0 ∙ ap (λ xs. xs ++ c ∷ []) same
+  push_leaves = put_after more count mid new c put grown.twice room.0 ∙ ap (λ xs. xs ++ c ∷ []) same
 
   pub push_kept : (now : ℕ) → now ≡ free + one_if_free c → IsValidTree more (count + 1) now new
   push_kept now e =

@@ -72,16 +72,16 @@ module _ (place : Addr → ℕ) (size : ℕ) (nodes : List Choices) (tree : IsTr
       ∙ ap (search_all place) (take_all w (drop size nodes) all)
 
 -- leaves that have nothing don't change a search
-pub search_behind : (place : Addr → ℕ) (xs : List Choices) (n : ℕ)
+pub search_after : (place : Addr → ℕ) (xs : List Choices) (n : ℕ)
     → ((i : ℕ) → n ≤ i → get_or xs i nothing ≡ nothing) → search_all place xs ≡ search_all place (take n xs)
-search_behind place [] zero empty = refl
-search_behind place [] (suc n) empty = refl
-search_behind place (x ∷ xs) zero empty =
+search_after place [] zero empty = refl
+search_after place [] (suc n) empty = refl
+search_after place (x ∷ xs) zero empty =
     ap (λ c. join place c (search_all place xs)) (empty 0 (omega arith))
-    ∙ search_behind place xs 0 (λ i h. empty (suc i) (omega arith)) ∙ none xs
+    ∙ search_after place xs 0 (λ i h. empty (suc i) (omega arith)) ∙ none xs
   where
     none : (ys : List Choices) → search_all place (take 0 ys) ≡ nothing
     none [] = refl
     none (y ∷ ys) = refl
-search_behind place (x ∷ xs) (suc n) empty =
-    ap (join place x) (search_behind place xs n (λ i h. empty (suc i) (omega arith)))
+search_after place (x ∷ xs) (suc n) empty =
+    ap (join place x) (search_after place xs n (λ i h. empty (suc i) (omega arith)))

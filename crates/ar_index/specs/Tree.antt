@@ -74,7 +74,7 @@ pub record IsGrown (size count : ℕ) (nodes : List Choices) : Type 0 where
   -- the leaves past those in use are blank
   pub empty : (i : ℕ) → size + count ≤ i → node_at nodes i ≡ nothing
 
--- the tree's invariant: fewer than twice as many leaves as groups, and the free groups are counted
+-- the tree's invariant: no leaf, or fewer than twice as many as groups, and the free groups are counted
 pub record IsValidTree (size count free : ℕ) (nodes : List Choices) : Type 0 where
   pub grown : IsGrown size count nodes
   pub close : size ≤ 2 * count - 1

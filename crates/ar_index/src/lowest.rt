@@ -5,7 +5,7 @@ ghost use Rattle.std.specs.Option.{option_or, unwrap_or, ForSome};
 
 use std::marker::Model;
 
-/// What stands for no group. Each group's number is below it.
+/// No group. Each group's number is below it.
 const NONE: u32 = u32::MAX;
 
 /// The number of a group, or none. A contract sees it as an `Option`.

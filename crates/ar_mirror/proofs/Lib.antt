@@ -3,5 +3,5 @@ pub mod Holding
 pub mod Frames
 pub mod Rebuilding
 pub mod Plans
-pub mod Told
+pub mod Reported
 pub mod Standing

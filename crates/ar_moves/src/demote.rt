@@ -41,7 +41,7 @@ pub fn demote_one<D: Disk>(store: &mut Store<D>) -> Move
     if let Health::Broken = store.health() {
         return Move::Broken;
     }
-    match store.book().oldest_mirrored(&mut Steps::new()) {
+    match store.book().oldest_mirrored() {
         Some(key) => demote(store, key),
         None => Move::Idle,
     }

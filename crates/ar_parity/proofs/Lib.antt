@@ -4,7 +4,7 @@ pub mod Updates
 pub mod SlotLemmas
 pub mod Frames
 pub mod Plans
-pub mod Told
+pub mod Reported
 pub mod Stripes
 pub mod Standing
 pub mod Outcomes

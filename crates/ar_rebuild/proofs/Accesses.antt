@@ -24,39 +24,39 @@ use Rattle.ar_rebuild.specs.Plans.{IsMemberNext, HasNothingNext, after_answer, C
 use Rattle.ar_rebuild.specs.Rows.{IsBesideNext, HasNotFaulted, StopsWriting}
 use Rattle.ar_rebuild.specs.Rebuild.{NothingToRebuild, RebuildsExtent}
 use Rattle.ar_rebuild.proofs.StepLemmas.{was_rebuilding}
-use Rattle.ar_rebuild.proofs.Told.{NeedsNext, PlanEffect, plan_effect, StopTold, stop_told, given_up_changes}
-use Rattle.ar_rebuild.proofs.Told.{broken_changes}
+use Rattle.ar_rebuild.proofs.Reported.{NeedsNext, PlanEffect, plan_effect, StopReported, stop_reported, given_up_changes}
+use Rattle.ar_rebuild.proofs.Reported.{broken_changes}
 
 -- `Idle` is returned exactly where nothing is to be rebuilt,
 pub answer_idle : (r : Rebuild) (a b : SetState) → RebuildsExtent a b r → (r ≡ Idle) ↔ NothingToRebuild a.health
-answer_idle (Rebuilt extent left) a b told =
-    ((λ e. absurd (cc)), (λ quiet. absurd (subst (λ (h : Health). NothingToRebuild h) told.was quiet)))
-answer_idle Finished a b told = ((λ e. absurd (cc)), (λ quiet. absurd (was_rebuilding a.health told.was quiet)))
-answer_idle Idle a b told = ((λ e. told.quiet), (λ quiet. refl))
-answer_idle GivenUp a b told = ((λ e. absurd (cc)), (λ quiet. absurd (was_rebuilding a.health told.was quiet)))
-answer_idle Broken a b told = ((λ e. absurd (cc)), (λ quiet. absurd (told.was quiet)))
+answer_idle (Rebuilt extent left) a b reported =
+    ((λ e. absurd (cc)), (λ quiet. absurd (subst (λ (h : Health). NothingToRebuild h) reported.was quiet)))
+answer_idle Finished a b reported = ((λ e. absurd (cc)), (λ quiet. absurd (was_rebuilding a.health reported.was quiet)))
+answer_idle Idle a b reported = ((λ e. reported.quiet), (λ quiet. refl))
+answer_idle GivenUp a b reported = ((λ e. absurd (cc)), (λ quiet. absurd (was_rebuilding a.health reported.was quiet)))
+answer_idle Broken a b reported = ((λ e. absurd (cc)), (λ quiet. absurd (reported.was quiet)))
 
 -- `Broken` exactly where the array has failed,
 pub answer_broken : (r : Rebuild) (a b : SetState) → RebuildsExtent a b r → (r ≡ Broken) ↔ (b.health ≡ AllBroken)
-answer_broken (Rebuilt extent left) a b told =
-    ((λ e. absurd (cc)), (λ broken. absurd (let k = sym told.health ∙ broken in cc)))
-answer_broken Finished a b told = ((λ e. absurd (cc)), (λ broken. absurd (let k = sym told.health ∙ broken in cc)))
-answer_broken Idle a b told = (
+answer_broken (Rebuilt extent left) a b reported =
+    ((λ e. absurd (cc)), (λ broken. absurd (let k = sym reported.health ∙ broken in cc)))
+answer_broken Finished a b reported = ((λ e. absurd (cc)), (λ broken. absurd (let k = sym reported.health ∙ broken in cc)))
+answer_broken Idle a b reported = (
   (λ e. absurd (cc)),
   (λ broken. absurd
       (subst (λ (h : Health). NothingToRebuild h)
-      (sym (ap (λ (s : SetState). s.health) told.same) ∙ broken) told.quiet)),
+      (sym (ap (λ (s : SetState). s.health) reported.same) ∙ broken) reported.quiet)),
 )
-answer_broken GivenUp a b told = ((λ e. absurd (cc)), (λ broken. absurd (let k = sym told.given_up.out ∙ broken in cc)))
-answer_broken Broken a b told = ((λ e. told.failed.broken), (λ broken. refl))
+answer_broken GivenUp a b reported = ((λ e. absurd (cc)), (λ broken. absurd (let k = sym reported.given_up.out ∙ broken in cc)))
+answer_broken Broken a b reported = ((λ e. reported.failed.broken), (λ broken. refl))
 
 -- and then the replaced disk hasn't faulted.
 pub answer_spared : (r : Rebuild) (a b : SetState) → RebuildsExtent a b r → r ≡ Broken → HasNotFaulted a b
-answer_spared (Rebuilt extent left) a b told is = absurd (cc)
-answer_spared Finished a b told is = absurd (cc)
-answer_spared Idle a b told is = absurd (cc)
-answer_spared GivenUp a b told is = absurd (cc)
-answer_spared Broken a b told is = told.failed.spared
+answer_spared (Rebuilt extent left) a b reported is = absurd (cc)
+answer_spared Finished a b reported is = absurd (cc)
+answer_spared Idle a b reported is = absurd (cc)
+answer_spared GivenUp a b reported is = absurd (cc)
+answer_spared Broken a b reported is = reported.failed.spared
 
 -- a member of one of some groups is the extent, or none is
 record Found (s : StoreState) (p : Place) (n : ℕ) : Type 0 where
@@ -195,9 +195,9 @@ module _ (old : StoreState) (r : Rebuild) (new : SetState) (space : IsSpace old)
 
     -- where a step stopped in a member of a group
     pub rebuild_stopped : (g i : ℕ) (stop : StopsWriting old new) (next : IsMemberNext old g i)
-        → StopTold old.disks new (stop.stops g i next).row
+        → StopReported old.disks new (stop.stops g i next).row
     rebuild_stopped g i stop next =
-        stop_told (class_in old g) (members_of old g) i old.disks new (slot_group old g space next.there) next.below
+        stop_reported (class_in old g) (members_of old g) i old.disks new (slot_group old g space next.there) next.below
         next.rebuilding next.is
         (stop.stops g i next)
 
@@ -205,17 +205,17 @@ module _ (old : StoreState) (r : Rebuild) (new : SetState) (space : IsSpace old)
 pub rebuild_nothing : (r : Rebuild) (old : StoreState) (new : SetState) → HasNothingNext old
     → RebuildsExtent old.disks new r → CarriesOutRebuild old r new
     → new ≡ with_done old.disks
-rebuild_nothing (Rebuilt extent left) old new nothing told carried =
+rebuild_nothing (Rebuilt extent left) old new nothing reported carried =
     carried.done ∙ ap with_done (carried.accesses.nothing nothing)
-rebuild_nothing Finished old new nothing told carried =
+rebuild_nothing Finished old new nothing reported carried =
     carried.done ∙ ap with_done (carried.accesses.nothing nothing)
-rebuild_nothing Idle old new nothing told carried =
-    absurd (was_rebuilding old.disks.health nothing.rebuilding told.quiet)
-rebuild_nothing GivenUp old new nothing told carried =
+rebuild_nothing Idle old new nothing reported carried =
+    absurd (was_rebuilding old.disks.health nothing.rebuilding reported.quiet)
+rebuild_nothing GivenUp old new nothing reported carried =
     absurd
-    (given_up_changes old.disks new nothing.rebuilding told.given_up
+    (given_up_changes old.disks new nothing.rebuilding reported.given_up
     (ap (λ (s : SetState). s.health) (carried.done ∙ carried.accesses.nothing nothing)))
-rebuild_nothing Broken old new nothing told carried =
+rebuild_nothing Broken old new nothing reported carried =
     absurd
-    (broken_changes old.disks new nothing.rebuilding told.failed.broken
+    (broken_changes old.disks new nothing.rebuilding reported.failed.broken
     (ap (λ (s : SetState). s.health) (carried.done ∙ carried.accesses.nothing nothing)))

@@ -106,8 +106,8 @@ pub all_succeeded : (ts : List Attempt) (a b : SetState) → AllUsed a.health ts
     → b.health ≡ a.health → CarriesOut (all_of ts Stop) a b
     → AttemptsAll ts true a b
 all_succeeded ts a b used is same carried =
-    let told = turned ts a b carried in
-    succeeded ts told.done a b used is (subst (λ (h : Health). IsRebuilding h) (sym same) is) told.made
+    let reported = turned ts a b carried in
+    succeeded ts reported.done a b used is (subst (λ (h : Health). IsRebuilding h) (sym same) is) reported.made
 
 -- and where health has changed, one didn't
 failed_by : (ts : List Attempt) (done : Bool) (a b : SetState) → (b.health ≡ a.health → ⊥) → AttemptsAll ts done a b
@@ -117,7 +117,7 @@ failed_by ts false a b changed made = made
 
 pub one_stopped : (ts : List Attempt) (a b : SetState) → (b.health ≡ a.health → ⊥) → CarriesOut (all_of ts Stop) a b
     → AttemptsAll ts false a b
-one_stopped ts a b changed carried = let told = turned ts a b carried in failed_by ts told.done a b changed told.made
+one_stopped ts a b changed carried = let reported = turned ts a b carried in failed_by ts reported.done a b changed reported.made
 
 -- the attempts for some rows stopped at one of them
 pub record StopsAt (class : Class) (m : Members) (i n : ℕ) (a c : SetState) : Type 0 where

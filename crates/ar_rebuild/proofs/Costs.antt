@@ -21,7 +21,7 @@ use Rattle.ar_rebuild.specs.declared.step.Rebuild.TheVariants.{Rebuilt, Finished
 use Rattle.ar_rebuild.specs.Plans.{row_attempts, rows_attempts, member_plan, IsMemberNext, HasNothingNext, after_answer}
 use Rattle.ar_rebuild.specs.Plans.{CarriesOutRebuild, row_kinds, rows_kinds}
 use Rattle.ar_rebuild.proofs.Attempts.{AllUsed}
-use Rattle.ar_rebuild.proofs.Told.{rows_used}
+use Rattle.ar_rebuild.proofs.Reported.{rows_used}
 
 -- the kinds of accesses, and of attempts
 abbrev kinds_made : List RowAccess → List AccessKind

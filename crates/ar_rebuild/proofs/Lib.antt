@@ -1,6 +1,6 @@
 pub mod Writing
 pub mod Attempts
-pub mod Told
+pub mod Reported
 pub mod RowLemmas
 pub mod ExtentLemmas
 pub mod Advancing

@@ -27,7 +27,7 @@ use Rattle.ar_store.proofs.Alike.{class_alike}
 use Rattle.ar_rebuild.specs.Plans.{row_attempts, rows_attempts}
 use Rattle.ar_rebuild.specs.Rows.{GroupIsWhole, StopsAtRow}
 use Rattle.ar_rebuild.proofs.Writing.{next_same, row_kept, writes_alike}
-use Rattle.ar_rebuild.proofs.Told.{RowEffect, RowsEffect}
+use Rattle.ar_rebuild.proofs.Reported.{RowEffect, RowsEffect}
 
 -- The first `rows` rows of a mirrored member are its partner's.
 pub record AreCopied (a b : SetState) (m : Members) (position rows : ℕ) : Type 0 where

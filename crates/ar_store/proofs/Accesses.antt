@@ -10,9 +10,9 @@ use Rattle.ar_extents.specs.Plans.{Attempt, AccessPlan, CarriesOut, RebuildsNoth
 use Rattle.ar_extents.proofs.Follows.{keeps_refl}
 use Rattle.ar_extents.proofs.Asking.{nothing_done}
 use Rattle.ar_extents.proofs.Carried.{plan_follows, plan_loose, plan_lost, rebuilds_neither}
-use Rattle.ar_mirror.proofs.Told.{read_told}
+use Rattle.ar_mirror.proofs.Reported.{read_reported}
 use Rattle.ar_parity.specs.Plans.{writes_from, stripes_from}
-use Rattle.ar_parity.proofs.Told.{slot_read as parity_told}
+use Rattle.ar_parity.proofs.Reported.{slot_read as parity_reported}
 use Rattle.ar_book.specs.declared.class.Class.{Class}
 use Rattle.ar_book.specs.declared.class.Class.TheVariants.{Free, Mirrored, Parity}
 use Rattle.ar_book.specs.declared.class.Slot.{Slot}
@@ -100,8 +100,8 @@ slot_keeps : (c : Class) (m : Members) (i : ℕ) (a b : SetState) → CarriesOut
     → Keeps Anywhere a b
 slot_keeps Free m i a b carried =
     subst (λ (s : SetState). Keeps Anywhere a s) (nothing_done a b carried) (keeps_refl Anywhere a)
-slot_keeps Mirrored m i a b carried = (read_told m i a b carried).keeps
-slot_keeps Parity m i a b carried = (parity_told m i a b carried).keeps
+slot_keeps Mirrored m i a b carried = (read_reported m i a b carried).keeps
+slot_keeps Parity m i a b carried = (parity_reported m i a b carried).keeps
 
 home_keeps : (s : StoreState) (h : Option Slot) (b : SetState) → CarriesOut (home_read s h) s.disks b
     → Keeps Anywhere s.disks b

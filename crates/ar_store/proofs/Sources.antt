@@ -22,7 +22,7 @@ use Rattle.ar_mirror.specs.Plans.{mirror_read}
 use Rattle.ar_mirror.proofs.Frames.{read_holds as mirror_read_holds, disjoint_holds as mirror_disjoint}
 use Rattle.ar_parity.specs.Group.{Holds as ParityHolds, HoldsStripe, KeepsButRow}
 use Rattle.ar_parity.specs.Row.{row_of}
-use Rattle.ar_parity.proofs.Told.{StripeWritten, other_stripe_holds}
+use Rattle.ar_parity.proofs.Reported.{StripeWritten, other_stripe_holds}
 use Rattle.ar_book.specs.declared.class.Class.TheVariants.{Mirrored}
 use Rattle.ar_book.specs.Tables.{slots_of}
 use Rattle.ar_store.specs.Slots.{IsSource, AreSources, HoldsSource}

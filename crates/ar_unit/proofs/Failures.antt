@@ -29,7 +29,7 @@ code_of reply = code_in reply.sense
 -- a reply of another code is another reply
 other_code : (reply : Reply) → eqb (code_of reply) 0x44 ≡ false → reply ≢ check internal_target_failure
 unfolding code_of code_in
-other_code reply other same = let told = sym (ap (λ (r : Reply). eqb (code_of r) 0x44) same) ∙ other in cc
+other_code reply other same = let reported = sym (ap (λ (r : Reply). eqb (code_of r) 0x44) same) ∙ other in cc
 
 -- a block that is refused is refused with one of two senses, neither of which is the failure
 abbrev IsOther : Result Command Sense → Type 0

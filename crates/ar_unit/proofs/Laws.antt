@@ -277,12 +277,12 @@ absent-in_place : (cdb : List ℕ) (b : Bool) (payload : List ℕ) → (b ≡ tr
 absent-in_place cdb true payload h = let e = h refl in rw e refl
 absent-in_place cdb false payload h = refl
 
-told_or_not :
-    (cdb : List ℕ) (inquires : Bool) (broken : Reply) (obeyed told : Answered) → broken ≡ where_broken cdb obeyed.reply
-    → told.reply ≡ check capacity_data_has_changed
-    → cond (not inquires) (check capacity_data_has_changed) broken ≡ where_broken cdb (cond inquires obeyed told).reply
-told_or_not cdb true broken obeyed told h e = h
-told_or_not cdb false broken obeyed told h e = rw e refl
+reported_or_not :
+    (cdb : List ℕ) (inquires : Bool) (broken : Reply) (obeyed reported : Answered) → broken ≡ where_broken cdb obeyed.reply
+    → reported.reply ≡ check capacity_data_has_changed
+    → cond (not inquires) (check capacity_data_has_changed) broken ≡ where_broken cdb (cond inquires obeyed reported).reply
+reported_or_not cdb true broken obeyed reported h e = h
+reported_or_not cdb false broken obeyed reported h e = rw e refl
 
 -- what a broken array answers goes by the shape
 pub broken_answer-is :
@@ -292,7 +292,7 @@ unfolding answer broken_answer
 broken_answer-is Absent cdb bytes =
     absent-in_place cdb (eqb (operation_code cdb) 0x12) _ (λ e. inquiry-needs_none cdb (eqb-true _ _ e))
 broken_answer-is (Present sectors true) cdb bytes =
-    told_or_not cdb (eqb (operation_code cdb) 0x12) _ (obeyed sectors true (reading cdb) bytes) _
+    reported_or_not cdb (eqb (operation_code cdb) 0x12) _ (obeyed sectors true (reading cdb) bytes) _
     (broken_obeyed-is sectors true (reading cdb) bytes) refl
 broken_answer-is (Present sectors false) cdb bytes = broken_obeyed-is sectors false (reading cdb) bytes
 

@@ -42,20 +42,20 @@ served_absent false sectors attention cdb bytes reply e given =
     record { given = given; left = λ _. refl; unchanged = λ _. refl }
 
 -- a pending attention that is reported
-pub served_told :
+pub served_reported :
     (present : Bool) (sectors : List Sector) (attention : Bool) (cdb bytes : List ℕ) (reply : Reply)
     → present ≡ true → attention ≡ true → eqb (operation_code cdb) 0x12 ≡ false
     → reply ≡ check capacity_data_has_changed
     → IsServed (state_of present sectors attention) (answer (state_of present sectors attention) cdb bytes) reply
     (state_of present sectors false)
 unfolding answer
-served_told true sectors true cdb bytes reply e f code r =
+served_reported true sectors true cdb bytes reply e f code r =
     served_whole (Present sectors true) (answer (Present sectors true) cdb bytes) reply (Present sectors false)
     (ap (λ (x : Reply). leaving (Present sectors false) x) r
     ∙ sym (cond-false (eqb (operation_code cdb) 0x12) _ _ code))
     (answer-not_busy (Present sectors true) cdb bytes)
-served_told false sectors attention cdb bytes reply e f code r = absurd (true≢false (sym e))
-served_told true sectors false cdb bytes reply e f code r = absurd (true≢false (sym f))
+served_reported false sectors attention cdb bytes reply e f code r = absurd (true≢false (sym e))
+served_reported true sectors false cdb bytes reply e f code r = absurd (true≢false (sym f))
 
 -- from the command block on
 pub served_obeyed :

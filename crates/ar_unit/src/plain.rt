@@ -12,18 +12,19 @@ ghost use Rattle.ar_unit.specs.Unit.{Absent, Present, Make, Grow, Remove, answer
 ghost use Rattle.ar_unit.specs.Unit.{write_answer, unmap_answer, unmap_obeyed, IsGiven, IsServed};
 
 use crate::reply::{absent, capacity, inquiry, is_past_end, with_bytes};
+use ar_disks::SECTOR_LEN;
 use ar_scsi::{Command, Reply, Sense, decode, is_inquiry};
 use bytes::Bytes;
 use std::alloc::{AllocError, Global};
 use std::marker::Model;
 
-const ZERO_SECTOR: [u8; 512] = [0; 512];
+const ZERO_SECTOR: [u8; SECTOR_LEN] = [0; SECTOR_LEN];
 
 /// A logical unit as a plain list of sectors. Contracts see it as a `UnitState`.
 #[derive(Drop)]
 pub struct PlainUnit {
     present: bool,
-    sectors: Vec<[u8; 512]>,
+    sectors: Vec<[u8; SECTOR_LEN]>,
     attention: bool,
 }
 
@@ -125,7 +126,7 @@ impl PlainUnit {
 
 // Executes a valid command on a present unit.
 #[tactic(auto, unfolding(crate::specs::Unit::obeyed))]
-fn obey(alloc: Global, sectors: &mut Vec<[u8; 512]>, command: Command, bytes: &[u8]) -> Reply
+fn obey(alloc: Global, sectors: &mut Vec<[u8; SECTOR_LEN]>, command: Command, bytes: &[u8]) -> Reply
     requires some { 1 ≤ vec_len sectors.old }
     requires few { vec_len sectors.old < 2 ^ 32 }
     ensures served { (attention : Bool) → IsServed (Present sectors.old.items attention)
@@ -142,7 +143,7 @@ fn obey(alloc: Global, sectors: &mut Vec<[u8; 512]>, command: Command, bytes: &[
     }
 }
 
-fn read(alloc: Global, sectors: &Vec<[u8; 512]>, lba: u64, count: u16) -> Reply
+fn read(alloc: Global, sectors: &Vec<[u8; SECTOR_LEN]>, lba: u64, count: u16) -> Reply
     requires few { vec_len sectors.now < 2 ^ 32 }
     ensures { IsGiven (read_reply sectors.now.items lba count) result }
 {
@@ -161,15 +162,15 @@ fn read(alloc: Global, sectors: &Vec<[u8; 512]>, lba: u64, count: u16) -> Reply
 }
 
 // The size of the sectors, in bytes.
-fn byte_count(sectors: &[[u8; 512]]) -> usize
+fn byte_count(sectors: &[[u8; SECTOR_LEN]]) -> usize
     requires { length sectors.now < 2 ^ 16 }
     ensures { result ≡ length (concat sectors.now) }
 {
-    512 * sectors.len()
+    SECTOR_LEN * sectors.len()
 }
 
 // The bytes of the sectors, concatenated. Fails if out of memory.
-fn joined(alloc: Global, sectors: &[[u8; 512]]) -> Result<Bytes, AllocError>
+fn joined(alloc: Global, sectors: &[[u8; SECTOR_LEN]]) -> Result<Bytes, AllocError>
     requires { length sectors.now < 2 ^ 16 }
     ensures { IfOk result (λ bytes. bytes ≡ concat sectors.now) }
 {
@@ -181,7 +182,7 @@ fn joined(alloc: Global, sectors: &[[u8; 512]]) -> Result<Bytes, AllocError>
 }
 
 // The contract holds with and without a pending UNIT ATTENTION, which this leaves unchanged.
-fn write(sectors: &mut Vec<[u8; 512]>, lba: u64, count: u16, bytes: &[u8]) -> Reply
+fn write(sectors: &mut Vec<[u8; SECTOR_LEN]>, lba: u64, count: u16, bytes: &[u8]) -> Reply
     requires few { vec_len sectors.old < 2 ^ 32 }
     ensures served { (attention : Bool) → leaving (Present sectors.new.items attention) result
         ≡ write_answer sectors.old.items attention lba count bytes.now }
@@ -190,7 +191,7 @@ fn write(sectors: &mut Vec<[u8; 512]>, lba: u64, count: u16, bytes: &[u8]) -> Re
     if is_past_end(sectors.len() as u32, lba, u32::from(count)) {
         return Reply::check(Sense::LOGICAL_BLOCK_ADDRESS_OUT_OF_RANGE);
     }
-    if bytes.len() != usize::from(count) * 512 {
+    if bytes.len() != usize::from(count) * SECTOR_LEN {
         return Reply::check(Sense::DATA_PHASE_ERROR);
     }
     let first = lba as usize;
@@ -200,18 +201,18 @@ fn write(sectors: &mut Vec<[u8; 512]>, lba: u64, count: u16, bytes: &[u8]) -> Re
 }
 
 // Overwrites the sectors with `bytes`.
-fn overwrite(sectors: &mut [[u8; 512]], bytes: &[u8])
+fn overwrite(sectors: &mut [[u8; SECTOR_LEN]], bytes: &[u8])
     requires { length bytes.now ≡ length sectors.old * 512 }
     ensures { sectors.new ≡ cut 512 (length sectors.old) bytes.now }
 {
     for i in 0..sectors.len() {
         let sector = &mut sectors[i];
-        sector.copy_from_slice(&bytes[512 * i..512 * (i + 1)]);
+        sector.copy_from_slice(&bytes[SECTOR_LEN * i..SECTOR_LEN * (i + 1)]);
     }
 }
 
 // Sets the range to zero.
-fn discard(sectors: &mut Vec<[u8; 512]>, lba: u64, count: u32) -> Reply
+fn discard(sectors: &mut Vec<[u8; SECTOR_LEN]>, lba: u64, count: u32) -> Reply
     requires few { vec_len sectors.old < 2 ^ 32 }
     ensures served { leaving (Present sectors.new.items false) result ≡ unmap_obeyed sectors.old.items lba count }
     ensures len { vec_len sectors.new ≡ vec_len sectors.old }
@@ -226,7 +227,7 @@ fn discard(sectors: &mut Vec<[u8; 512]>, lba: u64, count: u32) -> Reply
 }
 
 // Sets the sectors to zero.
-fn clear(sectors: &mut [[u8; 512]])
+fn clear(sectors: &mut [[u8; SECTOR_LEN]])
     ensures { sectors.new ≡ zero_sectors (length sectors.old) }
 {
     for i in 0..sectors.len() {
@@ -237,7 +238,7 @@ fn clear(sectors: &mut [[u8; 512]])
 
 // Appends zero sectors up to `count` in all, if there are fewer. `Err` appends none.
 #[tactic(auto, unfolding(crate::specs::Sectors::zero_sector))]
-fn lengthen(sectors: &mut Vec<[u8; 512]>, count: u32) -> Result<(), AllocError>
+fn lengthen(sectors: &mut Vec<[u8; SECTOR_LEN]>, count: u32) -> Result<(), AllocError>
     ensures ok { OnOk result (sectors.new.items
         ≡ sectors.old.items ++ zero_sectors (count - vec_len sectors.old)) }
     ensures err { OnErr result (sectors.new.items ≡ sectors.old.items) }

@@ -2,7 +2,7 @@ use Rattle.std.proofs.Common.{◌+◌, ◌∙◌, sym, arith}
 use Rattle.std.proofs.lemmas.List.{drop-set-add}
 use Rattle.ar_index.specs.Choices.{place_in}
 use Rattle.ar_index.specs.Tree.{node_at}
-use Rattle.ar_index.proofs.Climb.{put_joined, none_told, put_changed, put_stayed}
+use Rattle.ar_index.proofs.Climb.{put_joined, none_reported, put_changed, put_stayed}
 use Rattle.ar_index.proofs.nodes.put.Goals as goal
 
 pub climb-requires-clause-joined : goal.climb-requires-clause-joined
@@ -18,7 +18,7 @@ returns-clause-leaves g c =
 pub returns-clause-still : goal.returns-clause-still
 returns-clause-still g c = λ same.
     c.climb.ensures.still
-    (none_told (node_at c.args.nodes.now.items (c.args.size + c.args.leaf)) c.args.choices.now c.change_at-change.result
+    (none_reported (node_at c.args.nodes.now.items (c.args.size + c.args.leaf)) c.args.choices.now c.change_at-change.result
     (rw c.deref.ensures.value at c.change_at-change.ensures) (sym same))
 
 pub returns-clause-changed : goal.returns-clause-changed

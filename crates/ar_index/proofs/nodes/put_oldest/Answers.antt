@@ -2,7 +2,7 @@ use Rattle.std.proofs.Common.{◌+◌, ◌∙◌, sym, arith}
 use Rattle.std.proofs.lemmas.List.{drop-set-add}
 use Rattle.ar_index.specs.Choices.{place_in, with_oldest}
 use Rattle.ar_index.specs.Tree.{node_at}
-use Rattle.ar_index.proofs.Climb.{put_joined, none_told, put_changed, put_stayed}
+use Rattle.ar_index.proofs.Climb.{put_joined, none_reported, put_changed, put_stayed}
 use Rattle.ar_index.proofs.nodes.put_oldest.Goals as goal
 
 pub climb-requires-clause-joined : goal.climb-requires-clause-joined
@@ -21,7 +21,7 @@ returns-clause-leaves g c =
 
 pub returns-clause-still : goal.returns-clause-still
 returns-clause-still g c = λ same.
-    c.climb.ensures.still (none_told (node_at c.args.nodes.now.items (c.args.size + c.args.leaf))
+    c.climb.ensures.still (none_reported (node_at c.args.nodes.now.items (c.args.size + c.args.leaf))
     (with_oldest (node_at c.args.nodes.now.items (c.args.size + c.args.leaf)) c.args.oldest)
     c.set_oldest_at-change.result c.set_oldest_at-change.ensures.changed same)
 

@@ -1,7 +1,7 @@
 use Rattle.std.proofs.Common.{arith}
 use Rattle.ar_parity.specs.Row.{parity_position}
-use Rattle.ar_parity.proofs.Told.{stripe_told, stripe_keeps}
-use Rattle.ar_parity.proofs.Outcomes.{outcome_told}
+use Rattle.ar_parity.proofs.Reported.{stripe_reported, stripe_keeps}
+use Rattle.ar_parity.proofs.Outcomes.{outcome_reported}
 use Rattle.ar_parity.proofs.SlotLemmas.{others_kept_at}
 use Rattle.ar_parity.proofs.Plans.{write_carried}
 use Rattle.ar_parity.proofs.group.put.Goals as goal
@@ -14,13 +14,13 @@ returns-clause-slots g c =
     let i = c.data_at.result in
     let row = c.row_of_slot.result in
     let j = parity_position row in
-    let told = stripe_told m i j row a b c.data_at.ensures.below (omega arith) c.change.ensures.plan in
+    let reported = stripe_reported m i j row a b c.data_at.ensures.below (omega arith) c.change.ensures.plan in
     others_kept_at a b m c.args.slot row i c.args.from.now c.row_of_slot.ensures c.data_at.ensures.position
-    told.works.follows c.change.ensures.changes
-    (stripe_keeps m i j row a b c.data_at.ensures.below (omega arith) told)
+    reported.works.follows c.change.ensures.changes
+    (stripe_keeps m i j row a b c.data_at.ensures.below (omega arith) reported)
 
 pub returns-clause-outcome : goal.returns-clause-outcome
-returns-clause-outcome g c = outcome_told c.change.new.set c.change.result c.change.ensures.answer
+returns-clause-outcome g c = outcome_reported c.change.new.set c.change.result c.change.ensures.answer
 
 pub returns-clause-plan : goal.returns-clause-plan
 returns-clause-plan g c =

@@ -14,7 +14,7 @@ use Rattle.ar_mirror.specs.Plans.{copy_row}
 use Rattle.ar_book.specs.declared.class.Class.TheVariants.{Mirrored}
 use Rattle.ar_rebuild.specs.Plans.{rows_attempts}
 use Rattle.ar_rebuild.proofs.Attempts.{rows_carried}
-use Rattle.ar_rebuild.proofs.Told.{OneMore, one_more, rows_effect, copied_carried, given_up_changes, broken_changes}
+use Rattle.ar_rebuild.proofs.Reported.{OneMore, one_more, rows_effect, copied_carried, given_up_changes, broken_changes}
 use Rattle.ar_rebuild.proofs.Writing.{next_same, stopped_then}
 use Rattle.ar_rebuild.proofs.RowLemmas.{AreCopied, none_copied, copied_then, copied_whole, copied_stops}
 use Rattle.ar_rebuild.proofs.rows.copy_rows.Goals as goal

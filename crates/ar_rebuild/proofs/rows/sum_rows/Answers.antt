@@ -13,7 +13,7 @@ use Rattle.ar_parity.specs.Plans.{parity_rebuild}
 use Rattle.ar_book.specs.declared.class.Class.TheVariants.{Parity}
 use Rattle.ar_rebuild.specs.Plans.{rows_attempts}
 use Rattle.ar_rebuild.proofs.Attempts.{rows_carried}
-use Rattle.ar_rebuild.proofs.Told.{OneMore, one_more, rows_effect, given_up_changes, broken_changes}
+use Rattle.ar_rebuild.proofs.Reported.{OneMore, one_more, rows_effect, given_up_changes, broken_changes}
 use Rattle.ar_rebuild.proofs.Writing.{next_same, stopped_then}
 use Rattle.ar_rebuild.proofs.RowLemmas.{AreSummed, none_summed, summed_then, summed_whole, summed_stops}
 use Rattle.ar_rebuild.proofs.rows.sum_rows.Goals as goal

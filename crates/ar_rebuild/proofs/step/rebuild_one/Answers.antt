@@ -10,11 +10,11 @@ pub rebuild_extent-requires : goal.rebuild_extent-requires
 rebuild_extent-requires g c =
     let disks : c.disks.result.now ≡ c.store.inside.space.disks =
     c.disks.ensures ∙ ap (λ (s : StoreState). s.disks) (sym c.store.view_is) in
-    let told = c.in-Rebuilding.ensures in
+    let reported = c.in-Rebuilding.ensures in
     record {
       ready = ready_in c.store.inside.space c.store.inside.block c.store.invariant;
-      rebuilding = sym (told.same ∙ ap (λ (s : SetState). s.health) disks);
-      exists = subst (λ (s : SetState). c.in-Rebuilding.extent < s.extents) disks told.fits.1;
+      rebuilding = sym (reported.same ∙ ap (λ (s : SetState). s.health) disks);
+      exists = subst (λ (s : SetState). c.in-Rebuilding.extent < s.extents) disks reported.fits.1;
     }
 
 pub invariant_of-store : goal.invariant_of-store

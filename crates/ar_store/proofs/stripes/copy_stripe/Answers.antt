@@ -5,7 +5,7 @@ use Rattle.ar_extents.proofs.Outcomes.{broken_is}
 use Rattle.ar_extents.proofs.Plans.{both_carried, carries_broken}
 use Rattle.ar_parity.specs.Plans.{stripe_writes}
 use Rattle.ar_parity.specs.Row.{row_of}
-use Rattle.ar_parity.proofs.Told.{stripe_writes_told}
+use Rattle.ar_parity.proofs.Reported.{stripe_writes_reported}
 use Rattle.ar_store.specs.Plans.{sources_plan}
 use Rattle.ar_store.specs.Slots.{HoldsSource}
 use Rattle.ar_store.proofs.Fills.{accessed_then, accessed_work}
@@ -35,7 +35,7 @@ returns-in-Done-clause-keeps g c =
     let b = c.read_sources.new.disks in
     let new = c.put_stripe.new.set in
     stripe_keeps c.args.to.now c.args.row c.args.disks.now b new c.read_sources.ensures.keeps
-    (stripe_writes_told c.args.to.now c.args.row b new c.put_stripe.ensures.plan)
+    (stripe_writes_reported c.args.to.now c.args.row b new c.put_stripe.ensures.plan)
 
 pub returns-in-Done-clause-accessed : goal.returns-in-Done-clause-accessed
 returns-in-Done-clause-accessed g c =
@@ -43,7 +43,7 @@ returns-in-Done-clause-accessed g c =
     let b = c.read_sources.new.disks in
     let new = c.put_stripe.new.set in
     accessed_then c.args.disks.now b new c.read_sources.ensures.accessed
-    (accessed_work (IsMember m) b new (stripe_writes_told m c.args.row b new c.put_stripe.ensures.plan).works)
+    (accessed_work (IsMember m) b new (stripe_writes_reported m c.args.row b new c.put_stripe.ensures.plan).works)
 
 pub returns-in-Broken-clause-plan : goal.returns-in-Broken-clause-plan
 returns-in-Broken-clause-plan g c =

@@ -6,7 +6,7 @@ use Rattle.ar_book.specs.Changes.{opened}
 use Rattle.ar_store.specs.Store.{store_of, members_of}
 use Rattle.ar_store.specs.Spaces.{store_in}
 use Rattle.ar_disks.specs.Geometry.{rows_of}
-use Rattle.ar_parity.proofs.Told.{stripes_told}
+use Rattle.ar_parity.proofs.Reported.{stripes_reported}
 use Rattle.ar_store.specs.Calls.{IsAccessed}
 use Rattle.ar_store.proofs.Changes.{mirrored_not_parity}
 use Rattle.ar_extents.specs.Plans.{stops, CarriesOut}
@@ -89,13 +89,13 @@ returns-in-Done g c =
     let b = c.open_zero.new.set in
     let opening = c.in-Some.ensures in
     let zero = c.open_zero.ensures in
-    let told = stripes_told c.members-members.result 0 (rows_of s.disks.geometry) s.disks b zero.plan in
+    let reported = stripes_reported c.members-members.result 0 (rows_of s.disks.geometry) s.disks b zero.plan in
     let answer = sym c.in-Done.is ∙ zero.outcome in
     let tables = opening.opened ∙ ap (λ x. opened s.book c.in-Some.group x) c.in-Parity.is in
-    let access : IsAccessed s.disks b = accessed_work (IsMember c.members-members.result) s.disks b told.works in
+    let access : IsAccessed s.disks b = accessed_work (IsMember c.members-members.result) s.disks b reported.works in
     let zeros = zeroed s.disks b s.book u c.in-Some.group c.members-members.result c.requires.ready.space opening.lowest
     tables c.members-members.ensures
-    access told.keeps zero.slots in
+    access reported.keeps zero.slots in
     record {
       opens = record { many = opening.when.0 refl; lowest = opening.lowest; tables = opening.opened };
       answer = (
@@ -114,7 +114,7 @@ returns-in-Done g c =
         ready = record {
           space = zeros.space;
           scratch = zero.scratch ∙ c.requires.ready.scratch
-              ∙ sym told.works.follows.geometry;
+              ∙ sym reported.works.follows.geometry;
         };
         units = zeros.units;
         accessed = access;
@@ -128,13 +128,13 @@ returns-in-Broken g c =
     let b = c.open_zero.new.set in
     let opening = c.in-Some.ensures in
     let zero = c.open_zero.ensures in
-    let told = stripes_told c.members-members.result 0 (rows_of s.disks.geometry) s.disks b zero.plan in
+    let reported = stripes_reported c.members-members.result 0 (rows_of s.disks.geometry) s.disks b zero.plan in
     let broken = broken_is b.health (sym c.in-Broken.is ∙ zero.outcome) in
     let tables = opening.opened ∙ ap (λ x. opened s.book c.in-Some.group x) c.in-Parity.is in
-    let access : IsAccessed s.disks b = accessed_work (IsMember c.members-members.result) s.disks b told.works in
+    let access : IsAccessed s.disks b = accessed_work (IsMember c.members-members.result) s.disks b reported.works in
     let zeros = zeroed s.disks b s.book u c.in-Some.group c.members-members.result c.requires.ready.space opening.lowest
     tables c.members-members.ensures
-    access told.keeps zero.slots in
+    access reported.keeps zero.slots in
     record {
       opens = record {
         broken = broken;
@@ -154,7 +154,7 @@ returns-in-Broken g c =
         ready = record {
           space = zeros.space;
           scratch = zero.scratch ∙ c.requires.ready.scratch
-              ∙ sym told.works.follows.geometry;
+              ∙ sym reported.works.follows.geometry;
         };
         units = zeros.units;
         accessed = access;

@@ -2,8 +2,8 @@ use Rattle.std.proofs.Common.{sym, refl, ◌∙◌}
 use Rattle.ar_extents.specs.Groups.{IsMember}
 use Rattle.ar_mirror.specs.Calls.{IsInPair}
 use Rattle.ar_book.specs.declared.class.Class.TheVariants.{Mirrored, Parity}
-use Rattle.ar_mirror.proofs.Told.{read_told}
-use Rattle.ar_parity.proofs.Told.{slot_read}
+use Rattle.ar_mirror.proofs.Reported.{read_reported}
+use Rattle.ar_parity.proofs.Reported.{slot_read}
 use Rattle.ar_store.specs.Calls.{IsAccessed}
 use Rattle.ar_store.specs.Spaces.{store_in}
 use Rattle.ar_store.proofs.Changes.{units_refl}
@@ -34,10 +34,10 @@ returns-in-Mirrored g c =
     let m = c.members-members.result in
     let b = c.get.new.set in
     let read = c.get.ensures in
-    let told = read_told m c.args.slot.slot s.disks b read.plan in
+    let reported = read_reported m c.args.slot.slot s.disks b read.plan in
     let access : IsAccessed s.disks b =
-    accessed_work (IsInPair s.disks.geometry m c.args.slot.slot) s.disks b told.works in
-    let leaves = read_leaves s.disks b s.book c.requires.ready.space access told.keeps in
+    accessed_work (IsInPair s.disks.geometry m c.args.slot.slot) s.disks b reported.works in
+    let leaves = read_leaves s.disks b s.book c.requires.ready.space access reported.keeps in
     record {
       outcome = read.outcome;
       given = given_in s c.args.slot m c.requires.ready.space c.requires.slot c.members-members.ensures Mirrored
@@ -46,10 +46,10 @@ returns-in-Mirrored g c =
       book = refl;
       plan = read_in s c.args.slot m c.requires.ready.space c.requires.slot c.members-members.ensures Mirrored b
           (sym c.in-Mirrored.is ∙ c.class.ensures) read.plan;
-      keeps = told.keeps;
+      keeps = reported.keeps;
       stand = leaves.stand;
       stays = record {
-        ready = record { space = leaves.space; scratch = c.requires.ready.scratch ∙ sym told.works.follows.geometry };
+        ready = record { space = leaves.space; scratch = c.requires.ready.scratch ∙ sym reported.works.follows.geometry };
         units = units_refl s.book;
         accessed = access;
       };
@@ -73,9 +73,9 @@ returns-in-Parity g c =
     let m = c.members-members.result in
     let b = c.get-in-Parity.new.set in
     let read = c.get-in-Parity.ensures in
-    let told = slot_read m c.args.slot.slot s.disks b read.plan in
-    let access : IsAccessed s.disks b = accessed_work (IsMember m) s.disks b told.works in
-    let leaves = read_leaves s.disks b s.book c.requires.ready.space access told.keeps in
+    let reported = slot_read m c.args.slot.slot s.disks b read.plan in
+    let access : IsAccessed s.disks b = accessed_work (IsMember m) s.disks b reported.works in
+    let leaves = read_leaves s.disks b s.book c.requires.ready.space access reported.keeps in
     record {
       outcome = read.outcome;
       given = given_in s c.args.slot m c.requires.ready.space c.requires.slot c.members-members.ensures Parity
@@ -84,13 +84,13 @@ returns-in-Parity g c =
       book = refl;
       plan = read_in s c.args.slot m c.requires.ready.space c.requires.slot c.members-members.ensures Parity b
           (sym c.in-Parity.is ∙ c.class.ensures) read.plan;
-      keeps = told.keeps;
+      keeps = reported.keeps;
       stand = leaves.stand;
       stays = record {
         ready = record {
           space = leaves.space;
           scratch = read.scratch ∙ c.requires.ready.scratch
-              ∙ sym told.works.follows.geometry;
+              ∙ sym reported.works.follows.geometry;
         };
         units = units_refl s.book;
         accessed = access;

@@ -2,8 +2,8 @@ use Rattle.std.proofs.Common.{sym, refl, ◌∙◌}
 use Rattle.ar_extents.specs.Groups.{IsMember}
 use Rattle.ar_mirror.specs.Calls.{IsInPair}
 use Rattle.ar_book.specs.declared.class.Class.TheVariants.{Mirrored, Parity}
-use Rattle.ar_mirror.proofs.Told.{write_told}
-use Rattle.ar_parity.proofs.Told.{slot_told, slot_keeps}
+use Rattle.ar_mirror.proofs.Reported.{write_reported}
+use Rattle.ar_parity.proofs.Reported.{slot_reported, slot_keeps}
 use Rattle.ar_store.specs.Calls.{IsAccessed}
 use Rattle.ar_store.specs.Spaces.{store_in}
 use Rattle.ar_store.proofs.Changes.{units_refl}
@@ -34,18 +34,18 @@ returns-in-Mirrored g c =
     let s = store_in c.args.self.now in
     let b = c.put.new.set in
     let put = c.put.ensures in
-    let told = write_told c.members-members.result c.args.slot.slot s.disks b put.plan in
+    let reported = write_reported c.members-members.result c.args.slot.slot s.disks b put.plan in
     let access : IsAccessed s.disks b =
-    accessed_work (IsInPair s.disks.geometry c.members-members.result c.args.slot.slot) s.disks b told.works in
+    accessed_work (IsInPair s.disks.geometry c.members-members.result c.args.slot.slot) s.disks b reported.works in
     let written =
     written_mirrored s c.args.slot c.members-members.result c.requires.ready.space c.requires.slot
     c.members-members.ensures b c.args.from.now
-    (sym c.in-Mirrored.is ∙ c.class.ensures) put.holds put.slots told.keeps in
+    (sym c.in-Mirrored.is ∙ c.class.ensures) put.holds put.slots reported.keeps in
     record {
       outcome = put.outcome;
       here = written.here;
       others = slots_written s.disks b s.book c.args.slot c.args.from.now c.requires.ready.space c.requires.slot
-          told.works.follows written;
+          reported.works.follows written;
       book = refl;
       writes = wrote_in s c.args.slot c.members-members.result c.requires.ready.space c.requires.slot
           c.members-members.ensures Mirrored b
@@ -55,7 +55,7 @@ returns-in-Mirrored g c =
         ready = record {
           space = space_written s.disks b s.book c.args.slot c.args.from.now c.requires.ready.space c.requires.slot
               access c.requires.whole written;
-          scratch = c.requires.ready.scratch ∙ sym told.works.follows.geometry;
+          scratch = c.requires.ready.scratch ∙ sym reported.works.follows.geometry;
         };
         units = units_refl s.book;
         accessed = access;
@@ -80,9 +80,9 @@ returns-in-Parity g c =
     let b = c.put-in-Parity.new.set in
     let put = c.put-in-Parity.ensures in
     let m = c.members-members.result in
-    let told = slot_told m c.args.slot.slot s.disks b put.plan in
-    let keeps = slot_keeps m c.args.slot.slot s.disks b told in
-    let access : IsAccessed s.disks b = accessed_work (IsMember c.members-members.result) s.disks b told.works in
+    let reported = slot_reported m c.args.slot.slot s.disks b put.plan in
+    let keeps = slot_keeps m c.args.slot.slot s.disks b reported in
+    let access : IsAccessed s.disks b = accessed_work (IsMember c.members-members.result) s.disks b reported.works in
     let written =
     written_parity s c.args.slot c.members-members.result c.requires.ready.space c.requires.slot
     c.members-members.ensures b c.args.from.now
@@ -91,7 +91,7 @@ returns-in-Parity g c =
       outcome = put.outcome;
       here = written.here;
       others = slots_written s.disks b s.book c.args.slot c.args.from.now c.requires.ready.space c.requires.slot
-          told.works.follows written;
+          reported.works.follows written;
       book = refl;
       writes = wrote_in s c.args.slot c.members-members.result c.requires.ready.space c.requires.slot
           c.members-members.ensures Parity b
@@ -101,7 +101,7 @@ returns-in-Parity g c =
         ready = record {
           space = space_written s.disks b s.book c.args.slot c.args.from.now c.requires.ready.space c.requires.slot
               access c.requires.whole written;
-          scratch = put.scratch ∙ c.requires.ready.scratch ∙ sym told.works.follows.geometry;
+          scratch = put.scratch ∙ c.requires.ready.scratch ∙ sym reported.works.follows.geometry;
         };
         units = units_refl s.book;
         accessed = access;

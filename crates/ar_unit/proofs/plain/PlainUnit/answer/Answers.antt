@@ -1,6 +1,6 @@
 use Rattle.std.proofs.Common.{subst, ◌≡◌, ◌∙◌, ◌⊎◌, sym, inl, inr, true, false, eqb}
 use Rattle.ar_scsi.specs.Field.{operation_code}
-use Rattle.ar_unit.proofs.Serving.{served_absent, served_told, served_obeyed, served_refused}
+use Rattle.ar_unit.proofs.Serving.{served_absent, served_reported, served_obeyed, served_refused}
 use Rattle.ar_unit.specs.Plain.{state_of}
 use Rattle.ar_unit.specs.Unit.{UnitState, answer, IsServed}
 use Rattle.ar_unit.proofs.plain.PlainUnit.answer.Goals as goal
@@ -17,7 +17,7 @@ pub returns-then-not-is_inquiry : goal.returns-then-not-is_inquiry
 returns-then-not-is_inquiry c =
     let new : UnitState = state_of c.self.inside.present c.self.inside.sectors.items false in
     subst (λ (x : UnitState). IsServed x (answer x c.args.cdb.now c.args.bytes.now) c.check.result new) c.self.view_is
-    (served_told c.self.inside.present c.self.inside.sectors.items c.self.inside.attention _ _ _ c.if-not-self.false
+    (served_reported c.self.inside.present c.self.inside.sectors.items c.self.inside.attention _ _ _ c.if-not-self.false
     c.if-self.true
     (sym c.is_inquiry.ensures ∙ c.if-not-is_inquiry.true) c.check.ensures)
 

@@ -26,14 +26,14 @@ use Rattle.ar_mirror.specs.Holds.{Holds}
 use Rattle.ar_mirror.proofs.Rebuilding.{rebuild_holds}
 
 -- a read changes no row, and accesses the two extents alone
-pub record ReadTold (one other : Place) (a b : SetState) : Type 0 where
+pub record ReadReported (one other : Place) (a b : SetState) : Type 0 where
   pub keeps : Keeps Anywhere a b
   pub works : WorksOn (IsEither one other) a b
 
 read_by : (one other : Place) (row : ℕ) (a b c : SetState) (done : Bool) → Attempts (read_at one row) done a b
-    → CarriesOut (cond done Stop (Try (read_at other row) Stop Stop)) b c → ReadTold one other a c
+    → CarriesOut (cond done Stop (Try (read_at other row) Stop Stop)) b c → ReadReported one other a c
 read_by one other row a b c true tried rest =
-    subst (λ (s : SetState). ReadTold one other a s) (nothing_done b c rest) (record {
+    subst (λ (s : SetState). ReadReported one other a s) (nothing_done b c rest) (record {
       keeps = read_changes_none one row true a b tried;
       works = works_more (IsPlace one) (IsEither one other) a b (λ p is. inl is) (read_works one row true a b tried);
     })
@@ -48,9 +48,9 @@ read_by one other row a b c false tried rest =
           (works_more (IsPlace other) (IsEither one other) b c (λ p is. inr is) works);
     }
 
-pub read_told : (m : Members) (slot : ℕ) (a c : SetState) → CarriesOut (mirror_read a.geometry m slot) a c
-    → ReadTold (one_of a.geometry m slot) (other_of a.geometry m slot) a c
-read_told m slot a c carried =
+pub read_reported : (m : Members) (slot : ℕ) (a c : SetState) → CarriesOut (mirror_read a.geometry m slot) a c
+    → ReadReported (one_of a.geometry m slot) (other_of a.geometry m slot) a c
+read_reported m slot a c carried =
     let one = one_of a.geometry m slot in
     let other = other_of a.geometry m slot in
     let row = row_of a.geometry slot in
@@ -58,7 +58,7 @@ read_told m slot a c carried =
     read_by one other row a first.between c first.done first.tried first.rest
 
 -- a write accesses the two extents in turn, and changes their row alone
-pub record WriteTold (m : Members) (slot : ℕ) (a b : SetState) : Type 0 where
+pub record WriteReported (m : Members) (slot : ℕ) (a b : SetState) : Type 0 where
   pub keeps : KeepsButSlot m slot a b
   pub works : WorksOn (IsInPair a.geometry m slot) a b
 
@@ -66,9 +66,9 @@ either : (done : Bool) (plan : AccessPlan) → cond done plan plan ≡ plan
 either true plan = refl
 either false plan = refl
 
-pub write_told : (m : Members) (slot : ℕ) (a c : SetState) → CarriesOut (mirror_write a.geometry m slot) a c
-    → WriteTold m slot a c
-write_told m slot a c carried =
+pub write_reported : (m : Members) (slot : ℕ) (a c : SetState) → CarriesOut (mirror_write a.geometry m slot) a c
+    → WriteReported m slot a c
+write_reported m slot a c carried =
     let one = one_of a.geometry m slot in
     let other = other_of a.geometry m slot in
     let row = row_of a.geometry slot in
@@ -89,7 +89,7 @@ write_told m slot a c carried =
     }
 
 -- the copy of a row to the extent that is rebuilt next, from another disk
-pub record CopyTold (from : Place) (row : ℕ) (a b : SetState) : Type 0 where
+pub record CopyReported (from : Place) (row : ℕ) (a b : SetState) : Type 0 where
   pub follows : Follows a b
   pub loose : b.loose ≡ a.loose
   pub keeps : KeepsBut (next_place a) row a b
@@ -100,7 +100,7 @@ pub record CopyTold (from : Place) (row : ℕ) (a b : SetState) : Type 0 where
 
 copy_by : (from : Place) (row : ℕ) (a b c : SetState) (done : Bool) → IsRebuilding a.health
     → (next_place a).disk ≢ from.disk → Attempts (read_at from row) done a b
-    → CarriesOut (cond done (Try (rebuild_at (next_place a) row) Stop Stop) Stop) b c → CopyTold from row a c
+    → CarriesOut (cond done (Try (rebuild_at (next_place a) row) Stop Stop) Stop) b c → CopyReported from row a c
 copy_by from row a b c true rebuilding apart tried rest =
     let next = next_place a in
     let second = tried_one (rebuild_at next row) b c rest in
@@ -122,7 +122,7 @@ copy_by from row a b c true rebuilding apart tried rest =
     }
 copy_by from row a b c false rebuilding apart tried rest =
     let keeps = read_changes_none from row false a b tried in
-    subst (λ (s : SetState). CopyTold from row a s) (nothing_done b c rest) (record {
+    subst (λ (s : SetState). CopyReported from row a s) (nothing_done b c rest) (record {
       follows = attempt_follows (read_at from row) false a b tried;
       loose = tried.made.loose;
       keeps = record {
@@ -135,26 +135,26 @@ copy_by from row a b c false rebuilding apart tried rest =
           { disks = λ d is. attempt_leaves (read_at from row) false a b tried d (λ same. apart (sym is ∙ same)) };
     })
 
-pub copy_told : (from : Place) (row : ℕ) (a c : SetState) → IsRebuilding a.health → (next_place a).disk ≢ from.disk
+pub copy_reported : (from : Place) (row : ℕ) (a c : SetState) → IsRebuilding a.health → (next_place a).disk ≢ from.disk
     → CarriesOut (copy_row from (next_place a) row) a c
-    → CopyTold from row a c
-copy_told from row a c rebuilding apart carried =
+    → CopyReported from row a c
+copy_reported from row a c rebuilding apart carried =
     let first = went (read_at from row) (Try (rebuild_at (next_place a) row) Stop Stop) Stop a c carried in
     copy_by from row a first.between c first.done rebuilding apart first.tried first.rest
 
 -- then the new disk has counted no fault
-pub copy_spared : (from : Place) (row : ℕ) (a b : SetState) → CopyTold from row a b → b.health ≡ Broken
+pub copy_spared : (from : Place) (row : ℕ) (a b : SetState) → CopyReported from row a b → b.health ≡ Broken
     → faults_of b (rebuilt_disk a.health) ≡ faults_of a (rebuilt_disk a.health)
-copy_spared from row a b told broken =
-    ap (λ (disk : DiskState). disk.faults) ((told.unasked broken).disks (rebuilt_disk a.health) refl)
+copy_spared from row a b reported broken =
+    ap (λ (disk : DiskState). disk.faults) ((reported.unasked broken).disks (rebuilt_disk a.health) refl)
 
 -- the same of a member that is rebuilt next, which its partner isn't on
-pub row_told : (m : Members) (position row : ℕ) (a c : SetState) → IsGroup a m → position < 4 → IsRebuilding a.health
+pub row_reported : (m : Members) (position row : ℕ) (a c : SetState) → IsGroup a m → position < 4 → IsRebuilding a.health
     → member m position ≡ next_place a
     → CarriesOut (copy_row (member m (partner_of position)) (next_place a) row) a c
-    → CopyTold (member m (partner_of position)) row a c
-row_told m position row a c group lt rebuilding next carried =
-    copy_told (member m (partner_of position)) row a c rebuilding
+    → CopyReported (member m (partner_of position)) row a c
+row_reported m position row a c group lt rebuilding next carried =
+    copy_reported (member m (partner_of position)) row a c rebuilding
     (λ same. partner_apart m position group.apart lt (ap (λ (p : Place). p.disk) next ∙ same)) carried
 
 -- the rebuild of a row takes no slot's block away
@@ -163,5 +163,5 @@ pub row_holds : (m : Members) (position row : ℕ) (a c : SetState) → IsGroup 
     → CarriesOut (copy_row (member m (partner_of position)) (next_place a) row) a c
     → (n : Members) (slot : ℕ) (block : List ℕ) → Holds a n slot block → Holds c n slot block
 row_holds m position row a c group lt rebuilding next carried =
-    let told = row_told m position row a c group lt rebuilding next carried in
-    rebuild_holds a c row rebuilding told.follows told.keeps
+    let reported = row_reported m position row a c group lt rebuilding next carried in
+    rebuild_holds a c row rebuilding reported.follows reported.keeps

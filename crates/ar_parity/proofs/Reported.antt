@@ -94,19 +94,19 @@ more_by these q row next a b d is before (inl same) = record { between = b; read
 more_by these q row next a b d is before (inr on) = read_next these q row next a b d is before on.health on.carried
 
 -- these two extents are read, and then the plan goes on, or nothing is done any more
-pub two_told : (these : Place → Type 0) (p q : Place) (row : ℕ) (next : AccessPlan) (a d : SetState) → these p → these q
+pub two_reported : (these : Place → Type 0) (p q : Place) (row : ℕ) (next : AccessPlan) (a d : SetState) → these p → these q
     → CarriesOut (Try (read_at p row) (Try (read_at q row) next Stop) Stop) a d → ReadsThen these next a d
-two_told these p q row next a d is_p is_q carried =
+two_reported these p q row next a d is_p is_q carried =
     let first = read_next these p row (Try (read_at q row) next Stop) a a d is_p (reads_none these a a refl) refl
     carried in
     more_by these q row next a first.between d is_q first.reads first.rest
 
 -- the three others are read, and then the plan goes on, or nothing is done any more
-pub three_told : (m : Members) (i row : ℕ) (next : AccessPlan) (a d : SetState)
+pub three_reported : (m : Members) (i row : ℕ) (next : AccessPlan) (a d : SetState)
     → CarriesOut (all_of (three_reads m i row) next) a d → ReadsThen (IsMember m) next a d
-three_told m i row next a d carried =
+three_reported m i row next a d carried =
     let j : ℕ = (i + 1) % 4 in
-    let two = two_told (IsMember m) (member m (low_other i j)) (member m (high_other i j)) row
+    let two = two_reported (IsMember m) (member m (low_other i j)) (member m (high_other i j)) row
     (Try (read_at (member m j) row) next Stop) a d
     (member_is m (low_other i j)) (member_is m (high_other i j)) carried in
     more_by (IsMember m) (member m j) row next a two.between d (member_is m j) two.reads two.rest
@@ -137,7 +137,7 @@ slot_by m slot a b c true tried rest =
 slot_by m slot a b c false tried rest =
     let own = member m (data_position slot) in
     let one = reads_one (IsMember m) own (row_of slot) false a b (member_is m (data_position slot)) tried in
-    let three = three_told m (data_position slot) (row_of slot) Stop b c rest in
+    let three = three_reported m (data_position slot) (row_of slot) Stop b c rest in
     let others = ended (IsMember m) b three.between c three.reads three.rest in
     let all = reads_then (IsMember m) a b c one others in
     record {
@@ -154,7 +154,7 @@ slot_read m slot a c carried =
     slot_by m slot a first.between c first.done first.tried first.rest
 
 -- the rebuild of a row
-pub record RowTold (m : Members) (i row : ℕ) (a b : SetState) : Type 0 where
+pub record RowReported (m : Members) (i row : ℕ) (a b : SetState) : Type 0 where
   pub follows : Follows a b
   pub loose : b.loose ≡ a.loose
   pub keeps : KeepsBut (member m i) row a b
@@ -165,9 +165,9 @@ pub record RowTold (m : Members) (i row : ℕ) (a b : SetState) : Type 0 where
 
 rebuilt_by : (m : Members) (i row : ℕ) (a b c : SetState) → IsGroup a m → i < 4 → IsRebuilding a.health
     → member m i ≡ next_place a → OnlyReads (IsMember m) a b
-    → (b ≡ c) ⊎ WentOn (Try (rebuild_at (member m i) row) Stop Stop) a b c → RowTold m i row a c
+    → (b ≡ c) ⊎ WentOn (Try (rebuild_at (member m i) row) Stop Stop) a b c → RowReported m i row a c
 rebuilt_by m i row a b c group lt rebuilding next reads (inl same) =
-    subst (λ (s : SetState). RowTold m i row a s) same (record {
+    subst (λ (s : SetState). RowReported m i row a s) same (record {
       follows = reads.works.follows;
       loose = reads.works.loose;
       keeps = record {
@@ -197,18 +197,18 @@ rebuilt_by m i row a b c group lt rebuilding next reads (inr on) =
       unasked = λ broken. absurd (sound broken);
     }
 
-pub row_told : (m : Members) (i row : ℕ) (a c : SetState) → IsGroup a m → i < 4 → IsRebuilding a.health
+pub row_reported : (m : Members) (i row : ℕ) (a c : SetState) → IsGroup a m → i < 4 → IsRebuilding a.health
     → member m i ≡ next_place a
-    → CarriesOut (parity_rebuild m i row) a c → RowTold m i row a c
-row_told m i row a c group lt rebuilding next carried =
-    let three = three_told m i row (Try (rebuild_at (member m i) row) Stop Stop) a c carried in
+    → CarriesOut (parity_rebuild m i row) a c → RowReported m i row a c
+row_reported m i row a c group lt rebuilding next carried =
+    let three = three_reported m i row (Try (rebuild_at (member m i) row) Stop Stop) a c carried in
     rebuilt_by m i row a three.between c group lt rebuilding next three.reads three.rest
 
 -- then the new disk has counted no fault
-pub row_spared : (m : Members) (i row : ℕ) (a b : SetState) → RowTold m i row a b → b.health ≡ Broken
+pub row_spared : (m : Members) (i row : ℕ) (a b : SetState) → RowReported m i row a b → b.health ≡ Broken
     → faults_of b (rebuilt_disk a.health) ≡ faults_of a (rebuilt_disk a.health)
-row_spared m i row a b told broken =
-    ap (λ (disk : DiskState). disk.faults) ((told.unasked broken).disks (rebuilt_disk a.health) refl)
+row_spared m i row a b reported broken =
+    ap (λ (disk : DiskState). disk.faults) ((reported.unasked broken).disks (rebuilt_disk a.health) refl)
 
 -- of two extents only this row may have changed
 pub record RowsLeft (own parity : Place) (row : ℕ) (a b : SetState) : Type 0 where
@@ -300,9 +300,9 @@ known_by m i j row true a b c tried rest =
 known_by m i j row false a b c tried rest =
     known_then (member m i) (member m j) row false a b c tried (one_written m i j row b c rest)
 
-known_told : (m : Members) (i j row : ℕ) (a c : SetState) → CarriesOut (write_known m i j row) a c
+known_reported : (m : Members) (i j row : ℕ) (a c : SetState) → CarriesOut (write_known m i j row) a c
     → Known (member m i) (member m j) row a c
-known_told m i j row a c carried =
+known_reported m i j row a c carried =
     let first = went (read_at (member m j) row) (write_two m i j row) (write_member m i row) a c carried in
     known_by m i j row first.done a first.between c first.tried first.rest
 
@@ -326,22 +326,22 @@ lost_by m i j row a b c lt reads (inr on) =
           (left_parity (member m i) (member m j) row last.done b c last.tried);
     }
 
-lost_told : (m : Members) (i j row : ℕ) (a c : SetState) → j < 4 → CarriesOut (write_lost m i j row) a c
+lost_reported : (m : Members) (i j row : ℕ) (a c : SetState) → j < 4 → CarriesOut (write_lost m i j row) a c
     → Lost m i j row a c
-lost_told m i j row a c lt carried =
-    let two = two_told (IsMember m) (member m (low_other i j)) (member m (high_other i j)) row (write_member m j row) a
+lost_reported m i j row a c lt carried =
+    let two = two_reported (IsMember m) (member m (low_other i j)) (member m (high_other i j)) row (write_member m j row) a
     c
     (member_is m (low_other i j)) (member_is m (high_other i j)) carried in
     lost_by m i j row a two.between c lt two.reads two.rest
 
 -- what the write of a block tells: which rows may have changed, and that only the group's extents were accessed
-pub record StripeTold (m : Members) (i j row : ℕ) (a b : SetState) : Type 0 where
+pub record StripeReported (m : Members) (i j row : ℕ) (a b : SetState) : Type 0 where
   pub left : RowsLeft (member m i) (member m j) row a b
   pub works : WorksOn (IsMember m) a b
 
-alone_told : (m : Members) (i j row : ℕ) (a c : SetState) → i < 4 → CarriesOut (write_member m i row) a c
-    → StripeTold m i j row a c
-alone_told m i j row a c lt carried =
+alone_reported : (m : Members) (i j row : ℕ) (a c : SetState) → i < 4 → CarriesOut (write_member m i row) a c
+    → StripeReported m i j row a c
+alone_reported m i j row a c lt carried =
     let one = tried_one (write_at (member m i) row) a c carried in
     record {
       left = left_own (member m i) (member m j) row one.done a c one.tried;
@@ -350,11 +350,11 @@ alone_told m i j row a c lt carried =
 
 reading_by : (m : Members) (i j row : ℕ) (done : Bool) (a b c : SetState) → i < 4 → j < 4
     → Attempts (read_at (member m i) row) done a b
-    → CarriesOut (cond done (write_known m i j row) (write_lost m i j row)) b c → StripeTold m i j row a c
+    → CarriesOut (cond done (write_known m i j row) (write_lost m i j row)) b c → StripeReported m i j row a c
 reading_by m i j row true a b c hi hj tried rest =
     let own = member m i in
     let parity = member m j in
-    let known = known_told m i j row b c rest in
+    let known = known_reported m i j row b c rest in
     let all = works_then (IsEither own parity) a b c (first_of_two m i j a b (read_works own row true a b tried))
     known.works in
     record {
@@ -365,7 +365,7 @@ reading_by m i j row true a b c hi hj tried rest =
 reading_by m i j row false a b c hi hj tried rest =
     let own = member m i in
     let parity = member m j in
-    let lost = lost_told m i j row b c hj rest in
+    let lost = lost_reported m i j row b c hj rest in
     record {
       left = left_then own parity row a b c (left_same own parity row a b (read_changes_none own row false a b tried))
           lost.left;
@@ -373,15 +373,15 @@ reading_by m i j row false a b c hi hj tried rest =
     }
 
 stripe_by : (m : Members) (i j row : ℕ) (missing : Bool) (a c : SetState) → i < 4 → j < 4
-    → CarriesOut (cond missing (write_member m i row) (write_by_reading m i j row)) a c → StripeTold m i j row a c
-stripe_by m i j row true a c hi hj carried = alone_told m i j row a c hi carried
+    → CarriesOut (cond missing (write_member m i row) (write_by_reading m i j row)) a c → StripeReported m i j row a c
+stripe_by m i j row true a c hi hj carried = alone_reported m i j row a c hi carried
 stripe_by m i j row false a c hi hj carried =
     let first = went (read_at (member m i) row) (write_known m i j row) (write_lost m i j row) a c carried in
     reading_by m i j row first.done a first.between c hi hj first.tried first.rest
 
-pub stripe_told : (m : Members) (i j row : ℕ) (a c : SetState) → i < 4 → j < 4 → CarriesOut (stripe_write m i j row) a c
-    → StripeTold m i j row a c
-stripe_told m i j row a c hi hj carried =
+pub stripe_reported : (m : Members) (i j row : ℕ) (a c : SetState) → i < 4 → j < 4 → CarriesOut (stripe_write m i j row) a c
+    → StripeReported m i j row a c
+stripe_reported m i j row a c hi hj carried =
     stripe_by m i j row (is_missing a.health (member m j).disk (member m j).extent) a c hi hj
     (went_if (member m j) (write_member m i row) (write_by_reading m i j row) a c carried)
 
@@ -389,47 +389,47 @@ data_below : (slot : ℕ) → data_position slot < 4
 data_below slot = grind (arith, nat_tests)
 
 -- the write of a slot
-pub slot_told : (m : Members) (slot : ℕ) (a c : SetState) → CarriesOut (parity_write m slot) a c
-    → StripeTold m (data_position slot) (parity_position (row_of slot)) (row_of slot) a c
-slot_told m slot a c carried =
-    stripe_told m (data_position slot) (parity_position (row_of slot)) (row_of slot) a c (data_below slot) (omega arith)
+pub slot_reported : (m : Members) (slot : ℕ) (a c : SetState) → CarriesOut (parity_write m slot) a c
+    → StripeReported m (data_position slot) (parity_position (row_of slot)) (row_of slot) a c
+slot_reported m slot a c carried =
+    stripe_reported m (data_position slot) (parity_position (row_of slot)) (row_of slot) a c (data_below slot) (omega arith)
     carried
 
 -- only its row may have changed,
-pub stripe_keeps : (m : Members) (i j row : ℕ) (a b : SetState) → i < 4 → j < 4 → StripeTold m i j row a b
+pub stripe_keeps : (m : Members) (i j row : ℕ) (a b : SetState) → i < 4 → j < 4 → StripeReported m i j row a b
     → KeepsButRow m row a b
-stripe_keeps m i j row a b hi hj told = record {
-  other_rows = λ p r ne. told.left.rows p r (λ same. ne) (λ same. ne);
+stripe_keeps m i j row a b hi hj reported = record {
+  other_rows = λ p r ne. reported.left.rows p r (λ same. ne) (λ same. ne);
   other_places =
       record {
-        rows = λ p outside r. told.left.rows p r (λ same. absurd (outside i hi same))
+        rows = λ p outside r. reported.left.rows p r (λ same. absurd (outside i hi same))
             (λ same. absurd (outside j hj same));
       };
 }
 
 -- and of it only the own member and the parity
-pub stripe_others : (m : Members) (i j row : ℕ) (a b : SetState) → AreApart m → i < 4 → j < 4 → StripeTold m i j row a b
+pub stripe_others : (m : Members) (i j row : ℕ) (a b : SetState) → AreApart m → i < 4 → j < 4 → StripeReported m i j row a b
     → (k : ℕ) → k < 4 → k ≢ i → k ≢ j → content b (member m k) row ≡ content a (member m k) row
-stripe_others m i j row a b apart hi hj told k hk ni nj =
-    told.left.rows (member m k) row
+stripe_others m i j row a b apart hi hj reported k hk ni nj =
+    reported.left.rows (member m k) row
     (λ same. absurd (apart k i hk hi ni (ap (λ (p : Place). p.disk) same)))
     (λ same. absurd (apart k j hk hj nj (ap (λ (p : Place). p.disk) same)))
 
 -- the same of a slot
 pub slot_keeps : (m : Members) (slot : ℕ) (a b : SetState)
-    → StripeTold m (data_position slot) (parity_position (row_of slot)) (row_of slot) a b
+    → StripeReported m (data_position slot) (parity_position (row_of slot)) (row_of slot) a b
     → KeepsButRow m (row_of slot) a b
-slot_keeps m slot a b told =
+slot_keeps m slot a b reported =
     stripe_keeps m (data_position slot) (parity_position (row_of slot)) (row_of slot) a b (data_below slot)
-    (omega arith) told
+    (omega arith) reported
 
 pub slot_others : (m : Members) (slot : ℕ) (a b : SetState) → AreApart m
-    → StripeTold m (data_position slot) (parity_position (row_of slot)) (row_of slot) a b
+    → StripeReported m (data_position slot) (parity_position (row_of slot)) (row_of slot) a b
     → (k : ℕ) → k < 4 → k ≢ data_position slot → k ≢ parity_position (row_of slot)
     → content b (member m k) (row_of slot) ≡ content a (member m k) (row_of slot)
-slot_others m slot a b apart told =
+slot_others m slot a b apart reported =
     stripe_others m (data_position slot) (parity_position (row_of slot)) (row_of slot) a b apart (data_below slot)
-    (omega arith) told
+    (omega arith) reported
 
 -- writes of members alone
 pub record OnlyWrites (m : Members) (a b : SetState) : Type 0 where
@@ -464,24 +464,24 @@ each_by true ts b c rest = rest
 each_by false ts b c rest = rest
 
 -- writes of members from a position on, and then more
-members_told : (m : Members) (row i n : ℕ) (us : List Attempt) (a c : SetState) → i + n ≤ 4
+members_reported : (m : Members) (row i n : ℕ) (us : List Attempt) (a c : SetState) → i + n ≤ 4
     → ((b : SetState) → CarriesOut (each_of us) b c → OnlyWrites m b c)
     → CarriesOut (each_of (writes_from m row i n ++ us)) a c → OnlyWrites m a c
-members_told m row i zero us a c le later carried = later a carried
-members_told m row i (suc n) us a c le later carried =
+members_reported m row i zero us a c le later carried = later a carried
+members_reported m row i (suc n) us a c le later carried =
     let rest : List Attempt = writes_from m row (i + 1) n ++ us in
     let first = went (write_at (member m i) row) (each_of rest) (each_of rest) a c carried in
     writes_then m a first.between c (writes_one m i row first.done a first.between (omega arith) first.tried)
-    (members_told m row (i + 1) n us first.between c (omega arith) later
+    (members_reported m row (i + 1) n us first.between c (omega arith) later
     (each_by first.done rest first.between c first.rest))
 
 -- the writes of all members in some rows
-pub stripes_told : (m : Members) (row n : ℕ) (a c : SetState) → CarriesOut (each_of (stripes_from m row n)) a c
+pub stripes_reported : (m : Members) (row n : ℕ) (a c : SetState) → CarriesOut (each_of (stripes_from m row n)) a c
     → OnlyWrites m a c
-stripes_told m row zero a c carried = writes_none m a c (nothing_done a c carried)
-stripes_told m row (suc n) a c carried =
-    members_told m row 0 4 (stripes_from m (row + 1) n) a c (omega arith)
-    (λ b rest. stripes_told m (row + 1) n b c rest) carried
+stripes_reported m row zero a c carried = writes_none m a c (nothing_done a c carried)
+stripes_reported m row (suc n) a c carried =
+    members_reported m row 0 4 (stripes_from m (row + 1) n) a c (omega arith)
+    (λ b rest. stripes_reported m (row + 1) n b c rest) carried
 
 -- only this stripe of the group was written
 pub record StripeWritten (m : Members) (row : ℕ) (a b : SetState) : Type 0 where
@@ -512,9 +512,9 @@ stripe_ended m row a c carried =
     subst (λ (s : SetState). StripeWritten m row a s) (nothing_done a c carried)
     (record { keeps = row_refl m row a; works = works_refl (IsMember m) a })
 
-pub stripe_writes_told : (m : Members) (row : ℕ) (a c : SetState) → CarriesOut (each_of (stripe_writes m row)) a c
+pub stripe_writes_reported : (m : Members) (row : ℕ) (a c : SetState) → CarriesOut (each_of (stripe_writes m row)) a c
     → StripeWritten m row a c
-stripe_writes_told m row a c carried =
+stripe_writes_reported m row a c carried =
     let i : ℕ = data_position (3 * row) in
     let j : ℕ = data_position (3 * row + 1) in
     let k : ℕ = data_position (3 * row + 2) in

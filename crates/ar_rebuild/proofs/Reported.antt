@@ -23,8 +23,8 @@ use Rattle.ar_extents.specs.Plans.{stops}
 use Rattle.ar_mirror.specs.Slots.{partner_of}
 use Rattle.ar_mirror.specs.Plans.{copy_row}
 use Rattle.ar_mirror.proofs.SlotLemmas.{partner_apart}
-use Rattle.ar_mirror.proofs.Told.{row_told as copy_told}
-use Rattle.ar_parity.proofs.Told.{row_told as sum_told}
+use Rattle.ar_mirror.proofs.Reported.{row_reported as copy_reported}
+use Rattle.ar_parity.proofs.Reported.{row_reported as sum_reported}
 use Rattle.ar_book.specs.declared.class.Class.{Class}
 use Rattle.ar_book.specs.declared.class.Class.TheVariants.{Free, Mirrored, Parity}
 use Rattle.ar_rebuild.specs.Plans.{row_attempts, rows_attempts, member_plan}
@@ -132,25 +132,25 @@ row_effect Mirrored m i row a b group below is next carried =
     let from : Place = member m (partner_of i) in
     let P : Place → Type 0 = λ p. CarriesOut (copy_row from p row) a b in
     let Q : Place → Type 0 = λ p. LeavesDisks (HasNoneOf (IsEither from p)) a b in
-    let told = copy_told m i row a b group below is next (subst P next carried) in
+    let reported = copy_reported m i row a b group below is next (subst P next carried) in
     record {
-      follows = told.follows;
-      loose = told.loose;
-      keeps = told.keeps;
-      touches = subst Q (sym next) told.touches;
-      unwritten = told.unwritten;
-      unasked = told.unasked;
+      follows = reported.follows;
+      loose = reported.loose;
+      keeps = reported.keeps;
+      touches = subst Q (sym next) reported.touches;
+      unwritten = reported.unwritten;
+      unasked = reported.unasked;
     }
 row_effect Parity m i row a b group below is next carried =
-    let told = sum_told m i row a b group below is next carried in
+    let reported = sum_reported m i row a b group below is next carried in
     let P : Place → Type 0 = λ p. KeepsBut p row a b in
     record {
-      follows = told.follows;
-      loose = told.loose;
-      keeps = subst P next told.keeps;
-      touches = told.touches;
-      unwritten = told.unwritten;
-      unasked = told.unasked;
+      follows = reported.follows;
+      loose = reported.loose;
+      keeps = subst P next reported.keeps;
+      touches = reported.touches;
+      unwritten = reported.unwritten;
+      unasked = reported.unasked;
     }
 
 -- what those for the rows below a number leave, if all of them succeed
@@ -276,12 +276,12 @@ pub plan_effect : (class : Class) (m : Members) (i n : ℕ) (a b : SetState) →
     → member m i ≡ next_place a
     → CarriesOut (member_plan class m i n) a b → PlanEffect class m i a b
 plan_effect class m i n a b group below is next carried =
-    let told = turned (rows_attempts class m i n) a b carried in
-    plan_by class m i n told.done a b group below is next told.made
+    let reported = turned (rows_attempts class m i n) a b carried in
+    plan_by class m i n reported.done a b group below is next reported.made
 
 -- The rows past the one at which the writing stopped are unchanged, and so is the row itself if another disk failed the
 -- set; if that is the first row, the new disk wasn't accessed then.
-pub record StopTold (a c : SetState) (row : ℕ) : Type 0 where
+pub record StopReported (a c : SetState) (row : ℕ) : Type 0 where
   pub past : (r : ℕ) → row < r → content c (next_place a) r ≡ content a (next_place a) r
   pub unread : c.health ≡ AllBroken → content c (next_place a) row ≡ content a (next_place a) row
   pub unasked : row ≡ 0 → c.health ≡ AllBroken → LeavesDisks (λ d. d ≡ rebuilt_disk a.health) a c
@@ -291,10 +291,10 @@ first_untried : (class : Class) (m : Members) (i row : ℕ) (a b : SetState) →
 first_untried class m i row a b none made =
     none_tried a b (let P : ℕ → Type 0 = λ n. AttemptsAll (rows_attempts class m i n) true a b in subst P none made)
 
-pub stop_told : (class : Class) (m : Members) (i : ℕ) (a c : SetState) → IsGroup a m → i < 4 → IsRebuilding a.health
+pub stop_reported : (class : Class) (m : Members) (i : ℕ) (a c : SetState) → IsGroup a m → i < 4 → IsRebuilding a.health
     → member m i ≡ next_place a
-    → (stop : StopsAtRow class a c m i) → StopTold a c stop.row
-stop_told class m i a c group below is next stop =
+    → (stop : StopsAtRow class a c m i) → StopReported a c stop.row
+stop_reported class m i a c group below is next stop =
     let b = stop.begun in
     let row = stop.row in
     let before = rows_effect class m i a group below is next row b stop.made in
