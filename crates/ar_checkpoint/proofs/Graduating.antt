@@ -13,7 +13,7 @@ use Rattle.ar_log.specs.declared.error.LogError.{LogError}
 use Rattle.ar_log.specs.declared.error.LogError.TheVariants.{Closed}
 use Rattle.ar_log.specs.declared.log.Log.{Log}
 use Rattle.ar_log.specs.declared.place.Place.{Place}
-use Rattle.ar_journal.specs.Journal.{ClosesJournal, IsBehind, ReadsLog, ReadsNext, batches_now}
+use Rattle.ar_journal.specs.Journal.{ClosesJournal, IsAfter, ReadsLog, ReadsNext, batches_now}
 use Rattle.ar_journal.specs.Switch.{LeavesEither, Switches}
 use Rattle.ar_journal.specs.declared.journal.Journal.{Journal}
 use Rattle.ar_record.specs.Reading.{all_decoded}
@@ -117,7 +117,7 @@ module _ {M : Type 0} (seen : M → List ℕ) (may_leave : M → List ℕ → Ty
   replaying_still old new replay place reads is =
       let same = sym (batches_same old new reads) in
       record {
-        place_is = λ clean. subst (λ (l : List Batch). IsBehind l place) same (is.place_is (reads.media.clean clean));
+        place_is = λ clean. subst (λ (l : List Batch). IsAfter l place) same (is.place_is (reads.media.clean clean));
         replayed = λ clean.
             subst (λ (l : List Batch). IsReplayOf (log_records (take place.number l)) replay) same
             (is.replayed (reads.media.clean clean));
@@ -150,7 +150,7 @@ module _ {M : Type 0} (seen : M → List ℕ) (may_leave : M → List ℕ → Ty
   replaying_more old new batch place next replay now reads read one is =
       let same = sym (batches_same old new reads) in
       record {
-        place_is = λ clean. subst (λ (l : List Batch). IsBehind l next) same (read clean).place;
+        place_is = λ clean. subst (λ (l : List Batch). IsAfter l next) same (read clean).place;
         replayed = λ clean.
             (let was = reads.media.clean clean in
             subst (λ (l : List Batch). IsReplayOf (log_records (take next.number l)) now) same
@@ -191,7 +191,7 @@ module _ {M : Type 0} (seen : M → List ℕ) (may_leave : M → List ℕ → Ty
       let was : IsTrue (is_clean new.active.media) → IsTrue (is_clean old.active.media) =
       λ clean. subst (λ (m : M). IsTrue (is_clean m)) media clean in
       record {
-        place_is = λ clean. subst (λ (l : List Batch). IsBehind l place) (sym same) (is.place_is (was clean));
+        place_is = λ clean. subst (λ (l : List Batch). IsAfter l place) (sym same) (is.place_is (was clean));
         after_head = λ clean. some;
         appendable = written.appendable;
         fit = subst (λ (r : Option (List RecordData)). AreEncodable (rest_of r)) (sym none) tt;
@@ -316,7 +316,7 @@ module _ {M : Type 0} (seen : M → List ℕ) (may_leave : M → List ℕ → Ty
       let same = sym (batches_same old new reads) in
       let later : Batch → List RecordData = λ b. batch_records (b ∷ []) in
       record {
-        place_is = λ clean. subst (λ (l : List Batch). IsBehind l next) same (read clean).place;
+        place_is = λ clean. subst (λ (l : List Batch). IsAfter l next) same (read clean).place;
         after_head = λ clean none. absurd (omega (arith, (read clean).number, none));
         appendable = record { is_open = is_open; synced = λ now. (appends (subst IsTrue clean_is now)).settled };
         head_is = λ now.
@@ -367,8 +367,8 @@ module _ {M : Type 0} (seen : M → List ℕ) (may_leave : M → List ℕ → Ty
       ap (λ (l : List Batch). take place.number l) (grows c).1
       ∙ take_front place.number (batches_now seen old) (grows c).0 within
 
-  place_still : (place : Place) (c : IsTrue (is_clean old.active.media)) → IsBehind (batches_now seen old) place
-      → IsBehind (batches_now seen new) place
+  place_still : (place : Place) (c : IsTrue (is_clean old.active.media)) → IsAfter (batches_now seen old) place
+      → IsAfter (batches_now seen new) place
   place_still place c is = record {
     within =
         (let count : length (batches_now seen new) ≡ length (batches_now seen old ++ (grows c).0) =
@@ -377,7 +377,7 @@ module _ {M : Type 0} (seen : M → List ℕ) (may_leave : M → List ℕ → Ty
     at = is.at ∙ ap (λ (l : List Batch). 8 + batches_len l) (sym (front place c is.within));
   }
 
-  records_still : (place : Place) (c : IsTrue (is_clean old.active.media)) → IsBehind (batches_now seen old) place
+  records_still : (place : Place) (c : IsTrue (is_clean old.active.media)) → IsAfter (batches_now seen old) place
       → records_before seen new place ≡ records_before seen old place
   records_still place c is = ap log_records (front place c is.within)
 

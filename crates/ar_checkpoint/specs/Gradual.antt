@@ -6,7 +6,7 @@ use Rattle.ar_log.specs.Codec.{items_of}
 use Rattle.ar_log.specs.Log.{batches_of}
 use Rattle.ar_log.specs.declared.log.Log.{Log}
 use Rattle.ar_log.specs.declared.place.Place.{Place}
-use Rattle.ar_journal.specs.Journal.{IsBehind, ReadsLog, batches_now}
+use Rattle.ar_journal.specs.Journal.{IsAfter, ReadsLog, batches_now}
 use Rattle.ar_journal.specs.Switch.{LeavesEither, Switches}
 use Rattle.ar_journal.specs.declared.journal.Journal.{Journal}
 use Rattle.ar_record.specs.Reading.{all_decoded}
@@ -52,7 +52,7 @@ is_other_clean is_clean (Some medium) = is_clean medium
 -- the batches before the place were replayed
 pub record IsReplaying {M : Type 0} (seen : M → List ℕ) (is_clean : M → Bool) (journal : Journal M)
     (replay : LogReplay) (place : Place) : Type 0 where
-  pub place_is : IsTrue (is_clean journal.active.media) → IsBehind (batches_now seen journal) place
+  pub place_is : IsTrue (is_clean journal.active.media) → IsAfter (batches_now seen journal) place
   pub replayed : IsTrue (is_clean journal.active.media) → IsReplayOf (records_before seen journal place) replay
 
 -- the log has this head and the records of these disks
@@ -67,7 +67,7 @@ pub record WritesFirst {M : Type 0} (seen : M → List ℕ) (may_leave : M → L
 -- place.
 pub record IsWriting {M : Type 0} (seen : M → List ℕ) (may_leave : M → List ℕ → Type 0) (is_clean : M → Bool)
     (journal : Journal M) (head : List ℕ) (writer : Writer M) (place : Place) : Type 0 where
-  pub place_is : IsTrue (is_clean journal.active.media) → IsBehind (batches_now seen journal) place
+  pub place_is : IsTrue (is_clean journal.active.media) → IsAfter (batches_now seen journal) place
   pub after_head : IsTrue (is_clean journal.active.media) → place.number ≡ 0 → ⊥
   pub appendable : IsAppendable seen may_leave is_clean writer.log
   pub fit : AreEncodable (rest_of writer.rest)
@@ -80,7 +80,7 @@ pub record IsWriting {M : Type 0} (seen : M → List ℕ) (may_leave : M → Lis
 -- the successor is a compaction of the records before the place
 pub record IsCopying {M : Type 0} (seen : M → List ℕ) (may_leave : M → List ℕ → Type 0) (is_clean : M → Bool)
     (journal : Journal M) (head : List ℕ) (log : Log M) (place : Place) : Type 0 where
-  pub place_is : IsTrue (is_clean journal.active.media) → IsBehind (batches_now seen journal) place
+  pub place_is : IsTrue (is_clean journal.active.media) → IsAfter (batches_now seen journal) place
   pub after_head : IsTrue (is_clean journal.active.media) → place.number ≡ 0 → ⊥
   pub appendable : IsAppendable seen may_leave is_clean log
   pub head_is : IsTrue (is_clean log.media) → BeginsWithHead head (batches_of (seen log.media))

@@ -12,7 +12,7 @@ ghost use Rattle.ar_compaction.specs.Replaying.{with_unit};
 
 use crate::UnitRecords;
 use crate::addresses::names;
-use ar_disks::{Addr, zero};
+use ar_disks::{Addr, SECTOR_LEN, zero};
 use ar_record::Record;
 use ar_scsi::{Command, decode, is_inquiry};
 use ar_unit::is_past_end;
@@ -126,7 +126,7 @@ impl UnitReplay {
     {
         if self.present {
             let sectors = sectors.max(self.sectors);
-            self.bytes.resize(sectors as usize * 512, 0)?;
+            self.bytes.resize(sectors as usize * SECTOR_LEN, 0)?;
             self.sectors = sectors;
             self.attention = true;
         }
@@ -187,7 +187,7 @@ fn written_range(cdb: &[u8; 16]) -> Option<(u64, u16)>
 fn zero_sectors(alloc: Global, sectors: u32) -> Result<Vec<u8>, AllocError>
     ensures { IfOk result (λ bytes. bytes.items ≡ replicate (sectors * 512) 0) }
 {
-    vec![in alloc; 0; sectors as usize * 512]
+    vec![in alloc; 0; sectors as usize * SECTOR_LEN]
 }
 
 // Overwrites `count` sectors from `lba` on, unless the command is terminated with an error.
@@ -199,11 +199,11 @@ fn write(bytes: &mut [u8], sectors: u32, lba: u64, count: u16, sent: &[u8])
     if is_past_end(sectors, lba, u32::from(count)) {
         return;
     }
-    if sent.len() != usize::from(count) * 512 {
+    if sent.len() != usize::from(count) * SECTOR_LEN {
         return;
     }
-    let first = lba as usize * 512;
-    bytes[first..first + usize::from(count) * 512].copy_from_slice(sent);
+    let first = lba as usize * SECTOR_LEN;
+    bytes[first..first + usize::from(count) * SECTOR_LEN].copy_from_slice(sent);
 }
 
 // Sets `count` sectors from `lba` on to zero, unless they end past the unit.
@@ -215,6 +215,6 @@ fn discard(bytes: &mut [u8], sectors: u32, lba: u64, count: u32)
     if is_past_end(sectors, lba, count) {
         return;
     }
-    let first = lba as usize * 512;
-    zero(&mut bytes[first..first + count as usize * 512]);
+    let first = lba as usize * SECTOR_LEN;
+    zero(&mut bytes[first..first + count as usize * SECTOR_LEN]);
 }

@@ -12,7 +12,7 @@ ghost use Rattle.ar_compaction.specs.Contents.{optional_record, parts_of};
 ghost use Rattle.ar_compaction.specs.Replaying.{unit_address};
 
 use crate::contents::Contents;
-use ar_disks::Addr;
+use ar_disks::{Addr, SECTOR_LEN};
 use ar_record::Record;
 use bytes::Bytes;
 use std::alloc::{AllocError, Global};
@@ -83,8 +83,8 @@ impl Contents {
     {
         let lba = piece as u32 * PIECE;
         let count = (self.base - lba).min(PIECE);
-        let first = lba as usize * 512;
-        let bytes = &self.bytes[first..first + count as usize * 512];
+        let first = lba as usize * SECTOR_LEN;
+        let bytes = &self.bytes[first..first + count as usize * SECTOR_LEN];
         piece_write(alloc, self.addr, lba, count as u16, bytes)
     }
 

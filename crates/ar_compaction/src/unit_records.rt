@@ -9,7 +9,7 @@ ghost use Rattle.ar_compaction.specs.Giving.{AreNext};
 
 use crate::contents::Contents;
 use crate::steps::{are_zeros, pieces_of};
-use ar_disks::{Addr, Host};
+use ar_disks::{Addr, Host, SECTOR_LEN};
 use ar_record::Record;
 use std::alloc::{AllocError, Global};
 use std::marker::Model;
@@ -97,7 +97,7 @@ fn base_of(sectors: u32, attention: bool, bytes: &[u8]) -> u32
     ensures base { result ≡ base_of sectors attention bytes.now }
     ensures within { result ≤ sectors }
 {
-    if attention && sectors > 1 && are_zeros(&bytes[(sectors as usize - 1) * 512..]) {
+    if attention && sectors > 1 && are_zeros(&bytes[(sectors as usize - 1) * SECTOR_LEN..]) {
         sectors - 1
     } else {
         sectors

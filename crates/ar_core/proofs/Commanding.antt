@@ -41,7 +41,7 @@ use Rattle.ar_volume.specs.Image.{unit_sectors, image_at}
 use Rattle.ar_volume.specs.Laws.{reads_refl}
 use Rattle.ar_volume.specs.Seen.{IsUnit, SamePlaces, SameSeen, present_at}
 use Rattle.ar_core.specs.Served.{Serves, Settles, ExecutesCommand}
-use Rattle.ar_core.specs.Step.{Steps, MovesNothing, addr_in, told, once_told, is_busy, entry_at}
+use Rattle.ar_core.specs.Step.{Steps, MovesNothing, addr_in, reported_to, once_reported_to, is_busy, entry_at}
 use Rattle.ar_volume.specs.Storing.{ReadsBlock, ReadsFirst}
 use Rattle.ar_core.proofs.Serving.{first_none}
 use Rattle.ar_core.proofs.Causes.{cause_follows}
@@ -69,12 +69,12 @@ answer_obeyed sectors true cdb bytes quiet = by (operation_code cdb == 0x12) qui
     by true e = refl
     by false e = absurd (cc)
 
-answer_told : (sectors : List (List ℕ)) (mark : Bool) (cdb bytes : List ℕ)
+answer_reported : (sectors : List (List ℕ)) (mark : Bool) (cdb bytes : List ℕ)
     → mark && not (operation_code cdb == 0x12) ≡ true
     → answer (Present sectors mark) cdb bytes ≡ leaving (Present sectors false) (check capacity_data_has_changed)
 unfolding answer
-answer_told sectors false cdb bytes tells = absurd (cc)
-answer_told sectors true cdb bytes tells = by (operation_code cdb == 0x12) tells
+answer_reported sectors false cdb bytes tells = absurd (cc)
+answer_reported sectors true cdb bytes tells = by (operation_code cdb == 0x12) tells
   where
     by : (b : Bool) → true && not b ≡ true
         → cond b (obeyed sectors true (reading cdb) bytes)
@@ -90,11 +90,11 @@ unfolding broken_answer
 broken_quiet n mark cdb sent quiet =
     ap (λ b. cond b (check capacity_data_has_changed) (broken_obeyed n (reading cdb) sent)) quiet
 
-broken_told : (n : ℕ) (mark : Bool) (cdb : List ℕ) (sent : ℕ) → mark && not (operation_code cdb == 0x12) ≡ true
+broken_reported : (n : ℕ) (mark : Bool) (cdb : List ℕ) (sent : ℕ) → mark && not (operation_code cdb == 0x12) ≡ true
     → broken_answer (record { present = true; sectors = n; attention = mark }) cdb sent
     ≡ check capacity_data_has_changed
 unfolding broken_answer
-broken_told n mark cdb sent tells =
+broken_reported n mark cdb sent tells =
     ap (λ b. cond b (check capacity_data_has_changed) (broken_obeyed n (reading cdb) sent)) tells
 
 -- the shape of a unit that is there
@@ -130,22 +130,22 @@ check_not_busy : (reply : Reply) (sense : Sense) → reply ≡ check sense → r
 check_not_busy reply sense is busy = let status = sym (ap (λ (r : Reply). r.status) is) ∙ busy in cc
 
 -- the failure is reported only where the data are lost, since no reply of the table is that
-failure_told : (broken : Bool) (old : UnitState) (cdb bytes : List ℕ) (reply : Reply) (new : UnitState)
+failure_reported : (broken : Bool) (old : UnitState) (cdb bytes : List ℕ) (reply : Reply) (new : UnitState)
     → (broken ≡ false → IsServed old (answer old cdb bytes) reply new)
     → reply ≡ check internal_target_failure → IsTrue broken
-failure_told true old cdb bytes reply new sound is = refl
-failure_told false old cdb bytes reply new sound is =
+failure_reported true old cdb bytes reply new sound is = refl
+failure_reported false old cdb bytes reply new sound is =
     absurd (answer_other old cdb bytes
     (sym ((sound refl).given.answered (check_not_busy reply internal_target_failure is)) ∙ is))
 
 -- no attention was reported
-told_same : (s : ArrayState) (addr : Addr) (cdb : List ℕ) → tells s addr cdb ≡ false → once_told s addr cdb ≡ s
-told_same s addr cdb quiet = ap (λ b. with_book s (cond b (unmarked s.store.book addr) s.store.book)) quiet
+reported_same : (s : ArrayState) (addr : Addr) (cdb : List ℕ) → tells s addr cdb ≡ false → once_reported_to s addr cdb ≡ s
+reported_same s addr cdb quiet = ap (λ b. with_book s (cond b (unmarked s.store.book addr) s.store.book)) quiet
 
 -- where nothing has changed but the mark, nothing has moved
-moves_told : (old : ArrayState) (addr : Addr) (cdb : List ℕ) (new : ArrayState) → new ≡ once_told old addr cdb
+moves_reported : (old : ArrayState) (addr : Addr) (cdb : List ℕ) (new : ArrayState) → new ≡ once_reported_to old addr cdb
     → MovesNothing old addr cdb new
-moves_told old addr cdb new only =
+moves_reported old addr cdb new only =
     subst (MovesNothing old addr cdb) (sym only)
     (record { tables = refl; cache = refl; rows = (reads_refl old.store).rows })
 
@@ -164,7 +164,7 @@ commands_served old new addr n cdb bytes reply unit quiet serves settles few =
     let later : image_at new addr ≡ present_at new addr = image_present new addr (same.there ∙ unit.there) in
     let shape = shape_present old addr unit.there in
     let still : shape_of (image_at new addr) ≡ shape_of (image_at old addr) = shape_same old new addr same in
-    let untold : once_told old addr cdb ≡ old = told_same old addr cdb quiet in
+    let untold : once_reported_to old addr cdb ≡ old = reported_same old addr cdb quiet in
     let kept : SamePlaces old new → MovesNothing old addr cdb new =
     λ places. record {
       tables = places.reads.tables
@@ -185,7 +185,7 @@ commands_served old new addr n cdb bytes reply unit quiet serves settles few =
       obeys = record {
         sound = sound;
         few = few;
-        failure = failure_told (is_broken new) (image_at old addr) cdb bytes reply (image_at new addr) sound;
+        failure = failure_reported (is_broken new) (image_at old addr) cdb bytes reply (image_at new addr) sound;
         units = subst (λ (t : Tables). SameUnits t new.store.book)
             (sym (ap (λ b. cond b (unmarked old.store.book addr) old.store.book) quiet)) serves.follows.store.units;
         accessed = serves.follows.store.accessed;
@@ -243,13 +243,13 @@ sectors_after old new addr len shape seen =
     ap (λ n. sectors_in (geometry_of new) (unit_block (seen_at new) addr) 0 n) len
     ∙ sectors_same old new addr (length_at old.store.book addr) shape (λ k _. seen.same k)
 
-told_shape : (old new : ArrayState) (addr : Addr) (cdb bytes : List ℕ) (reply : Reply)
+reported_shape : (old new : ArrayState) (addr : Addr) (cdb bytes : List ℕ) (reply : Reply)
     → has_unit old.store.book addr ≡ true → has_unit new.store.book addr ≡ true
     → length_at new.store.book addr ≡ length_at old.store.book addr → attention_at new.store.book addr ≡ false
     → tells old addr cdb ≡ true → reply ≡ check capacity_data_has_changed
     → shape_of (image_at new addr)
     ≡ shape_of (unit_run (image_at old addr) (cond (is_busy reply.status) [] (Cmd cdb bytes ∷ [])))
-told_shape old new addr cdb bytes reply was there len gone tells is =
+reported_shape old new addr cdb bytes reply was there len gone tells is =
     shape_present new addr there
     ∙ ap (λ n. record { present = true; sectors = n; attention = attention_at new.store.book addr }) len
     ∙ ap (λ m. record { present = true; sectors = length_at old.store.book addr; attention = m }) (gone
@@ -260,11 +260,11 @@ told_shape old new addr cdb bytes reply was there len gone tells is =
     (sym is)
 
 -- a growth that was reported
-pub commands_told : (old new : ArrayState) (addr : Addr) (n : ℕ) (cdb bytes : List ℕ) (reply : Reply)
+pub commands_reported : (old new : ArrayState) (addr : Addr) (n : ℕ) (cdb bytes : List ℕ) (reply : Reply)
     → IsUnit old addr n → tells old addr cdb ≡ true
     → reply ≡ check capacity_data_has_changed → new ≡ with_book old (unmarked old.store.book addr) → SameSeen old new
     → ExecutesCommand old addr cdb bytes reply new
-commands_told old new addr n cdb bytes reply unit tells is cleared seen =
+commands_reported old new addr n cdb bytes reply unit tells is cleared seen =
     let mark : Bool = attention_at old.store.book addr in
     let tables : new.store.book ≡ unmarked old.store.book addr = ap (λ (s : ArrayState). s.store.book) cleared in
     let cache : new.cache ≡ old.cache = ap (λ (s : ArrayState). s.cache) cleared in
@@ -282,9 +282,9 @@ commands_told old new addr n cdb bytes reply unit tells is cleared seen =
     image_present new addr there ∙ ap (λ m. Present (unit_sectors new addr) m) gone
     ∙ ap (λ (l : List (List ℕ)). Present l false) (sectors_after old new addr len shape seen) in
     let before : image_at old addr ≡ present_at old addr = image_present old addr unit.there in
-    let only : new ≡ once_told old addr cdb =
+    let only : new ≡ once_reported_to old addr cdb =
     cleared ∙ sym (ap (λ b. with_book old (cond b (unmarked old.store.book addr) old.store.book)) tells) in
-    let quiet : MovesNothing old addr cdb new = moves_told old addr cdb new only in
+    let quiet : MovesNothing old addr cdb new = moves_reported old addr cdb new only in
     let other_unit : (b : Addr) → b ≢ addr → SameUnit old.store.book new.store.book b =
     λ b other. subst (λ (t : Tables). SameUnit old.store.book t b) (sym tables) (record {
       there = unmarked_there old.store.book addr b;
@@ -301,7 +301,7 @@ commands_told old new addr n cdb bytes reply unit tells is cleared seen =
     λ now.
     subst (λ (u : UnitState). IsServed u (answer u cdb bytes) reply (image_at new addr)) (sym before)
     (subst (λ (a : Answered). IsServed (present_at old addr) a reply (image_at new addr))
-    (sym (answer_told (unit_sectors old addr) mark cdb bytes tells))
+    (sym (answer_reported (unit_sectors old addr) mark cdb bytes tells))
     (record {
       given = given_is reply capacity_data_has_changed is;
       left = λ _. later;
@@ -311,23 +311,23 @@ commands_told old new addr n cdb bytes reply unit tells is cleared seen =
       obeys = record {
         sound = sound;
         few = check_few reply capacity_data_has_changed is;
-        failure = failure_told (is_broken new) (image_at old addr) cdb bytes reply (image_at new addr) sound;
-        units = subst (λ (t : Tables). SameUnits (told old.store.book addr cdb) t) (sym quiet.tables)
-            (units_refl (told old.store.book addr cdb));
+        failure = failure_reported (is_broken new) (image_at old addr) cdb bytes reply (image_at new addr) sound;
+        units = subst (λ (t : Tables). SameUnits (reported_to old.store.book addr cdb) t) (sym quiet.tables)
+            (units_refl (reported_to old.store.book addr cdb));
         accessed = untouched;
         broken = λ lost.
             subst (λ (s : Shape). IsGiven (broken_answer s cdb (length bytes)) reply)
             (sym (shape_present old addr unit.there))
             (subst (λ (r : Reply). IsGiven r reply)
-            (sym (broken_told (length_at old.store.book addr) mark cdb (length bytes) tells))
+            (sym (broken_reported (length_at old.store.book addr) mark cdb (length bytes) tells))
             (given_is reply capacity_data_has_changed is));
         still = λ _. only;
         refused = λ _ _. only;
         lost = λ _. only;
         reads = λ _. quiet;
         busy = λ _. quiet;
-        begun = λ lba count _. subst (ReadsFirst ReadsBlock (geometry_of old) addr lba count (once_told old addr cdb))
-            (sym only) (first_none (once_told old addr cdb) addr lba count);
+        begun = λ lba count _. subst (ReadsFirst ReadsBlock (geometry_of old) addr lba count (once_reported_to old addr cdb))
+            (sym only) (first_none (once_reported_to old addr cdb) addr lba count);
         got = λ lba count _ good. (let status = sym (ap (λ (r : Reply). r.status) is) ∙ good in absurd (cc));
         busy_read = λ lba count _ _. inl only;
         forced = λ lba count _ good. (let status = sym (ap (λ (r : Reply). r.status) is) ∙ good in absurd (cc));
@@ -336,7 +336,7 @@ commands_told old new addr n cdb bytes reply unit tells is cleared seen =
             ∙ now in absurd (true≢false (sym gone ∙ kept)));
       };
       others = λ now b other. image_same old new b (other_unit b other) shape (λ k _. seen.same k);
-      shape = told_shape old new addr cdb bytes reply unit.there there len gone tells is;
+      shape = reported_shape old new addr cdb bytes reply unit.there there len gone tells is;
       other_shapes = λ b other. shape_same old new b (other_unit b other);
       accessed = untouched;
       capacity = ap (λ (s : ArrayState). s.cache.capacity) cleared;
@@ -361,10 +361,10 @@ absent_needs cdb reply given some good = by (operation_code cdb == 0x12) refl
     by : (b : Bool) → (operation_code cdb == 0x12) ≡ b → ⊥
     by true code = (let none = inquiry-needs_none cdb (eqb-true (operation_code cdb) 0x12 code) in cc)
     by false code =
-        (let told = ap
+        (let reported_to = ap
         (λ b. (cond b (good_of (take (allocation_length cdb) (inquiry_data false)))
         (check logical_unit_not_supported)).status) code in
-        let status = sym good ∙ ap (λ (r : Reply). r.status) served ∙ told in cc)
+        let status = sym good ∙ ap (λ (r : Reply). r.status) served ∙ reported_to in cc)
 
 busy_is : (status : Status) → is_busy status ≡ true → status ≡ Busy
 busy_is Busy e = refl
@@ -372,7 +372,7 @@ busy_is Good e = absurd (cc)
 busy_is CheckCondition e = absurd (cc)
 
 not_busy : (status : Status) → is_busy status ≡ false → status ≢ Busy
-not_busy status e is = let told = sym (ap is_busy is) ∙ e in cc
+not_busy status e is = let reported_to = sym (ap is_busy is) ∙ e in cc
 
 -- a command where no unit is
 pub commands_absent : (s : ArrayState) (addr : Addr) (cdb bytes : List ℕ) (reply : Reply)
@@ -381,10 +381,10 @@ pub commands_absent : (s : ArrayState) (addr : Addr) (cdb bytes : List ℕ) (rep
 unfolding answer broken_answer
 commands_absent s addr cdb bytes reply none given =
     let nothing : image_at s addr ≡ Absent = image_absent s addr none in
-    let only : s ≡ once_told s addr cdb =
-    sym (told_same s addr cdb
+    let only : s ≡ once_reported_to s addr cdb =
+    sym (reported_same s addr cdb
     (ap (λ m. m && not (operation_code cdb == 0x12)) (absent_mark s.store.book addr none))) in
-    let quiet : MovesNothing s addr cdb s = moves_told s addr cdb s only in
+    let quiet : MovesNothing s addr cdb s = moves_reported s addr cdb s only in
     let sound : is_broken s ≡ false
     → IsServed (image_at s addr) (answer (image_at s addr) cdb bytes) reply (image_at s addr) =
     λ now.
@@ -396,9 +396,9 @@ commands_absent s addr cdb bytes reply none given =
       obeys = record {
         sound = sound;
         few = few;
-        failure = failure_told (is_broken s) (image_at s addr) cdb bytes reply (image_at s addr) sound;
-        units = subst (λ (t : Tables). SameUnits (told s.store.book addr cdb) t) (sym quiet.tables)
-            (units_refl (told s.store.book addr cdb));
+        failure = failure_reported (is_broken s) (image_at s addr) cdb bytes reply (image_at s addr) sound;
+        units = subst (λ (t : Tables). SameUnits (reported_to s.store.book addr cdb) t) (sym quiet.tables)
+            (units_refl (reported_to s.store.book addr cdb));
         accessed = accessed_refl s.store.disks;
         broken = λ lost. subst (λ (u : UnitState). IsGiven (broken_answer (shape_of u) cdb (length bytes)) reply)
             (sym nothing) given;

@@ -7,7 +7,7 @@ use Rattle.ar_unit.specs.Unit.{UnitState, Absent, unit_run}
 use Rattle.ar_volume.specs.Sectors.{Address, address_of}
 use Rattle.ar_volume.specs.Image.{at_numbers, at_address}
 use Rattle.ar_core.specs.Events.{Event}
-use Rattle.ar_core.specs.declared.event.EventOf.TheVariants.{Make, Grow, Remove, Cmd, Flush, FlushUnit, Demote, Clean}
+use Rattle.ar_core.specs.declared.event.EventOf.TheVariants.{Make, Grow, Remove, Cmd, Flush, FlushPart, Demote, Clean}
 use Rattle.ar_core.specs.declared.event.EventOf.TheVariants.{Balance, AddDisk, DiskOut, Replace, Rebuild, Unmap}
 use Rattle.ar_core.specs.Events.{Outcome}
 use Rattle.ar_core.specs.Step.{is_about, entry_at, entry_of}
@@ -20,7 +20,7 @@ nowhere (Remove addr) outcome number lun high = let few = addr.host.in_range in 
 nowhere (Cmd host l cdb payload) outcome number lun high = let few = host.in_range in grind (arith, nat_tests)
 nowhere (Unmap addr lba count) outcome number lun high = let few = addr.host.in_range in grind (arith, nat_tests)
 nowhere Flush outcome number lun high = refl
-nowhere (FlushUnit addr) outcome number lun high = refl
+nowhere (FlushPart addr first) outcome number lun high = refl
 nowhere Demote outcome number lun high = refl
 nowhere Clean outcome number lun high = refl
 nowhere Balance outcome number lun high = refl

@@ -27,28 +27,28 @@ use Rattle.ar_volume.specs.Sectors.{Address}
 use Rattle.ar_core.proofs.Isolation.{unit_run-shape}
 
 -- what a unit is that began so and met these
-pub same_reply : (one other : RunOf) (k j : ℕ) (host : Host) (lun : ℕ) (cdb payload : List ℕ) (reply told : Reply)
+pub same_reply : (one other : RunOf) (k j : ℕ) (host : Host) (lun : ℕ) (cdb payload : List ℕ) (reply reported_to : Reply)
     → IsIsolated one.first one.turns one.states → IsIsolated other.first other.turns other.states
     → IsAlikeAt (host.number, lun) one k other j
-    → IsAnsweredSoundly one k host lun cdb payload reply → IsAnsweredSoundly other j host lun cdb payload told
-    → reply ≡ told
-same_reply one other k j host lun cdb payload reply told isolated apart alike here there =
+    → IsAnsweredSoundly one k host lun cdb payload reply → IsAnsweredSoundly other j host lun cdb payload reported_to
+    → reply ≡ reported_to
+same_reply one other k j host lun cdb payload reply reported_to isolated apart alike here there =
     let before : unit_before one.first (host.number, lun) one.turns k
     ≡ unit_before other.first (host.number, lun) other.turns j =
     ap (λ (u : UnitState). unit_run u (own (host.number, lun) (take k one.turns))) alike.begun
     ∙ ap (λ (es : List UnitEntry). unit_run (image other.first (host.number, lun)) es) alike.met in
     isolated.sound k host lun cdb payload reply here.new here.answered here.after here.sound
     ∙ ap (λ (u : UnitState). (answer u cdb payload).reply) before
-    ∙ sym (apart.sound j host lun cdb payload told there.new there.answered there.after there.sound)
+    ∙ sym (apart.sound j host lun cdb payload reported_to there.new there.answered there.after there.sound)
 
 -- the same of arrays that have lost their data, by the shape with which the unit began
 pub same_broken_reply : (one other : RunOf) (k j : ℕ) (host : Host) (lun : ℕ) (cdb payload : List ℕ)
-    (reply told : Reply)
+    (reply reported_to : Reply)
     → IsIsolated one.first one.turns one.states → IsIsolated other.first other.turns other.states
     → IsShapedAlikeAt (host.number, lun) one k other j
-    → IsAnsweredBroken one k host lun cdb payload reply → IsAnsweredBroken other j host lun cdb payload told
-    → reply ≡ told
-same_broken_reply one other k j host lun cdb payload reply told isolated apart alike here there =
+    → IsAnsweredBroken one k host lun cdb payload reply → IsAnsweredBroken other j host lun cdb payload reported_to
+    → reply ≡ reported_to
+same_broken_reply one other k j host lun cdb payload reply reported_to isolated apart alike here there =
     let a : Address = (host.number, lun) in
     let before : shape_of (unit_before one.first a one.turns k) ≡ shape_of (unit_before other.first a other.turns j) =
     unit_run-shape (own a (take k one.turns)) (image one.first a) (image other.first a) alike.begun
@@ -57,7 +57,7 @@ same_broken_reply one other k j host lun cdb payload reply told isolated apart a
     ∙ sym (broken_answer-is (unit_before one.first a one.turns k) cdb payload)
     ∙ ap (λ (s : Shape). broken_answer s cdb (length payload)) before
     ∙ broken_answer-is (unit_before other.first a other.turns j) cdb payload
-    ∙ sym (apart.broken j host lun cdb payload told there.new there.answered there.after there.broken)
+    ∙ sym (apart.broken j host lun cdb payload reported_to there.new there.answered there.after there.broken)
 
 -- the range doesn't end past the unit, and the data are as long as it asks
 within : (n lba count : ℕ) → lba + count ≤ n → is_past_end n lba count ≡ false
@@ -75,10 +75,10 @@ unfolding obeyed
 fits sectors lba count fua payload inside len =
     rw (within (length sectors) lba count inside) (rw (as_long (length payload) (count * 512) len) refl)
 
-told : (sectors : List Sector) (cdb payload : List ℕ) (command : Result Command Sense) → reading cdb ≡ command
+reported_to : (sectors : List Sector) (cdb payload : List ℕ) (command : Result Command Sense) → reading cdb ≡ command
     → answer (Present sectors false) cdb payload ≡ obeyed sectors false command payload
 unfolding answer
-told sectors cdb payload command is = ap (λ (c : Result Command Sense). obeyed sectors false c payload) is
+reported_to sectors cdb payload command is = ap (λ (c : Result Command Sense). obeyed sectors false c payload) is
 
 -- an answer without bytes was given, whatever memory was refused
 given : (old new : UnitState) (state : UnitState) (reply : Reply) → IsServed old (leaving state (good [])) reply new
@@ -99,7 +99,7 @@ write_done old new host lun cdb payload reply sectors lba count steps sound writ
     let table : answer (image_at old addr) cdb payload
     ≡ leaving (Present (written sectors lba count payload) false) (good []) =
     ap (λ (u : UnitState). answer u cdb payload) unit
-    ∙ told sectors cdb payload (Ok (Write lba count write.fua)) write.command
+    ∙ reported_to sectors cdb payload (Ok (Write lba count write.fua)) write.command
     ∙ fits sectors lba count write.fua payload write.inside write.data_len in
     let served =
     subst (λ (t : Answered). IsServed (image_at old addr) t reply (image_at new addr)) table

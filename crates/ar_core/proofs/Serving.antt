@@ -130,7 +130,7 @@ pub given_busy : (payload : List ℕ) → payload ≢ [] → IsGiven (good paylo
 given_busy payload some = record { answered = λ served. absurd (served refl); refused = λ _. refl; memory = λ _. some }
 
 busy_good : (reply : Reply) → reply ≡ good [] → reply.status ≡ Busy → ⊥
-busy_good reply told busy = let status = sym (ap (λ (r : Reply). r.status) told) ∙ busy in cc
+busy_good reply reported_to busy = let status = sym (ap (λ (r : Reply). r.status) reported_to) ∙ busy in cc
 
 -- an answer that left the array as it was
 pub serves_quiet : (s : ArrayState) (addr : Addr) (table otherwise reply : Reply)
@@ -290,7 +290,7 @@ serves_write old new addr lba count bytes Kept reply follows within answer write
         left = λ _. ap (λ l. Present l (attention_at new.store.book addr)) sectors
             ∙ ap (λ m. Present (written (unit_sectors old addr) lba count bytes) m)
             (follows.store.units.attention addr);
-        unchanged = λ busy. (let told = done refl in absurd (busy_good reply told busy));
+        unchanged = λ busy. (let reported_to = done refl in absurd (busy_good reply reported_to busy));
       };
       others = λ now k other. w.others k other;
       broken = λ now. absurd (cc);
@@ -442,9 +442,9 @@ pub padded_written : (old new : ArrayState) (addr : Addr) (n lba count : ℕ) (b
     → IsPadded old → IsUnit old addr n → lba + count ≤ n
     → is_broken old ≡ false → ArrayFollows old new → answer ≡ stored (is_broken new)
     → (answer ≡ Kept → WritesSectors old addr lba count bytes new) → IsPadded new
-padded_written old new addr n lba count bytes answer padded unit within sound follows told writes = record {
+padded_written old new addr n lba count bytes answer padded unit within sound follows reported_to writes = record {
   zeros = λ now b i past.
-      (let w : WritesSectors old addr lba count bytes new = writes (told ∙ ap stored now) in
+      (let w : WritesSectors old addr lba count bytes new = writes (reported_to ∙ ap stored now) in
       let shape : geometry_of new ≡ geometry_of old = follows.store.accessed.follows.geometry in
       let same : length_at new.store.book b ≡ length_at old.store.book b = follows.store.units.sectors b in
       elim (addr_tells b addr) [
@@ -517,20 +517,20 @@ pub settles_write : (old new : ArrayState) (addr : Addr) (lba count : ℕ) (fua 
     → (answer ≡ Kept → StoresBlocks addr lba count fua old new) → answer ≡ stored (is_broken new)
     → (answer ≡ Lost → StopsStoring addr lba count fua old new)
     → (count ≡ 0 → new ≡ old) → Settles old addr (Ok (Write lba count fua)) reply new
-settles_write old new addr lba count fua Kept reply sound done lost forced stores told stops none = record {
+settles_write old new addr lba count fua Kept reply sound done lost forced stores reported_to stops none = record {
   still = λ nothing. none (no_more count nothing);
   reads = λ other. absurd (cc);
   begun = λ l n is. absurd (cc);
   got = λ l n is good. absurd (cc);
   busy_read = λ l n is status. absurd (cc);
-  refused = λ status _. (let told = sym (ap (λ (r : Reply). r.status) (done refl)) ∙ status in absurd (cc));
+  refused = λ status _. (let reported_to = sym (ap (λ (r : Reply). r.status) (done refl)) ∙ status in absurd (cc));
   lost = λ gone. absurd (cc);
-  busy = λ status. (let told = sym (ap (λ (r : Reply). r.status) (done refl)) ∙ status in absurd (cc));
+  busy = λ status. (let reported_to = sym (ap (λ (r : Reply). r.status) (done refl)) ∙ status in absurd (cc));
   forced = λ l n is good. forced_same addr lba count l n new fua is (forced refl);
   stored = λ l n f is good. stored_same addr lba count l n old new fua f is (stores refl);
-  stopped = λ l n f is now gone. (let kept = told ∙ ap stored gone in absurd (cc));
+  stopped = λ l n f is now gone. (let kept = reported_to ∙ ap stored gone in absurd (cc));
 }
-settles_write old new addr lba count fua Lost reply sound done lost forced stores told stops none = record {
+settles_write old new addr lba count fua Lost reply sound done lost forced stores reported_to stops none = record {
   still = λ nothing. none (no_more count nothing);
   reads = λ other. absurd (cc);
   begun = λ l n is. absurd (cc);
@@ -538,8 +538,8 @@ settles_write old new addr lba count fua Lost reply sound done lost forced store
   busy_read = λ l n is status. absurd (cc);
   refused = λ _ other. absurd (other (lost refl));
   lost = λ gone. absurd (cc);
-  busy = λ status. (let told = sym (ap (λ (r : Reply). r.status) (lost refl)) ∙ status in absurd (cc));
-  forced = λ l n is good. (let told = sym (ap (λ (r : Reply). r.status) (lost refl)) ∙ good in absurd (cc));
+  busy = λ status. (let reported_to = sym (ap (λ (r : Reply). r.status) (lost refl)) ∙ status in absurd (cc));
+  forced = λ l n is good. (let reported_to = sym (ap (λ (r : Reply). r.status) (lost refl)) ∙ good in absurd (cc));
   stored = λ l n f is good. (let status = sym (ap (λ (r : Reply). r.status) (lost refl)) ∙ good in absurd (cc));
   stopped = λ l n f is now gone. stopped_same addr lba count l n old new fua f is (stops refl);
 }

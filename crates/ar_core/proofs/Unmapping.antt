@@ -41,7 +41,7 @@ use Rattle.ar_core.specs.Step.{Steps, entry_at, is_busy, reported, once_reported
 use Rattle.ar_core.specs.declared.event.EventOf.TheVariants.{Unmap as UnmapEvent}
 use Rattle.ar_core.specs.declared.event.OutcomeOf.TheVariants.{Unmap as UnmapOutcome}
 use Rattle.ar_core.proofs.Causes.{cause_follows}
-use Rattle.ar_core.proofs.Commanding.{shape_present, commands_told, absent_mark}
+use Rattle.ar_core.proofs.Commanding.{shape_present, commands_reported, absent_mark}
 use Rattle.ar_core.proofs.Events.{unit_follows}
 use Rattle.ar_core.proofs.Everywhere.{everywhere}
 
@@ -86,13 +86,13 @@ pub settles_unmap : (old new : ArrayState) (addr : Addr) (lba count : ℕ) (answ
     → answer ≡ stored (is_broken new)
     → (answer ≡ Kept → DiscardsBlocks addr lba count old new) → (answer ≡ Lost → StopsBlocks addr lba count old new)
     → SettlesUnmap old addr lba count reply new
-settles_unmap old new addr lba count Kept reply sound done lost told discards stops = record {
+settles_unmap old new addr lba count Kept reply sound done lost reported_to discards stops = record {
   refused = λ status _. (let known = sym (ap (λ (r : Reply). r.status) (done refl)) ∙ status in absurd (cc));
   lost = λ gone. absurd (true≢false (sym gone ∙ sound));
   discarded = λ _. discards refl;
-  stopped = λ _ gone. (let kept = told ∙ ap stored gone in absurd (cc));
+  stopped = λ _ gone. (let kept = reported_to ∙ ap stored gone in absurd (cc));
 }
-settles_unmap old new addr lba count Lost reply sound done lost told discards stops = record {
+settles_unmap old new addr lba count Lost reply sound done lost reported_to discards stops = record {
   refused = λ _ other. absurd (other (lost refl));
   lost = λ gone. absurd (true≢false (sym gone ∙ sound));
   discarded = λ good. (let known = sym (ap (λ (r : Reply). r.status) (lost refl)) ∙ good in absurd (cc));
@@ -172,20 +172,20 @@ unmaps_served old new addr n lba count reply unit quiet serves settles =
     }
 
 -- a command of which a growth is reported
-abbrev told_command : UnitEntry
-told_command = Cmd [] []
+abbrev reported_command : UnitEntry
+reported_command = Cmd [] []
 
-abbrev told_entry : Reply → List UnitEntry
-told_entry reply = cond (is_busy reply.status) [] (told_command ∷ [])
+abbrev reported_entry : Reply → List UnitEntry
+reported_entry reply = cond (is_busy reply.status) [] (reported_command ∷ [])
 
 -- a growth that was reported to a command, as to a discard
-pub unmaps_told : (old new : ArrayState) (addr : Addr) (n lba count : ℕ) (reply : Reply)
+pub unmaps_reported : (old new : ArrayState) (addr : Addr) (n lba count : ℕ) (reply : Reply)
     → IsUnit old addr n → attention_at old.store.book addr ≡ true
     → reply ≡ check capacity_data_has_changed → new ≡ with_book old (unmarked old.store.book addr) → SameSeen old new
     → ExecutesUnmap old addr lba count reply new
 unfolding answer
-unmaps_told old new addr n lba count reply unit tells is cleared seen =
-    let told = commands_told old new addr n [] [] reply unit (ap (λ (b : Bool). b && not (operation_code [] == 0x12)) tells) is cleared seen in
+unmaps_reported old new addr n lba count reply unit tells is cleared seen =
+    let reported_to = commands_reported old new addr n [] [] reply unit (ap (λ (b : Bool). b && not (operation_code [] == 0x12)) tells) is cleared seen in
     let sectors : List (List ℕ) = unit_sectors old addr in
     let before : image_at old addr ≡ Present sectors true =
     image_present old addr unit.there ∙ ap (λ m. Present sectors m) tells in
@@ -204,31 +204,31 @@ unmaps_told old new addr n lba count reply unit tells is cleared seen =
       unmaps = record {
         sound = sound;
         left = λ now.
-            (told.obeys.sound now).left answered
+            (reported_to.obeys.sound now).left answered
             ∙ ap (λ (u : UnitState). (answer u [] []).state) before
             ∙ ap (λ (u : UnitState). (unmap_answer u lba count).state) (sym before);
         broken = λ lost. is ∙ ap (λ (s : Shape). broken_unmap s lba count) (sym marked);
         failure = failure_unmapped (is_broken new) (image_at old addr) lba count reply sound;
         units = subst (λ (t : Tables). SameUnits (reported old.store.book addr) t) (sym tables)
             (units_refl (reported old.store.book addr));
-        accessed = told.accessed;
+        accessed = reported_to.accessed;
         refused = λ _ _. only;
         lost = λ _. only;
         discarded = λ good. (let status = sym (ap (λ (r : Reply). r.status) is) ∙ good in absurd (cc));
         stopped = λ now gone. (let kept = ap (λ (s : ArrayState). is_broken s) cleared
             ∙ now in absurd (true≢false (sym gone ∙ kept)));
       };
-      others = told.others;
+      others = reported_to.others;
       shape =
-          told.shape
-          ∙ ap (λ (r : Reply). shape_of (unit_run (image_at old addr) (told_entry r))) is
-          ∙ after-shape (image_at old addr) (told_command)
-          ∙ ap (λ (s : Shape). shape_after s told_command) marked
+          reported_to.shape
+          ∙ ap (λ (r : Reply). shape_of (unit_run (image_at old addr) (reported_entry r))) is
+          ∙ after-shape (image_at old addr) (reported_command)
+          ∙ ap (λ (s : Shape). shape_after s reported_command) marked
           ∙ ap (λ (s : Shape). shape_after s (Unmap lba count)) (sym marked)
           ∙ sym (after-shape (image_at old addr) (Unmap lba count));
-      other_shapes = told.other_shapes;
-      accessed = told.accessed;
-      capacity = told.capacity;
+      other_shapes = reported_to.other_shapes;
+      accessed = reported_to.accessed;
+      capacity = reported_to.capacity;
     }
 
 -- a discard where no unit is

@@ -23,7 +23,7 @@ use Rattle.ar_unit.specs.Broken.{shape_of, broken_answer, broken_unmap}
 use Rattle.ar_core.specs.Events.{Event}
 use Rattle.ar_core.specs.declared.event.EventOf.TheVariants.{Make as MakeEvent, Grow as GrowEvent}
 use Rattle.ar_core.specs.declared.event.EventOf.TheVariants.{Remove as RemoveEvent, Cmd as CmdEvent}
-use Rattle.ar_core.specs.declared.event.EventOf.TheVariants.{Flush as FlushEvent, FlushUnit as FlushUnitEvent}
+use Rattle.ar_core.specs.declared.event.EventOf.TheVariants.{Flush as FlushEvent, FlushPart as FlushPartEvent}
 use Rattle.ar_core.specs.declared.event.EventOf.TheVariants.{Demote as DemoteEvent, Clean as CleanEvent}
 use Rattle.ar_core.specs.declared.event.EventOf.TheVariants.{Balance as BalanceEvent, AddDisk as AddDiskEvent}
 use Rattle.ar_core.specs.declared.event.EventOf.TheVariants.{DiskOut as DiskOutEvent, Replace as ReplaceEvent}
@@ -31,7 +31,7 @@ use Rattle.ar_core.specs.declared.event.EventOf.TheVariants.{Rebuild as RebuildE
 use Rattle.ar_core.specs.Events.{Outcome}
 use Rattle.ar_core.specs.declared.event.OutcomeOf.TheVariants.{Make as MakeOutcome, Grow as GrowOutcome}
 use Rattle.ar_core.specs.declared.event.OutcomeOf.TheVariants.{Remove as RemoveOutcome, Cmd as CmdOutcome}
-use Rattle.ar_core.specs.declared.event.OutcomeOf.TheVariants.{Flush as FlushOutcome, FlushUnit as FlushUnitOutcome}
+use Rattle.ar_core.specs.declared.event.OutcomeOf.TheVariants.{Flush as FlushOutcome, FlushPart as FlushPartOutcome}
 use Rattle.ar_core.specs.declared.event.OutcomeOf.TheVariants.{Demote as DemoteOutcome, Clean as CleanOutcome}
 use Rattle.ar_core.specs.declared.event.OutcomeOf.TheVariants.{Balance as BalanceOutcome, AddDisk as AddDiskOutcome}
 use Rattle.ar_core.specs.declared.event.OutcomeOf.TheVariants.{DiskOut as DiskOutOutcome, Replace as ReplaceOutcome}
@@ -45,7 +45,7 @@ use Rattle.ar_volume.specs.Seen.{IsForced}
 use Rattle.ar_cache.specs.Backing.{InTurn}
 use Rattle.ar_volume.specs.Storing.{ReadsBlock, ReadsFirst, StopsStoring, StoresBlocks}
 use Rattle.ar_volume.specs.Changes.{Makes, Grows, Removes}
-use Rattle.ar_volume.specs.Flush.{FlushesOne, FlushesUnit}
+use Rattle.ar_volume.specs.Flush.{FlushesOne, FlushesPart}
 use Rattle.ar_volume.specs.Moves.{DemotesOne, CleansOne}
 use Rattle.ar_volume.specs.Rebuild.{RebuildsOne}
 use Rattle.ar_volume.specs.Balance.{BalancesOne}
@@ -117,16 +117,16 @@ moves_sectors other = false
 
 -- the tables after a command has reported and cleared a pending UNIT ATTENTION; INQUIRY does neither (SAM-3, Unit
 -- attention condition)
-abbrev pub told : Tables → Addr → List ℕ → Tables
-told t addr cdb = if attention_at t addr && not (operation_code cdb == 0x12) then unmarked t addr else t
+abbrev pub reported_to : Tables → Addr → List ℕ → Tables
+reported_to t addr cdb = if attention_at t addr && not (operation_code cdb == 0x12) then unmarked t addr else t
 
 -- the array after that: nothing else has changed, and no disk was accessed
-abbrev pub once_told : ArrayState → Addr → List ℕ → ArrayState
-once_told s addr cdb = with_book s (told s.store.book addr cdb)
+abbrev pub once_reported_to : ArrayState → Addr → List ℕ → ArrayState
+once_reported_to s addr cdb = with_book s (reported_to s.store.book addr cdb)
 
 -- no block's slot, no cache entry and no row of any disk has changed; a reported UNIT ATTENTION is cleared
 pub record MovesNothing (old : ArrayState) (addr : Addr) (cdb : List ℕ) (new : ArrayState) : Type 0 where
-  pub tables : new.store.book ≡ told old.store.book addr cdb
+  pub tables : new.store.book ≡ reported_to old.store.book addr cdb
   pub cache : new.cache ≡ old.cache
   pub rows : Keeps Anywhere old.store.disks new.store.disks
 
@@ -141,25 +141,25 @@ pub record Obeys (old : ArrayState) (addr : Addr) (cdb bytes : List ℕ) (reply 
   -- a reply has at most the bytes of the longest READ, 65,535 sectors
   pub few : length reply.payload ≤ 65535 * 512
   -- units change only in slots, write sequence numbers and the reported UNIT ATTENTION, and the room stays
-  pub units : SameUnits (told old.store.book addr cdb) new.store.book
+  pub units : SameUnits (reported_to old.store.book addr cdb) new.store.book
   -- no disk fails without a fault, and the unassigned extents stay
   pub accessed : IsAccessed old.store.disks new.store.disks
   -- a command without a sector to transfer, a refused one, and one to a failed array access no disk and change nothing
   -- but the UNIT ATTENTION
-  pub still : moves_sectors (reading cdb) ≡ false → new ≡ once_told old addr cdb
-  pub refused : reply.status ≡ CheckCondition → reply ≢ check internal_target_failure → new ≡ once_told old addr cdb
-  pub lost : IsTrue (is_broken old) → new ≡ once_told old addr cdb
+  pub still : moves_sectors (reading cdb) ≡ false → new ≡ once_reported_to old addr cdb
+  pub refused : reply.status ≡ CheckCondition → reply ≢ check internal_target_failure → new ≡ once_reported_to old addr cdb
+  pub lost : IsTrue (is_broken old) → new ≡ once_reported_to old addr cdb
   -- only a WRITE places or caches a block, and no command with BUSY does
   pub reads : is_write (reading cdb) ≡ false → MovesNothing old addr cdb new
   pub busy : reply.status ≡ Busy → MovesNothing old addr cdb new
   -- a READ, whatever the reply, has read the blocks of its sectors once each, in ascending order, up to some block, and
   -- no other; with GOOD all of them, with BUSY all or none
   pub begun : (lba count : ℕ) → reading cdb ≡ Ok (Read lba count)
-      → ReadsFirst ReadsBlock (geometry_of old) addr lba count (once_told old addr cdb) new
+      → ReadsFirst ReadsBlock (geometry_of old) addr lba count (once_reported_to old addr cdb) new
   pub got : (lba count : ℕ) → reading cdb ≡ Ok (Read lba count) → reply.status ≡ Good
       → InTurn ReadsBlock (keys_in (geometry_of old) addr lba count) old new
   pub busy_read : (lba count : ℕ) → reading cdb ≡ Ok (Read lba count) → reply.status ≡ Busy
-      → (new ≡ once_told old addr cdb) ⊎ InTurn ReadsBlock (keys_in (geometry_of old) addr lba count) old new
+      → (new ≡ once_reported_to old addr cdb) ⊎ InTurn ReadsBlock (keys_in (geometry_of old) addr lba count) old new
   -- a GOOD WRITE with FORCE UNIT ACCESS leaves none of its blocks in the cache (SBC-2, WRITE (10) command)
   pub forced : (lba count : ℕ) → reading cdb ≡ Ok (Write lba count true) → reply.status ≡ Good
       → IsForced new addr lba count
@@ -210,7 +210,7 @@ Answers old (RemoveEvent addr) (RemoveOutcome result) new = Removes old addr res
 Answers old (CmdEvent host lun cdb payload) (CmdOutcome reply) new = Obeys old (addr_in host lun) cdb payload reply new
 Answers old (UnmapEvent addr lba count) (UnmapOutcome reply) new = Unmaps old addr lba count reply new
 Answers old FlushEvent (FlushOutcome answer) new = FlushesOne old answer new
-Answers old (FlushUnitEvent addr) (FlushUnitOutcome answer) new = FlushesUnit old addr answer new
+Answers old (FlushPartEvent addr first) (FlushPartOutcome answer) new = FlushesPart old addr first answer new
 Answers old DemoteEvent (DemoteOutcome answer) new = DemotesOne old answer new
 Answers old CleanEvent (CleanOutcome answer) new = CleansOne old answer new
 Answers old BalanceEvent (BalanceOutcome answer) new = BalancesOne old answer new

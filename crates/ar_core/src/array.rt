@@ -127,7 +127,7 @@ impl<D: Disk + Drop> Array<D> {
         }
     }
 
-    // Executes an event of an operator, or the discard or flush of a unit that its host asks for.
+    // Executes an event of an operator, or the discard or part of a flush of a unit that its host asks for.
     fn step_rarely(&mut self, event: Event<D>) -> Outcome<D>
         requires { is_frequent event ≡ false }
         ensures { Steps self.old event result self.new }
@@ -137,7 +137,7 @@ impl<D: Disk + Drop> Array<D> {
             EventOf::Grow(addr, sectors) => OutcomeOf::Grow(self.grow(addr, sectors)),
             EventOf::Remove(addr) => OutcomeOf::Remove(self.remove(addr)),
             EventOf::Unmap(addr, lba, count) => OutcomeOf::Unmap(self.unmap(addr, lba, count)),
-            EventOf::FlushUnit(addr) => OutcomeOf::FlushUnit(self.flush_unit(addr)),
+            EventOf::FlushPart(addr, first) => OutcomeOf::FlushPart(self.flush_part(addr, first)),
             EventOf::AddDisk(disk) => OutcomeOf::AddDisk(self.add_disk(disk)),
             EventOf::DiskOut(disk) => OutcomeOf::DiskOut(self.disk_out(disk)),
             EventOf::Replace(number, disk) => OutcomeOf::Replace(self.replace(number, disk)),

@@ -25,7 +25,7 @@ ghost use Rattle.ar_volume.specs.Storing.{StopsPutting, StopsStoring, StoresBloc
 ghost use Rattle.ar_book.specs.Changes.{unmarked};
 
 use crate::{Array, Completion};
-use ar_disks::{Addr, Block, Disk, Geometry};
+use ar_disks::{Addr, Block, Disk, Geometry, SECTOR_LEN};
 use ar_scsi::{Command, Reply, Sense, decode, is_inquiry};
 use ar_unit::{absent, capacity, inquiry};
 use ar_volume::{Backing, read_sectors, write_sectors};
@@ -63,7 +63,7 @@ impl<D: Disk> Array<D> {
 
     // Reports the pending UNIT ATTENTION, and clears it.
     pub(crate) fn tell_growth(&mut self, addr: Addr) -> Reply
-        ensures told { result ≡ check capacity_data_has_changed }
+        ensures reported_to { result ≡ check capacity_data_has_changed }
         ensures cleared { self.new ≡ with_book self.old (unmarked self.old.store.book addr) }
         ensures seen { SameSeen self.old self.new }
     {
@@ -215,7 +215,7 @@ impl<D: Disk> Array<D> {
         if is_past_end(sectors, lba, count) {
             return Reply::check(Sense::LOGICAL_BLOCK_ADDRESS_OUT_OF_RANGE);
         }
-        if bytes.len() != usize::from(count) * 512 {
+        if bytes.len() != usize::from(count) * SECTOR_LEN {
             return Reply::check(Sense::DATA_PHASE_ERROR);
         }
         if self.blocks.is_broken() {
@@ -363,7 +363,7 @@ fn fetch_sectors<B: Backing>(
     ensures few { length result.payload ≤ 65535 * 512 }
     ensures len { length block.new ≡ length block.old }
 {
-    let len = count as usize * 512;
+    let len = count as usize * SECTOR_LEN;
     let is_lent = spare.len() == len;
     let is_short = len <= SHORT && !is_lent;
     let memory = if is_short { &mut *room } else { &mut *kept };

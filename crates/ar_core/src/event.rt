@@ -5,7 +5,7 @@ use ar_disks::{Addr, Host};
 use ar_moves::Move;
 use ar_rebuild::Rebuild;
 use ar_scsi::Reply;
-use ar_volume::{Flush, NewDisk, Refusal, UnitFlush};
+use ar_volume::{Flush, NewDisk, PartFlush, Refusal};
 use bytes::Bytes;
 
 /// An event of an array of disks of type `D`.
@@ -37,8 +37,9 @@ pub enum EventOf<N> {
     Unmap(Addr, u64, u32),
     /// Destages the least recently used block of the cache.
     Flush,
-    /// Destages all cached blocks of a unit, for a host that requests it by SYNCHRONIZE CACHE (SBC-2).
-    FlushUnit(Addr),
+    /// Destages those of 64 blocks of a unit that are cached, from this block on, for a host that requests it of all by
+    /// SYNCHRONIZE CACHE (SBC-2).
+    FlushPart(Addr, u32),
     /// Moves the least recently written mirrored block to a parity group.
     Demote,
     /// Moves one block out of the emptiest group whose blocks all fit in the other groups of its class.
@@ -64,7 +65,7 @@ pub enum OutcomeOf<N> {
     Cmd(Reply),
     Unmap(Reply),
     Flush(Flush),
-    FlushUnit(UnitFlush),
+    FlushPart(PartFlush),
     Demote(Move),
     Clean(Move),
     Balance(Balance),

@@ -6,7 +6,7 @@ ghost use Rattle.ar_volume.specs.Following.{ArrayFollows};
 ghost use Rattle.ar_volume.specs.Image.{is_broken, image_at, image_on_disks};
 ghost use Rattle.ar_volume.specs.Storing.{EmptiesCache, LeavesSome};
 
-use crate::{Array, Completion, EventOf, Flush, OutcomeOf, UnitFlush};
+use crate::{Array, Completion, EventOf, Flush, OutcomeOf, PartFlush};
 use ar_disks::{Addr, Disk};
 
 impl<D: Disk> Array<D> {
@@ -19,13 +19,14 @@ impl<D: Disk> Array<D> {
         self.blocks.flush_one()
     }
 
-    /// Destages all cached blocks of the unit at `addr`, in ascending order: the step of `EventOf::FlushUnit`. After
-    /// `Done` the disks have all of the unit's contents. Returns `Broken` if the array has failed, before or during
-    /// this call, and else `Absent` if there is no such unit.
-    pub fn flush_unit(&mut self, addr: Addr) -> UnitFlush
-        ensures { Steps self.old (EventOf.FlushUnit addr) (OutcomeOf.FlushUnit result) self.new }
+    /// Destages those of 64 blocks of the unit at `addr` that are cached, from block `first` on and in ascending order:
+    /// the step of `EventOf::FlushPart`. After `Done` or `More` the disks have these blocks' contents; `Done` says that
+    /// the unit has no block after them. Returns `Broken` if the array has failed, before or during this call, and
+    /// else `Absent` if there is no such unit.
+    pub fn flush_part(&mut self, addr: Addr, first: u32) -> PartFlush
+        ensures { Steps self.old (EventOf.FlushPart addr first) (OutcomeOf.FlushPart result) self.new }
     {
-        self.blocks.flush_unit(addr)
+        self.blocks.flush_part(addr, first)
     }
 
     /// Destages all cached blocks, the least recently used first. With an empty cache nothing changes. Returns `Broken`

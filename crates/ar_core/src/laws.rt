@@ -16,8 +16,8 @@ ghost use Rattle.ar_disks.specs.declared.address.Key.{Key};
 ghost use Rattle.ar_extents.specs.declared.log.AccessKind.TheVariants.{Read, Write};
 ghost use Rattle.ar_store.specs.Plans.{MakesAccesses};
 ghost use Rattle.ar_cache.specs.declared.answers.Flush.TheVariants.{Flushed};
-ghost use Rattle.ar_volume.specs.declared.flush.UnitFlush.TheVariants.{Done};
-ghost use Rattle.ar_volume.specs.Flush.{unit_keys};
+ghost use Rattle.ar_volume.specs.declared.flush.PartFlush.{PartFlush};
+ghost use Rattle.ar_volume.specs.Flush.{has_flushed, part_keys};
 ghost use Rattle.ar_core.specs.Costs.{reads_of};
 ghost use Rattle.ar_core.specs.WriteCosts.{CostsExactly, MakesInTurn, PutMakes, ForceMakes, WriteMakes};
 ghost use Rattle.ar_core.specs.WriteCosts.{for_each, WritesThrough, AreMirrored, StayAtParity};
@@ -131,16 +131,16 @@ pub fn write_accesses()
         old.store.disks new.store.disks }
 {}
 
-/// The cost of a flush: where no disk faults, a flush of one cached block is one put, and that of a unit one put for
-/// each of its cached blocks, in ascending order. The function does nothing.
+/// The cost of a flush: where no disk faults, a flush of one cached block is one put, and that of a part of a
+/// unit one put for each of the part's cached blocks, in ascending order. The function does nothing.
 pub fn flushes_are_accounted_for()
     ensures one { (old new : ArrayState) (key : Key) → Steps old EventOf.Flush (OutcomeOf.Flush (Flushed key)) new
         → NoneFaults old.store.disks new.store.disks
         → CostsExactly (PutMakes old.store key new.store) old.store.disks new.store.disks }
-    ensures unit { (old new : ArrayState) (addr : Addr)
-        → Steps old (EventOf.FlushUnit addr) (OutcomeOf.FlushUnit Done) new
+    ensures part { (old new : ArrayState) (addr : Addr) (first : ℕ) (answer : PartFlush)
+        → Steps old (EventOf.FlushPart addr first) (OutcomeOf.FlushPart answer) new → has_flushed answer ≡ true
         → NoneFaults old.store.disks new.store.disks
-        → CostsExactly (MakesInTurn ForceMakes (unit_keys old addr) old new) old.store.disks new.store.disks }
+        → CostsExactly (MakesInTurn ForceMakes (part_keys old addr first) old new) old.store.disks new.store.disks }
 {}
 
 /// A GOOD discard of sectors that cover all of each of their blocks accesses no disk: each of these blocks has lost its

@@ -25,7 +25,7 @@ pub use ar_disks::Completion;
 pub use ar_extents::{DiskRefusal, Health, StartFault};
 pub use ar_moves::Move;
 pub use ar_rebuild::Rebuild;
-pub use ar_volume::{Counters, NewDisk, Refusal, UnitFlush};
+pub use ar_volume::{Counters, NewDisk, PartFlush, Refusal};
 pub use array::Array;
 pub use event::{Event, EventOf, Outcome, OutcomeOf};
 pub use laws::{

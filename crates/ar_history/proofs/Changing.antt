@@ -37,7 +37,7 @@ quiet_none (events.Remove addr) outcome a quiet = absurd (true≢false (sym quie
 quiet_none (events.Cmd host lun cdb payload) outcome a quiet = absurd (true≢false (sym quiet))
 quiet_none (events.Unmap addr lba count) outcome a quiet = absurd (true≢false (sym quiet))
 quiet_none events.Flush outcome a quiet = refl
-quiet_none (events.FlushUnit addr) outcome a quiet = refl
+quiet_none (events.FlushPart addr first) outcome a quiet = refl
 quiet_none events.Demote outcome a quiet = refl
 quiet_none events.Clean outcome a quiet = refl
 quiet_none events.Balance outcome a quiet = refl
@@ -226,7 +226,7 @@ tells_by old new (events.Make addr n) (outcomes.Grow result) history entry kept 
 tells_by old new (events.Make addr n) (outcomes.Remove result) history entry kept answers asked = absurd answers
 tells_by old new (events.Make addr n) (outcomes.Cmd result) history entry kept answers asked = absurd answers
 tells_by old new (events.Make addr n) (outcomes.Flush result) history entry kept answers asked = absurd answers
-tells_by old new (events.Make addr n) (outcomes.FlushUnit result) history entry kept answers asked = absurd answers
+tells_by old new (events.Make addr n) (outcomes.FlushPart result) history entry kept answers asked = absurd answers
 tells_by old new (events.Make addr n) (outcomes.Unmap reply) history entry kept answers asked = absurd answers
 tells_by old new (events.Make addr n) (outcomes.Demote result) history entry kept answers asked = absurd answers
 tells_by old new (events.Make addr n) (outcomes.Clean result) history entry kept answers asked = absurd answers
@@ -242,7 +242,7 @@ tells_by old new (events.Grow addr n) (outcomes.Grow result) history entry kept 
 tells_by old new (events.Grow addr n) (outcomes.Remove result) history entry kept answers asked = absurd answers
 tells_by old new (events.Grow addr n) (outcomes.Cmd result) history entry kept answers asked = absurd answers
 tells_by old new (events.Grow addr n) (outcomes.Flush result) history entry kept answers asked = absurd answers
-tells_by old new (events.Grow addr n) (outcomes.FlushUnit result) history entry kept answers asked = absurd answers
+tells_by old new (events.Grow addr n) (outcomes.FlushPart result) history entry kept answers asked = absurd answers
 tells_by old new (events.Grow addr n) (outcomes.Unmap reply) history entry kept answers asked = absurd answers
 tells_by old new (events.Grow addr n) (outcomes.Demote result) history entry kept answers asked = absurd answers
 tells_by old new (events.Grow addr n) (outcomes.Clean result) history entry kept answers asked = absurd answers
@@ -258,7 +258,7 @@ tells_by old new (events.Remove addr) (outcomes.Remove result) history entry kep
     (removed old new addr result history kept answers)
 tells_by old new (events.Remove addr) (outcomes.Cmd result) history entry kept answers asked = absurd answers
 tells_by old new (events.Remove addr) (outcomes.Flush result) history entry kept answers asked = absurd answers
-tells_by old new (events.Remove addr) (outcomes.FlushUnit result) history entry kept answers asked = absurd answers
+tells_by old new (events.Remove addr) (outcomes.FlushPart result) history entry kept answers asked = absurd answers
 tells_by old new (events.Remove addr) (outcomes.Unmap reply) history entry kept answers asked = absurd answers
 tells_by old new (events.Remove addr) (outcomes.Demote result) history entry kept answers asked = absurd answers
 tells_by old new (events.Remove addr) (outcomes.Clean result) history entry kept answers asked = absurd answers
@@ -270,7 +270,7 @@ tells_by old new (events.Remove addr) (outcomes.Rebuild result) history entry ke
 tells_by old new (events.Cmd host lun cdb payload) outcome history entry kept answers asked = absurd (cc)
 tells_by old new (events.Unmap addr lba count) outcome history entry kept answers asked = absurd (cc)
 tells_by old new events.Flush outcome history entry kept answers asked = absurd (cc)
-tells_by old new (events.FlushUnit addr) outcome history entry kept answers asked = absurd (cc)
+tells_by old new (events.FlushPart addr first) outcome history entry kept answers asked = absurd (cc)
 tells_by old new events.Demote outcome history entry kept answers asked = absurd (cc)
 tells_by old new events.Clean outcome history entry kept answers asked = absurd (cc)
 tells_by old new events.Balance outcome history entry kept answers asked = absurd (cc)

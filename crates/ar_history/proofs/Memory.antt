@@ -24,7 +24,7 @@ use Rattle.ar_unit.specs.Broken.{Shape, shape_of, is_good, needs_blocks, where_b
 use Rattle.ar_unit.proofs.Laws.{broken_answer-is, answer-takes_no_memory}
 use Rattle.ar_volume.specs.Image.{ArrayState, is_broken, attention_at, image_at}
 use Rattle.ar_volume.proofs.Images.{shape_here}
-use Rattle.ar_core.specs.Step.{Steps, Obeys, MovesNothing, is_busy, is_write, addr_in, told}
+use Rattle.ar_core.specs.Step.{Steps, Obeys, MovesNothing, is_busy, is_write, addr_in, reported_to}
 use Rattle.ar_core.specs.declared.event.EventOf.TheVariants.{Cmd as CmdEvent}
 use Rattle.ar_core.specs.declared.event.OutcomeOf.TheVariants.{Cmd as CmdOutcome}
 use Rattle.ar_history.proofs.Commands.{busy_is}
@@ -63,10 +63,10 @@ mark_by : (found : Option UnitTableState) → (shape_at found).attention ≡ (un
 mark_by None = refl
 mark_by (Some unit) = refl
 
-told_none : (s : ArrayState) (addr : Addr) (cdb bytes : List ℕ)
+reported_none : (s : ArrayState) (addr : Addr) (cdb bytes : List ℕ)
     → (answer (image_at s addr) cdb bytes).reply.payload ≢ []
-    → told s.store.book addr cdb ≡ s.store.book
-told_none s addr cdb bytes some =
+    → reported_to s.store.book addr cdb ≡ s.store.book
+reported_none s addr cdb bytes some =
     let mark : (shape_of (image_at s addr)).attention ≡ attention_at s.store.book addr =
     ap (λ (x : Shape). x.attention) (shape_here s addr) ∙ mark_by (lookup (same_addr addr) s.store.book.units) in
     ap (λ (b : Bool). cond b (unmarked s.store.book addr) s.store.book)
@@ -96,7 +96,7 @@ busy_bytes old new addr cdb bytes reply obeys is = by (is_broken new) refl
 leaves_by : (old new : ArrayState) (addr : Addr) (cdb bytes : List ℕ) → MovesNothing old addr cdb new
     → (answer (image_at old addr) cdb bytes).reply.payload ≢ [] → LeavesStorage old new
 leaves_by old new addr cdb bytes moves some = record {
-  tables = moves.tables ∙ told_none old addr cdb bytes some;
+  tables = moves.tables ∙ reported_none old addr cdb bytes some;
   cache = moves.cache;
   rows = moves.rows;
 }

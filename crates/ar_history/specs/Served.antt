@@ -7,18 +7,19 @@ use Rattle.ar_scsi.specs.declared.command.Command.{Command}
 use Rattle.ar_scsi.specs.declared.command.Command.TheVariants.{Write}
 use Rattle.ar_scsi.specs.declared.sense.Sense.{Sense}
 use Rattle.ar_scsi.specs.Reading.{reading}
+use Rattle.ar_scsi.specs.Reply.{busy}
 use Rattle.ar_unit.specs.Broken.{is_good}
-use Rattle.ar_volume.specs.declared.flush.UnitFlush.{UnitFlush}
-use Rattle.ar_volume.specs.declared.flush.UnitFlush.TheVariants.{Done}
-use Rattle.ar_volume.specs.Image.{is_broken, image, image_at, image_on_disks}
+use Rattle.ar_volume.specs.declared.flush.PartFlush.{PartFlush}
+use Rattle.ar_volume.specs.Flush.{PartOnDisks, has_flushed}
+use Rattle.ar_volume.specs.Image.{is_broken, image}
 use Rattle.ar_volume.specs.Sectors.{Address}
 use Rattle.ar_core.specs.Events.{Event, Outcome}
 use Rattle.ar_core.specs.Step.{Steps, is_busy, is_write}
-use Rattle.ar_core.specs.declared.event.EventOf.TheVariants.{Cmd as CmdEvent, FlushUnit as FlushUnitEvent}
+use Rattle.ar_core.specs.declared.event.EventOf.TheVariants.{Cmd as CmdEvent, FlushPart as FlushPartEvent}
 use Rattle.ar_core.specs.declared.event.EventOf.TheVariants.{Unmap as UnmapEvent}
-use Rattle.ar_core.specs.declared.event.OutcomeOf.TheVariants.{Cmd as CmdOutcome, FlushUnit as FlushUnitOutcome}
+use Rattle.ar_core.specs.declared.event.OutcomeOf.TheVariants.{Cmd as CmdOutcome, FlushPart as FlushPartOutcome}
 use Rattle.ar_core.specs.declared.event.OutcomeOf.TheVariants.{Unmap as UnmapOutcome}
-use Rattle.ar_history.specs.Counts.{CountsCommand, CountsOperation, CountsTask, is_idle}
+use Rattle.ar_history.specs.Counts.{CountsCommand, CountsOperation, CountsTask, counts_after, is_idle, raised}
 use Rattle.ar_history.specs.Kept.{KeptState, StaysKept, exchange_of, history_entry}
 use Rattle.ar_history.specs.Operations.{Does, event_of_task}
 use Rattle.ar_history.specs.Seat.{SeatState}
@@ -55,6 +56,12 @@ pub record AnswersCommand (stores : Bool) (old : KeptState) (before : SeatState)
       ++ (if stores && is_recorded new.array reply then exchange_of lun cdb payload reply ∷ [] else [])
   pub memory : RecordsWithin stores old before lun cdb payload reply new after
 
+-- The state after a reply BUSY to a command of this host that isn't executed: the reply is counted as any BUSY is, and
+-- as an event, and all else stays.
+abbrev pub after_refusal : KeptState → ℕ → List ℕ → KeptState
+after_refusal old host cdb =
+    record old { counts = counts_after old.counts host cdb 0 busy; events = raised old.events 1 }
+
 -- An operation's event was one step of the array, or was not begun. The history has grown by what was done, the array
 -- was kept before and after, and an event is counted.
 pub record Operates (event : Event) (old : KeptState) (outcome : Outcome) (new : KeptState) : Type 0 where
@@ -73,22 +80,23 @@ pub record Maintains (task : Task) (old : KeptState) (outcome : Outcome) (new : 
   pub kept : StaysKept old new
   pub counts : CountsTask old task outcome new
 
--- a task was done with some outcome, and `told` says whether it did anything
-pub record Works (task : Task) (old : KeptState) (told : Bool) (new : KeptState) : Type 0 where
+-- a task was done with some outcome, and `reported_to` says whether it did anything
+pub record Works (task : Task) (old : KeptState) (reported_to : Bool) (new : KeptState) : Type 0 where
   pub outcome : Outcome
-  pub worked : told ≡ not (is_idle outcome)
+  pub worked : reported_to ≡ not (is_idle outcome)
   pub maintains : Maintains task old outcome new
 
--- A unit's cached blocks were destaged, as one step of the array: if that is done, there is such a unit, and the disks
--- have all of its contents. The history stays, each unit is what it makes it, until data loss every unit stays, and an
--- event is counted.
-pub record DestagesUnit (old : KeptState) (addr : Addr) (answer : UnitFlush) (new : KeptState) : Type 0 where
-  pub steps : Steps old.array (FlushUnitEvent addr) (FlushUnitOutcome answer) new.array
-  pub on_disks : answer ≡ Done → image_at new.array addr ≡ image_on_disks new.array.store addr
-  pub history : new.history ≡ old.history
-  pub kept : StaysKept old new
-  pub images : is_broken new.array ≡ false → (a : Address) → image new.array a ≡ image old.array a
-  pub counts : CountsOperation old new
+-- The cached blocks of a part of a unit were destaged, as one step of the array: if that is done, there is such a unit,
+-- and the disks have the part's contents. The history stays, each unit is what it makes it, until data loss every unit
+-- stays, and an event is counted.
+pub record DestagesPart (old : KeptState) (addr : Addr) (first : ℕ) (answer : PartFlush) (new : KeptState) : Type 0
+  where
+    pub steps : Steps old.array (FlushPartEvent addr first) (FlushPartOutcome answer) new.array
+    pub on_disks : has_flushed answer ≡ true → PartOnDisks new.array addr first
+    pub history : new.history ≡ old.history
+    pub kept : StaysKept old new
+    pub images : is_broken new.array ≡ false → (a : Address) → image new.array a ≡ image old.array a
+    pub counts : CountsOperation old new
 
 -- Sectors of a unit were discarded: one step of the array or, where a stored history can't grow, BUSY and nothing. The
 -- reply is that of the unit, and the history has grown by the discard unless the array has failed after it. The array

@@ -6,12 +6,13 @@ ghost use Rattle.ar_history.specs.Counts.{no_counts};
 ghost use Rattle.ar_history.specs.History.{is_command};
 ghost use Rattle.ar_history.specs.Kept.{HistoryAgrees};
 ghost use Rattle.ar_history.specs.Seat.{SeatState};
-ghost use Rattle.ar_history.specs.Served.{AnswersCommand, DestagesUnit, DiscardsSectors, Maintains, Operates};
+ghost use Rattle.ar_history.specs.Served.{AnswersCommand, DestagesPart, DiscardsSectors, Maintains, Operates};
+ghost use Rattle.ar_history.specs.Served.{after_refusal};
 ghost use Rattle.ar_history.specs.Operations.{event_of};
 
 use crate::kept::seats;
 use crate::{Counts, LiveArray, Operation, Seat, Task};
-use ar_core::{Array, Outcome, UnitFlush};
+use ar_core::{Array, Outcome, PartFlush};
 use ar_disks::{Addr, Disk, Host};
 use ar_scsi::Reply;
 use bytes::Bytes;
@@ -112,6 +113,14 @@ impl<D: Disk, L: Ledger> CountedArray<D, L> {
         self.live.events()
     }
 
+    /// Counts a reply BUSY to a command of `host` that isn't executed, as any other BUSY, and as an event. It allocates
+    /// nothing.
+    pub fn count_refusal(&mut self, host: Host, cdb: &[u8; 16])
+        ensures { self.new ≡ after_refusal self.old host.number cdb.now }
+    {
+        self.live.count_command(host, *cdb, 0, &Reply::busy());
+    }
+
     /// Lends the array memory for the data of a READ (`Array::lend_memory`).
     pub fn lend_memory(&mut self, memory: Vec<u8>)
         ensures { self.new ≡ self.old }
@@ -147,11 +156,11 @@ impl<D: Disk + Drop, L: Ledger> CountedArray<D, L> {
         self.live.background(task)
     }
 
-    /// Destages all cached blocks of a unit as `LiveArray::flush_unit` does.
-    pub fn flush_unit(&mut self, addr: Addr) -> UnitFlush
-        ensures { DestagesUnit self.old addr result self.new }
+    /// Destages a part of the cached blocks of a unit as `LiveArray::flush_part` does.
+    pub fn flush_part(&mut self, addr: Addr, first: u32) -> PartFlush
+        ensures { DestagesPart self.old addr first result self.new }
     {
-        self.live.flush_unit(addr)
+        self.live.flush_part(addr, first)
     }
 
     /// Discards `count` sectors of a host's LUN from `lba` on as `LiveArray::discard` does.

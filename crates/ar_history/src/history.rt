@@ -21,7 +21,7 @@ impl Model for GhostHistory {
     ghost also_owns = { λ _. ftrue };
 }
 
-// It owns nothing.
+// SAFETY: it owns nothing.
 unsafe impl Send for GhostHistory {}
 
 /// A host's command. Contracts alone see its payload, which the array has consumed by the time there is a reply.

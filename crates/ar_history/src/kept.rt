@@ -5,10 +5,12 @@ ghost use Rattle.ar_history.specs.Counts.{no_counts};
 ghost use Rattle.ar_history.specs.History.{is_command};
 ghost use Rattle.ar_history.specs.Kept.{HistoryAgrees};
 ghost use Rattle.ar_history.specs.Seat.{SeatState};
+ghost use Rattle.ar_history.specs.Served.{after_refusal};
 
 use crate::{Counts, Entry, LiveArray, Seat};
 use ar_core::Array;
 use ar_disks::{Disk, Host};
+use ar_scsi::Reply;
 use std::alloc::Global;
 use std::marker::Model;
 use std::sync::ledger::{Blank, Book, Ledger, Share};
@@ -112,6 +114,14 @@ impl<D: Disk, L: Ledger> Kept<D, L> {
         self.live.counts()
     }
 
+    /// Counts a reply BUSY to a command of `host` that isn't executed, as any other BUSY, and as an event. It allocates
+    /// nothing.
+    pub fn count_refusal(&mut self, host: Host, cdb: &[u8; 16])
+        ensures { self.new ≡ after_refusal self.old host.number cdb.now }
+    {
+        self.live.count_command(host, *cdb, 0, &Reply::busy());
+    }
+
     /// Lends the array memory for the data of a READ (`Array::lend_memory`).
     pub fn lend_memory(&mut self, memory: Vec<u8>)
         ensures { self.new ≡ self.old }
@@ -119,7 +129,7 @@ impl<D: Disk, L: Ledger> Kept<D, L> {
         self.live.lend_memory(memory);
     }
 
-    /// Returns a number that is raised by each command, each operation, each flush of a unit, and each step of
+    /// Returns a number that is raised by each command, each operation, each part of a flush, and each step of
     /// background work that did something. While it stays, nothing has changed the array.
     pub fn events(&self) -> u64
         ensures { result ≡ self.now.events }

@@ -82,7 +82,7 @@ impl<D: Disk> LiveArray<D> {
         self.array.lend_memory(memory);
     }
 
-    /// Returns a number that is raised by each command, each operation, each flush of a unit, and each step of
+    /// Returns a number that is raised by each command, each operation, each part of a flush, and each step of
     /// background work that did something. While it stays, nothing has changed the array.
     pub fn events(&self) -> u64
         ensures { result ≡ self.now.events }

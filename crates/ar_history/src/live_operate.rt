@@ -1,7 +1,8 @@
 // Operations and background work on a live array. Each is one step of the array; each create, resize or delete that is
 // done is recorded.
 ghost use Rattle.std.specs.Prelude.{◌≡◌, ◌++◌, ◌∷◌, [], true, false, if◌then◌else◌, Some};
-ghost use Rattle.ar_volume.specs.Image.{is_broken, image, image_at, image_on_disks};
+ghost use Rattle.ar_volume.specs.Flush.{PartOnDisks, has_flushed};
+ghost use Rattle.ar_volume.specs.Image.{is_broken, image};
 ghost use Rattle.ar_volume.specs.Sectors.{Address};
 ghost use Rattle.ar_core.specs.Step.{Steps, is_quiet};
 ghost use Rattle.ar_history.specs.Counts.{CountsNothing, CountsOperation, CountsTask};
@@ -9,7 +10,7 @@ ghost use Rattle.ar_history.specs.Kept.{StaysKept, history_entry};
 ghost use Rattle.ar_history.specs.Operations.{event_of, event_of_task, entry_asked, is_done};
 
 use crate::{Entry, LiveArray, Operation, OperationOf, Task, is_idle};
-use ar_core::{Event, EventOf, Outcome, OutcomeOf, UnitFlush};
+use ar_core::{Event, EventOf, Outcome, OutcomeOf, PartFlush};
 use ar_disks::{Addr, Disk};
 
 impl<D: Disk + Drop> LiveArray<D> {
@@ -43,13 +44,13 @@ impl<D: Disk + Drop> LiveArray<D> {
         outcome
     }
 
-    /// Destages all cached blocks of the unit at `addr`; after `Done` the disks have all of its contents. Returns
-    /// `Broken` if the array has failed, before or during this call, and else `Absent` if there is no such unit. The
-    /// history doesn't change, nor until data loss does any unit.
-    pub fn flush_unit(&mut self, addr: Addr) -> UnitFlush
-        ensures steps { Steps self.old.array (EventOf.FlushUnit addr) (OutcomeOf.FlushUnit result) self.new.array }
-        ensures on_disks { result ≡ UnitFlush.Done → image_at self.new.array addr
-            ≡ image_on_disks self.new.array.store addr }
+    /// Destages those of 64 blocks of the unit at `addr` that are cached, from block `first` on; after `Done` or `More`
+    /// the disks have their contents. Returns `Broken` if the array has failed, before or during this call, and else
+    /// `Absent` if there is no such unit. The history doesn't change, nor until data loss does any unit.
+    pub fn flush_part(&mut self, addr: Addr, first: u32) -> PartFlush
+        ensures steps { Steps self.old.array (EventOf.FlushPart addr first) (OutcomeOf.FlushPart result)
+            self.new.array }
+        ensures on_disks { has_flushed result ≡ true → PartOnDisks self.new.array addr first }
         ensures history { self.new.history ≡ self.old.history }
         ensures room { self.new.room ≡ self.old.room }
         ensures images { is_broken self.new.array ≡ false → (a : Address)
@@ -57,7 +58,7 @@ impl<D: Disk + Drop> LiveArray<D> {
         ensures kept { StaysKept self.old self.new }
         ensures counts { CountsOperation self.old self.new }
     {
-        let answer = self.destage(addr);
+        let answer = self.destage(addr, first);
         self.count_event();
         answer
     }
@@ -98,9 +99,10 @@ impl<D: Disk + Drop> LiveArray<D> {
         self.array.step(self.alloc, event)
     }
 
-    // Destages a unit's cached blocks, and counts nothing.
-    fn destage(&mut self, addr: Addr) -> UnitFlush
-        ensures steps { Steps self.old.array (EventOf.FlushUnit addr) (OutcomeOf.FlushUnit result) self.new.array }
+    // Destages a part of a unit's cached blocks, and counts nothing.
+    fn destage(&mut self, addr: Addr, first: u32) -> PartFlush
+        ensures steps { Steps self.old.array (EventOf.FlushPart addr first) (OutcomeOf.FlushPart result)
+            self.new.array }
         ensures history { self.new.history ≡ self.old.history }
         ensures room { self.new.room ≡ self.old.room }
         ensures images { is_broken self.new.array ≡ false → (a : Address)
@@ -108,7 +110,7 @@ impl<D: Disk + Drop> LiveArray<D> {
         ensures kept { StaysKept self.old self.new }
         ensures uncounted { CountsNothing self.old self.new }
     {
-        self.array.flush_unit(addr)
+        self.array.flush_part(addr, first)
     }
 
     // Executes an event, and records `entry` if it was done.

@@ -2,7 +2,8 @@
 // or delete that is done is recorded.
 ghost use Rattle.std.specs.Prelude.{◌≡◌, ◌≢◌, ◌⊎◌, ◌<◌, ◌++◌, true, false, Some, None, IsTrue, IsOk, OnOk, length};
 ghost use Rattle.std.specs.Prelude.{vec_len, vec_capacity};
-ghost use Rattle.ar_volume.specs.Image.{is_broken, image, image_at, image_on_disks};
+ghost use Rattle.ar_volume.specs.Flush.{PartOnDisks, has_flushed};
+ghost use Rattle.ar_volume.specs.Image.{is_broken, image};
 ghost use Rattle.ar_volume.specs.Sectors.{Address};
 ghost use Rattle.ar_core.specs.Step.{Steps, is_quiet};
 ghost use Rattle.ar_history.specs.Counts.{CountsNothing, CountsOperation, CountsTask};
@@ -12,7 +13,7 @@ ghost use Rattle.ar_history.specs.Operations.{entry_asked};
 
 use crate::live_operate::is_done;
 use crate::{Entry, Kept, Operation, OperationOf, Task};
-use ar_core::{Event, EventOf, Outcome, OutcomeOf, Refusal, UnitFlush, UnitRefusal};
+use ar_core::{Event, EventOf, Outcome, OutcomeOf, PartFlush, Refusal, UnitRefusal};
 use ar_disks::{Addr, Disk};
 use std::alloc::AllocError;
 use std::sync::ledger::Ledger;
@@ -63,13 +64,13 @@ impl<D: Disk + Drop, L: Ledger> Kept<D, L> {
         self.live.background(task)
     }
 
-    /// Destages all cached blocks of the unit at `addr`; after `Done` the disks have all of its contents. Returns
-    /// `Broken` if the array has failed, before or during this call, and else `Absent` if there is no such unit. The
-    /// history doesn't change, nor until data loss does any unit.
-    pub fn flush_unit(&mut self, addr: Addr) -> UnitFlush
-        ensures steps { Steps self.old.array (EventOf.FlushUnit addr) (OutcomeOf.FlushUnit result) self.new.array }
-        ensures on_disks { result ≡ UnitFlush.Done → image_at self.new.array addr
-            ≡ image_on_disks self.new.array.store addr }
+    /// Destages those of 64 blocks of the unit at `addr` that are cached, from block `first` on; after `Done` or `More`
+    /// the disks have their contents. Returns `Broken` if the array has failed, before or during this call, and else
+    /// `Absent` if there is no such unit. The history doesn't change, nor until data loss does any unit.
+    pub fn flush_part(&mut self, addr: Addr, first: u32) -> PartFlush
+        ensures steps { Steps self.old.array (EventOf.FlushPart addr first) (OutcomeOf.FlushPart result)
+            self.new.array }
+        ensures on_disks { has_flushed result ≡ true → PartOnDisks self.new.array addr first }
         ensures history { self.new.history ≡ self.old.history }
         ensures room { self.new.room ≡ self.old.room }
         ensures images { is_broken self.new.array ≡ false → (a : Address)
@@ -77,7 +78,7 @@ impl<D: Disk + Drop, L: Ledger> Kept<D, L> {
         ensures kept { StaysKept self.old self.new }
         ensures counts { CountsOperation self.old self.new }
     {
-        self.live.flush_unit(addr)
+        self.live.flush_part(addr, first)
     }
 
     // Executes an operation, and counts nothing.

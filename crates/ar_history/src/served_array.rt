@@ -7,11 +7,11 @@ ghost use Rattle.ar_core.specs.Step.{addr_in};
 ghost use Rattle.ar_extents.specs.Set.{CanCount};
 ghost use Rattle.ar_history.specs.History.{is_command};
 ghost use Rattle.ar_history.specs.Kept.{KeptState, HistoryAgrees};
-ghost use Rattle.ar_history.specs.Served.{AnswersCommand, DestagesUnit, DiscardsSectors, Maintains, Operates, Works};
-ghost use Rattle.ar_history.specs.Served.{acknowledges, asks_commit};
+ghost use Rattle.ar_history.specs.Served.{AnswersCommand, DestagesPart, DiscardsSectors, Maintains, Operates, Works};
+ghost use Rattle.ar_history.specs.Served.{acknowledges, after_refusal, asks_commit};
 
 use crate::{CountedArray, Counts, Kept, OperationOf, Seat, StoreStatus, Task, is_idle};
-use ar_core::{Allocation, Array, EventOf, NewDisk, Outcome, UnitFlush};
+use ar_core::{Allocation, Array, EventOf, NewDisk, Outcome, PartFlush};
 use ar_disks::{Addr, Disk, Host};
 use ar_scsi::Reply;
 use bytes::Bytes;
@@ -74,6 +74,11 @@ pub trait ServedArray<L: Ledger> {
         ensures { AnswersCommand stores (state self.old) seat.old lun cdb.now payload result (state self.new)
             seat.new };
 
+    /// Counts a reply BUSY to a command of `host` that isn't executed, as any other BUSY, and as an event. It allocates
+    /// nothing.
+    fn count_refusal(&mut self, host: Host, cdb: &[u8; 16])
+        ensures { state self.new ≡ after_refusal (state self.old) host.number cdb.now };
+
     /// Compares a seat with the history, which has at least the commands that the seat counts. It costs nothing.
     fn audit_seat(&mut self, seat: &mut Seat<L>)
         ensures same { state self.new ≡ state self.old }
@@ -104,9 +109,9 @@ pub trait ServedArray<L: Ledger> {
     fn work(&mut self, task: Task) -> bool
         ensures { Works task (state self.old) result (state self.new) };
 
-    /// Destages all cached blocks of a unit.
-    fn flush_unit(&mut self, addr: Addr) -> UnitFlush
-        ensures { DestagesUnit (state self.old) addr result (state self.new) };
+    /// Destages those of 64 blocks of a unit that are cached, from block `first` on.
+    fn flush_part(&mut self, addr: Addr, first: u32) -> PartFlush
+        ensures { DestagesPart (state self.old) addr first result (state self.new) };
 
     /// Discards `count` sectors of a host's LUN from `lba` on.
     fn discard(&mut self, host: Host, lun: u8, lba: u64, count: u32) -> Reply
@@ -207,6 +212,10 @@ impl<D: Disk + Drop, L: Ledger> ServedArray<L> for Kept<D, L> {
         served.reply
     }
 
+    fn count_refusal(&mut self, host: Host, cdb: &[u8; 16]) {
+        Kept::count_refusal(self, host, cdb);
+    }
+
     fn audit_seat(&mut self, seat: &mut Seat<L>) {
         Kept::audit_seat(self, seat);
     }
@@ -232,8 +241,8 @@ impl<D: Disk + Drop, L: Ledger> ServedArray<L> for Kept<D, L> {
         !is_idle(&outcome)
     }
 
-    fn flush_unit(&mut self, addr: Addr) -> UnitFlush {
-        Kept::flush_unit(self, addr)
+    fn flush_part(&mut self, addr: Addr, first: u32) -> PartFlush {
+        Kept::flush_part(self, addr, first)
     }
 
     fn discard(&mut self, host: Host, lun: u8, lba: u64, count: u32) -> Reply {
@@ -328,6 +337,10 @@ impl<D: Disk + Drop, L: Ledger> ServedArray<L> for CountedArray<D, L> {
         self.host(seat, lun, *cdb, payload)
     }
 
+    fn count_refusal(&mut self, host: Host, cdb: &[u8; 16]) {
+        CountedArray::count_refusal(self, host, cdb);
+    }
+
     fn audit_seat(&mut self, seat: &mut Seat<L>) {
         CountedArray::audit_seat(self, seat);
     }
@@ -353,8 +366,8 @@ impl<D: Disk + Drop, L: Ledger> ServedArray<L> for CountedArray<D, L> {
         !is_idle(&outcome)
     }
 
-    fn flush_unit(&mut self, addr: Addr) -> UnitFlush {
-        CountedArray::flush_unit(self, addr)
+    fn flush_part(&mut self, addr: Addr, first: u32) -> PartFlush {
+        CountedArray::flush_part(self, addr, first)
     }
 
     fn discard(&mut self, host: Host, lun: u8, lba: u64, count: u32) -> Reply {

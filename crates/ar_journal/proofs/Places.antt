@@ -5,10 +5,10 @@ use Rattle.ar_log.specs.Codec.{Batch, encoded, sealed}
 use Rattle.ar_log.specs.Log.{magic, AreBatchesFrom, HoldsBatches, batches_len, batches_of}
 use Rattle.ar_log.specs.Reading.{batches_before, IsAt, ReadsOn}
 use Rattle.ar_log.specs.declared.place.Place.{Place}
-use Rattle.ar_log.proofs.Standing.{begins_front, begins_rest, behind_magic, batches_of_stands}
+use Rattle.ar_log.proofs.Standing.{begins_front, begins_rest, after_magic, batches_of_stands}
 use Rattle.ar_log.proofs.Appending.{long_enough}
 use Rattle.ar_log.proofs.Ahead.{prefix_of}
-use Rattle.ar_journal.specs.Journal.{IsBehind, ReadsNext}
+use Rattle.ar_journal.specs.Journal.{IsAfter, ReadsNext}
 
 prefix_len : (k : ℕ) (batches : List Batch) → batches_len (take k batches) ≤ batches_len batches
 prefix_len zero batches = omega arith
@@ -44,11 +44,11 @@ holds_first k batches file holds =
     let t = batches_len (take k batches) in
     let front : take 8 file ≡ magic = ap (λ (l : List ℕ). take 8 l) holds.1 ∙ take_at magic holds.0 8 refl in (
       take t holds.0 ++ 0 ∷ 0 ∷ [],
-      first_part 8 t file magic holds.0 front (behind_magic file holds.0 holds.1),
+      first_part 8 t file magic holds.0 front (after_magic file holds.0 holds.1),
       are_first 0 k batches holds.0 holds.2,
     )
 
-module _ (file : List ℕ) (holds : HoldsBatches (batches_of file) file) (place : Place) (behind : IsBehind (batches_of file) place) where
+module _ (file : List ℕ) (holds : HoldsBatches (batches_of file) file) (place : Place) (behind : IsAfter (batches_of file) place) where
   first_batches : HoldsBatches (take place.number (batches_of file)) (take place.at file ++ 0 ∷ 0 ∷ [])
   first_batches =
       let P : ℕ → Type 0 = λ n. HoldsBatches (take place.number (batches_of file)) (take n file ++ 0 ∷ 0 ∷ []) in

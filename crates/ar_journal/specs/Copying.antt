@@ -4,7 +4,7 @@ use Rattle.std.specs.Prelude.{List, [], ◌∷◌, length, take, drop, IsTrue}
 use Rattle.std.specs.Int.{w64, from_be_bytes}
 use Rattle.ar_log.specs.Codec.{Batch}
 use Rattle.ar_log.specs.declared.place.Place.{Place}
-use Rattle.ar_journal.specs.Journal.{IsReady, IsClean, IsBehind, batches_now, journal_batches}
+use Rattle.ar_journal.specs.Journal.{IsReady, IsClean, IsAfter, batches_now, journal_batches}
 use Rattle.ar_journal.specs.Mirror.{IsMirrored, IsSound, HasBatches, GoesOn}
 use Rattle.ar_journal.specs.declared.files.JournalFiles.{JournalFiles}
 use Rattle.ar_journal.specs.declared.journal.Journal.{Journal}
@@ -13,7 +13,7 @@ use Rattle.ar_journal.specs.declared.mirrored.MirroredJournal.{MirroredJournal}
 -- after this place of one journal are the batches that the other lacks
 pub record IsPrefix {M : Type 0} (seen : M → List ℕ) (is_clean : M → Bool) (from to from_new to_new : Journal M)
     (place : Place) : Type 0 where
-  pub behind : IsTrue (is_clean from_new.active.media) → IsBehind (batches_now seen from) place
+  pub behind : IsTrue (is_clean from_new.active.media) → IsAfter (batches_now seen from) place
   pub same : IsTrue (is_clean from_new.active.media) → IsTrue (is_clean to_new.active.media)
       → take place.number (batches_now seen from) ≡ batches_now seen to
 
@@ -43,7 +43,7 @@ is_ahead one other = is_ahead_by (generation one) (length one) (generation other
 
 -- the first batch is this head, and the place is after it
 pub record HeadIs (batches : List Batch) (head : List ℕ) (place : Place) : Type 0 where
-  pub behind : IsBehind batches place
+  pub behind : IsAfter batches place
   pub first : take place.number batches ≡ (head ∷ []) ∷ []
 
 -- a copy is ready, and has the batches of the other unless it is given up

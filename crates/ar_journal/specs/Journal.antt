@@ -72,13 +72,13 @@ pub record KeepsOthers {M : Type 0} (old new : Journal M) : Type 0 where
   pub is_second : new.is_second ≡ old.is_second
 
 -- after the first of these batches, as many as its number says
-pub record IsBehind (batches : List Batch) (place : Place) : Type 0 where
+pub record IsAfter (batches : List Batch) (place : Place) : Type 0 where
   pub within : place.number ≤ length batches
   pub at : place.at ≡ 8 + batches_len (take place.number batches)
 
 -- the next of these batches was read
 pub record ReadsNext (batches : List Batch) (batch : Batch) (old new : Place) : Type 0 where
-  pub place : IsBehind batches new
+  pub place : IsAfter batches new
   pub number : new.number ≡ old.number + 1
   pub taken : take new.number batches ≡ take old.number batches ++ batch ∷ []
 

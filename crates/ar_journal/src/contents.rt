@@ -3,7 +3,7 @@ ghost use Rattle.std.specs.Prelude.{◌≡◌, ◌+◌, ◌<◌, ◌^◌, length
 ghost use Rattle.ar_log.specs.Codec.{items_of};
 ghost use Rattle.ar_log.specs.Failure.{is_damage, ReportsMedium};
 ghost use Rattle.ar_log.specs.Log.{HoldsBatches};
-ghost use Rattle.ar_journal.specs.Journal.{IsReady, IsClean, batches_now, LeavesJournal, ReadsLog, IsBehind, ReadsNext};
+ghost use Rattle.ar_journal.specs.Journal.{IsReady, IsClean, batches_now, LeavesJournal, ReadsLog, IsAfter, ReadsNext};
 
 use crate::{Journal, JournalFiles};
 use ar_log::{LogError, Place, ReadBatch, next_batch};
@@ -95,7 +95,7 @@ impl<M: Media> Journal<M> {
         place: Place,
     ) -> Result<Option<ReadBatch>, LogError>
         requires ready { IsReady M.seen M.may_leave M.is_clean self.old }
-        requires place { IsTrue (M.is_clean self.old.active.media) → IsBehind (batches_now M.seen self.old) place }
+        requires place { IsTrue (M.is_clean self.old.active.media) → IsAfter (batches_now M.seen self.old) place }
 
         ensures batch { IfOk result (λ r. IfSome r (λ read. IsTrue (M.is_clean self.new.active.media)
             → ReadsNext (batches_now M.seen self.old) (items_of read.records.items) place read.next)) }

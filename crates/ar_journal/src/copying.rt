@@ -1,7 +1,7 @@
 //! One copy of a journal brought up to another.
 ghost use Rattle.std.specs.Prelude.{◌≡◌, OnOk, IfOk, IfSome, IsTrue, true};
 ghost use Rattle.ar_log.specs.Codec.{items_of};
-ghost use Rattle.ar_journal.specs.Journal.{IsReady, IsBehind, ReadsLog, batches_now};
+ghost use Rattle.ar_journal.specs.Journal.{IsReady, IsAfter, ReadsLog, batches_now};
 ghost use Rattle.ar_journal.specs.Copying.{IsPrefix, IsCopied};
 
 use crate::{Journal, first_place};
@@ -25,7 +25,7 @@ fn is_same(one: &[Vec<u8>], other: &[Vec<u8>]) -> bool
 }
 
 /// The place in a journal after all batches of another, or `None` where those are not its first ones.
-pub fn place_behind<M: Media>(
+pub fn place_after<M: Media>(
     alloc: Global,
     from: &mut Journal<M>,
     to: &mut Journal<M>,
@@ -70,7 +70,7 @@ pub fn copy_rest<M: Media>(
 ) -> Result<(), LogError>
     requires from { IsReady M.seen M.may_leave M.is_clean from.old }
     requires to { IsReady M.seen M.may_leave M.is_clean to.old }
-    requires place { IsTrue (M.is_clean from.old.active.media) → IsBehind (batches_now M.seen from.old) place }
+    requires place { IsTrue (M.is_clean from.old.active.media) → IsAfter (batches_now M.seen from.old) place }
 
     ensures copied { OnOk result (IsCopied M.seen M.is_clean from.old to.old from.new to.new place) }
     ensures from_reads { ReadsLog M.seen M.may_leave M.moment M.left_since M.is_clean from.old from.new }

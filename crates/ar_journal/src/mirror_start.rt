@@ -5,9 +5,9 @@ ghost use Rattle.ar_log.specs.Codec.{items_of};
 ghost use Rattle.ar_journal.specs.Copying.{generation_in, is_ahead, is_ahead_by, HeadIs, Mirrors, Starts};
 ghost use Rattle.ar_journal.specs.Copying.{StartsFrom, files_batches};
 ghost use Rattle.ar_journal.specs.Files.{AreDurable};
-ghost use Rattle.ar_journal.specs.Journal.{IsReady, IsClean, IsBehind, ReadsLog, batches_now};
+ghost use Rattle.ar_journal.specs.Journal.{IsReady, IsClean, IsAfter, ReadsLog, batches_now};
 
-use crate::copying::{copy_rest, place_behind};
+use crate::copying::{copy_rest, place_after};
 use crate::{Journal, JournalFiles, MirroredJournal, create, first_place, open};
 use ar_log::{Log, LogError, Place};
 use ar_media::Media;
@@ -108,7 +108,7 @@ fn fill<M: Media>(
 ) -> (Journal<M>, CopyState)
     requires from { IsReady M.seen M.may_leave M.is_clean from.old }
     requires to { IsReady M.seen M.may_leave M.is_clean to }
-    requires place { IsTrue (M.is_clean from.old.active.media) → IsBehind (batches_now M.seen from.old) place }
+    requires place { IsTrue (M.is_clean from.old.active.media) → IsAfter (batches_now M.seen from.old) place }
     requires prefix { IsTrue (M.is_clean from.old.active.media) → IsTrue (M.is_clean to.active.media)
         → take place.number (batches_now M.seen from.old) ≡ batches_now M.seen to }
 
@@ -162,7 +162,7 @@ fn bring_up<M: Media>(
     ensures ready { IsReady M.seen M.may_leave M.is_clean from.new }
 {
     let mut to = to;
-    match place_behind(alloc, from, &mut to) {
+    match place_after(alloc, from, &mut to) {
         Err(error) => {
             to.close();
             (to, CopyState::GivenUp(error))

@@ -5,10 +5,10 @@ use Rattle.std.proofs.lemmas.Bool.Decides.{nat_tests}
 use Rattle.std.proofs.lemmas.List.{append-nil, length-take-le, take_at, take-take, take-append-le, drop-append-le, drop-drop, drop-take}
 use Rattle.ar_log.specs.Codec.{Batch, number_bytes, number_of, batch_digest, encoded, sealed}
 use Rattle.ar_log.specs.Log.{IsOpen, BeginsWith, AreBatchesFrom, HoldsBatches, batches_len, begins_open, batches_of}
-use Rattle.ar_log.specs.Reading.{OnlyReads, HasHead, IsClosedGate, IsDamage, GoesBehind, batches_before, IsAt, ReadsOn}
+use Rattle.ar_log.specs.Reading.{OnlyReads, HasHead, IsClosedGate, IsDamage, GoesAfter, batches_before, IsAt, ReadsOn}
 use Rattle.ar_log.specs.declared.place.Place.{Place}
 use Rattle.ar_log.proofs.Encoding.{number_back}
-use Rattle.ar_log.proofs.Standing.{begins_rest, begins_front, begins_size, begins_number, begins_digest, begins_payload, graft_file, batches_of_stands, behind_magic}
+use Rattle.ar_log.proofs.Standing.{begins_rest, begins_front, begins_size, begins_number, begins_digest, begins_payload, graft_file, batches_of_stands, after_magic}
 use Rattle.ar_log.proofs.Appending.{batches_len-push}
 
 -- one read after another
@@ -106,7 +106,7 @@ assembled number batch (a ∷ b ∷ bytes) payload len digest head size fits is 
 
 -- the front of a file, up to a place that was reached
 module _ (file : List ℕ) (place : Place) (at_place : IsAt file place) where
-  pub reads_on : (batch : Batch) (next : Place) → BeginsWith place.number batch (drop place.at file) (drop next.at file) → GoesBehind batch place next → ReadsOn file batch place next
+  pub reads_on : (batch : Batch) (next : Place) → BeginsWith place.number batch (drop place.at file) (drop next.at file) → GoesAfter batch place next → ReadsOn file batch place next
   reads_on batch next begins goes =
       let batches = batches_before place.at file in
       let k = 18 + length (encoded batch) in
@@ -209,15 +209,15 @@ nothing_stands file place at_place damage others other =
     let R : ℕ → Type 0 = λ n. take n file ≡ take n x in
     let same : take (8 + t) file ≡ take (8 + t) x = subst R at_place.at same_at in
     let rests : take t other.0 ≡ take t at_place.stands.0 =
-    ap (λ (l : List ℕ). take t l) (sym (behind_magic file other.0 other.1))
+    ap (λ (l : List ℕ). take t l) (sym (after_magic file other.0 other.1))
     ∙ sym (drop-take 8 t file)
     ∙ ap (λ (l : List ℕ). drop 8 l) same
     ∙ drop-take 8 t x
-    ∙ ap (λ (l : List ℕ). take t l) (behind_magic x at_place.stands.0 at_place.stands.1) in
+    ∙ ap (λ (l : List ℕ). take t l) (after_magic x at_place.stands.0 at_place.stands.1) in
     let found = ahead 0 batches others at_place.stands.0 other.0 at_place.stands.2 other.2 rests in
     let counts : 0 + length batches ≡ place.number = omega (arith, at_place.number) in
     let place_is : drop t other.0 ≡ drop place.at file =
-    ap (λ (l : List ℕ). drop t l) (sym (behind_magic file other.0 other.1)) ∙ drop-drop t 8 file ∙ ap (λ (n : ℕ). drop n file) (sym at_place.at) in
+    ap (λ (l : List ℕ). drop t l) (sym (after_magic file other.0 other.1)) ∙ drop-drop t 8 file ∙ ap (λ (n : ℕ). drop n file) (sym at_place.at) in
     let P : ℕ → Type 0 = λ n. AreBatchesFrom n found.0 (drop t other.0) in
     let Q : List ℕ → Type 0 = λ l. AreBatchesFrom place.number found.0 l in
     damage found.0 (subst Q place_is (subst P counts found.1))
@@ -234,14 +234,14 @@ prefix_of file place at_place others other =
     let R : ℕ → Type 0 = λ n. take n file ≡ take n x in
     let same : take (8 + t) file ≡ take (8 + t) x = subst R at_place.at same_at in
     let rests : take t other.0 ≡ take t at_place.stands.0 =
-    ap (λ (l : List ℕ). take t l) (sym (behind_magic file other.0 other.1))
+    ap (λ (l : List ℕ). take t l) (sym (after_magic file other.0 other.1))
     ∙ sym (drop-take 8 t file)
     ∙ ap (λ (l : List ℕ). drop 8 l) same
     ∙ drop-take 8 t x
-    ∙ ap (λ (l : List ℕ). take t l) (behind_magic x at_place.stands.0 at_place.stands.1) in
+    ∙ ap (λ (l : List ℕ). take t l) (after_magic x at_place.stands.0 at_place.stands.1) in
     let found = ahead 0 batches others at_place.stands.0 other.0 at_place.stands.2 other.2 rests in
     let behind : drop t other.0 ≡ drop (8 + t) file =
-    ap (λ (l : List ℕ). drop t l) (sym (behind_magic file other.0 other.1)) ∙ drop-drop t 8 file in
+    ap (λ (l : List ℕ). drop t l) (sym (after_magic file other.0 other.1)) ∙ drop-drop t 8 file in
     let counts : 0 + length batches ≡ length batches = omega arith in
     let P : ℕ → Type 0 = λ n. AreBatchesFrom n found.0 (drop t other.0) in
     let Q : List ℕ → Type 0 = λ l. AreBatchesFrom (length batches) found.0 l in

@@ -53,8 +53,8 @@ module _ (batches : List Batch) (end : ℕ) (ends : end ≡ 8 + batches_len batc
       closes x y (drop 2 (drop end y)) stands front (sym (take-append-drop 2 (drop end y)) ∙ ap (λ (l : List ℕ). l ++ drop 2 (drop end y)) two)
 
   -- whatever is left of what is written after the closed gate
-  pub torn_behind : (n : ℕ) (x y : List ℕ) → HoldsBatches batches x → Torn (end + 2) n x y → HoldsBatches batches y
-  torn_behind n x y stands torn =
+  pub torn_after : (n : ℕ) (x y : List ℕ) → HoldsBatches batches x → Torn (end + 2) n x y → HoldsBatches batches y
+  torn_after n x y stands torn =
       let least : min (end + 2) (length x) ≡ end + 2 = omega (arith, long_enough x stands) in
       same_front x y stands (ap (λ (k : ℕ). take k y) (sym least) ∙ torn.before)
 
@@ -117,7 +117,7 @@ module _ (batches : List Batch) (end : ℕ) (ends : end ≡ 8 + batches_len batc
 
   -- the outcomes of both steps
   pub left_behind : (n : ℕ) (old : List ℕ → Type 0) → ((d : List ℕ) → old d → HoldsBatches batches d) → (c : List ℕ) → TornOf (end + 2) n old c → HoldsBatches batches c
-  left_behind n old all c torn = torn_behind n torn.0 c (all torn.0 torn.1) torn.2
+  left_behind n old all c torn = torn_after n torn.0 c (all torn.0 torn.1) torn.2
 
   pub left_gate : (batch : Batch) (x : List ℕ) (old : List ℕ → Type 0) → Only x old → Staged batch x → length (encoded batch) < 2 ^ 64 → (c : List ℕ) → TornOf end 2 old c → IsBeforeOrAfter batches batch c
   left_gate batch x old only at_gate fits c torn =

@@ -3,16 +3,16 @@ use Rattle.std.proofs.Common.{◌≡◌, ◌⊎◌, inl, inr, ℕ, ◌+◌, ◌<
 use Rattle.std.proofs.lemmas.List.{append-nil, take_at, drop_at}
 use Rattle.ar_media.specs.Media.{Torn, Overwritten, Only}
 use Rattle.ar_log.specs.Codec.{Batch, framed, encoded, sealed}
-use Rattle.ar_log.specs.Log.{magic, IsOpen, AreBatchesFrom, HoldsBatches, HoldsBehind, IsBegun}
+use Rattle.ar_log.specs.Log.{magic, IsOpen, AreBatchesFrom, HoldsBatches, HoldsAfter, IsBegun}
 use Rattle.ar_log.specs.Write.{TornOf}
-use Rattle.ar_log.proofs.Standing.{behind_magic, batches_are}
+use Rattle.ar_log.proofs.Standing.{after_magic, batches_are}
 
 abbrev pub no_magic : List ℕ
 no_magic = 0 ∷ 0 ∷ 0 ∷ 0 ∷ 0 ∷ 0 ∷ 0 ∷ 0 ∷ []
 
 -- of a log, its batches are after the first eight bytes
-pub behind_first : (batches : List Batch) (file : List ℕ) → HoldsBatches batches file → HoldsBehind batches file
-behind_first batches file holds = subst (AreBatchesFrom 0 batches) (sym (behind_magic file holds.0 holds.1)) holds.2
+pub behind_first : (batches : List Batch) (file : List ℕ) → HoldsBatches batches file → HoldsAfter batches file
+behind_first batches file holds = subst (AreBatchesFrom 0 batches) (sym (after_magic file holds.0 holds.1)) holds.2
 
 -- the same bytes hold no other batches
 pub same_batches : (batches others : List Batch) (bytes : List ℕ) → AreBatchesFrom 0 batches bytes → AreBatchesFrom 0 others bytes → others ≡ batches
@@ -45,7 +45,7 @@ module _ (head : List ℕ) (old : List ℕ → Type 0) where
 pub headed : (head first mid new bytes : List ℕ)
     → bytes ≡ 255 ∷ 255 ∷ (sealed 0 (framed head) ++ 0 ∷ 0 ∷ [])
     → length (framed head) < 2 ^ 64
-    → Overwritten first 0 no_magic mid → (8 ≤ length mid → Overwritten mid 8 bytes new) → HoldsBehind ((head ∷ []) ∷ []) new
+    → Overwritten first 0 no_magic mid → (8 ≤ length mid → Overwritten mid 8 bytes new) → HoldsAfter ((head ∷ []) ∷ []) new
 headed head first mid new bytes is fits zeros second =
     let long : 8 ≤ length mid = omega (arith, ap length zeros, length-append no_magic (drop (0 + length no_magic) first)) in
     let front : take 8 mid ≡ no_magic = ap (λ (l : List ℕ). take 8 l) zeros ∙ take_at no_magic (drop (0 + length no_magic) first) 8 refl in
@@ -69,7 +69,7 @@ headed head first mid new bytes is fits zeros second =
     )
 
 -- the magic is torn
-pub begun_head : (head : List ℕ) (old : List ℕ → Type 0) (mid : List ℕ) (left : List ℕ → Type 0) → HoldsBehind ((head ∷ []) ∷ []) mid → Only mid left
+pub begun_head : (head : List ℕ) (old : List ℕ → Type 0) (mid : List ℕ) (left : List ℕ → Type 0) → HoldsAfter ((head ∷ []) ∷ []) mid → Only mid left
     → (c : List ℕ) → TornOf 0 8 left c → IsBegun head old c
 begun_head head old mid left behind only c torn batches holds =
     let P : List ℕ → Type 0 = λ d. Torn 0 8 d c in
@@ -77,5 +77,5 @@ begun_head head old mid left behind only c torn batches holds =
     inl (same_batches ((head ∷ []) ∷ []) batches (drop 8 mid) behind (subst (AreBatchesFrom 0 batches) tears.after (behind_first batches c holds)))
 
 -- with its magic it is a log
-pub created : (head mid new : List ℕ) → HoldsBehind ((head ∷ []) ∷ []) mid → Overwritten mid 0 magic new → HoldsBatches ((head ∷ []) ∷ []) new
+pub created : (head mid new : List ℕ) → HoldsAfter ((head ∷ []) ∷ []) mid → Overwritten mid 0 magic new → HoldsBatches ((head ∷ []) ∷ []) new
 created head mid new behind over = (drop 8 mid, over, behind)

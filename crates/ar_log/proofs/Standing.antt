@@ -45,21 +45,21 @@ module _ (number : ℕ) (batch : Batch) (bytes rest : List ℕ) (begins : Begins
       ∙ ap number_of (take_at (number_bytes (length (encoded batch))) (number_bytes (batch_digest number (encoded batch)) ++ (encoded batch ++ rest)) 8 (length_number_bytes (length (encoded batch))))
       ∙ number_back (length (encoded batch)) begins.fits
 
-  behind_number : drop 10 bytes ≡ number_bytes (batch_digest number (encoded batch)) ++ (encoded batch ++ rest)
-  behind_number =
+  after_number : drop 10 bytes ≡ number_bytes (batch_digest number (encoded batch)) ++ (encoded batch ++ rest)
+  after_number =
       sym (drop-drop 8 2 bytes)
       ∙ ap (λ (l : List ℕ). drop 8 l) parts
       ∙ drop_at (number_bytes (length (encoded batch))) (number_bytes (batch_digest number (encoded batch)) ++ (encoded batch ++ rest)) 8 (length_number_bytes (length (encoded batch)))
 
   pub begins_digest : take 8 (drop 10 bytes) ≡ number_bytes (batch_digest number (encoded batch))
   begins_digest =
-      ap (λ (l : List ℕ). take 8 l) behind_number
+      ap (λ (l : List ℕ). take 8 l) after_number
       ∙ take_at (number_bytes (batch_digest number (encoded batch))) (encoded batch ++ rest) 8 (length_number_bytes (batch_digest number (encoded batch)))
 
   behind_head : drop 18 bytes ≡ encoded batch ++ rest
   behind_head =
       sym (drop-drop 8 10 bytes)
-      ∙ ap (λ (l : List ℕ). drop 8 l) behind_number
+      ∙ ap (λ (l : List ℕ). drop 8 l) after_number
       ∙ drop_at (number_bytes (batch_digest number (encoded batch))) (encoded batch ++ rest) 8 (length_number_bytes (batch_digest number (encoded batch)))
 
   pub begins_payload : take (length (encoded batch)) (drop 18 bytes) ≡ encoded batch
@@ -103,28 +103,28 @@ graft number (batch ∷ batches) more x y stands same behind =
     let P : ℕ → Type 0 = λ n. AreBatchesFrom n more (drop t (drop k y)) in
     let Q : List ℕ → Type 0 = λ l. AreBatchesFrom (number + suc (length batches)) more l in
     let counts : number + suc (length batches) ≡ suc number + length batches = omega arith in
-    let behind_rest = subst P counts (subst Q (sym (drop-drop t k y)) behind) in (
+    let after_rest = subst P counts (subst Q (sym (drop-drop t k y)) behind) in (
       drop k y,
       record { first = begins.first; second = begins.second; is_open = begins.is_open; split = split_y; fits = begins.fits },
-      graft (suc number) batches more stands.0 (drop k y) stands.2 same_rest behind_rest,
+      graft (suc number) batches more stands.0 (drop k y) stands.2 same_rest after_rest,
     )
 
 -- the closed gate after the last batch
-pub closed_behind : (number : ℕ) (batches : List Batch) (x : List ℕ) → AreBatchesFrom number batches x → (tail : List ℕ) × (drop (batches_len batches) x ≡ 0 ∷ 0 ∷ tail)
-closed_behind number [] x stands = stands
-closed_behind number (batch ∷ batches) x stands =
-    let behind = closed_behind (suc number) batches stands.0 stands.2 in
+pub closed_after : (number : ℕ) (batches : List Batch) (x : List ℕ) → AreBatchesFrom number batches x → (tail : List ℕ) × (drop (batches_len batches) x ≡ 0 ∷ 0 ∷ tail)
+closed_after number [] x stands = stands
+closed_after number (batch ∷ batches) x stands =
+    let behind = closed_after (suc number) batches stands.0 stands.2 in
     let k = 18 + length (encoded batch) in
     let t = batches_len batches in
     (behind.0, sym (drop-drop t k x) ∙ ap (λ (l : List ℕ). drop t l) (begins_rest number batch x stands.0 stands.1) ∙ behind.1)
 
-pub behind_magic : (file rest : List ℕ) → file ≡ magic ++ rest → drop 8 file ≡ rest
-behind_magic file rest is = ap (λ (l : List ℕ). drop 8 l) is ∙ drop_at magic rest 8 refl
+pub after_magic : (file rest : List ℕ) → file ≡ magic ++ rest → drop 8 file ≡ rest
+after_magic file rest is = ap (λ (l : List ℕ). drop 8 l) is ∙ drop_at magic rest 8 refl
 
 pub closed_gate : (batches : List Batch) (file : List ℕ) → HoldsBatches batches file → (tail : List ℕ) × (drop (8 + batches_len batches) file ≡ 0 ∷ 0 ∷ tail)
 closed_gate batches file stands =
-    let behind = closed_behind 0 batches stands.0 stands.2 in
-    (behind.0, sym (drop-drop (batches_len batches) 8 file) ∙ ap (λ (l : List ℕ). drop (batches_len batches) l) (behind_magic file stands.0 stands.1) ∙ behind.1)
+    let behind = closed_after 0 batches stands.0 stands.2 in
+    (behind.0, sym (drop-drop (batches_len batches) 8 file) ∙ ap (λ (l : List ℕ). drop (batches_len batches) l) (after_magic file stands.0 stands.1) ∙ behind.1)
 
 pub graft_file : (batches more : List Batch) (x y : List ℕ) → HoldsBatches batches x → take (8 + batches_len batches) y ≡ take (8 + batches_len batches) x
     → AreBatchesFrom (length batches) more (drop (8 + batches_len batches) y) → HoldsBatches (batches ++ more) y
@@ -140,7 +140,7 @@ graft_file batches more x y stands same behind =
     sym (drop-take 8 t y)
     ∙ ap (λ (l : List ℕ). drop 8 l) same
     ∙ drop-take 8 t x
-    ∙ ap (λ (l : List ℕ). take t l) (behind_magic x stands.0 stands.1) in
+    ∙ ap (λ (l : List ℕ). take t l) (after_magic x stands.0 stands.1) in
     let P : ℕ → Type 0 = λ n. AreBatchesFrom n more (drop t (drop 8 y)) in
     let Q : List ℕ → Type 0 = λ l. AreBatchesFrom (length batches) more l in
     let counts : length batches ≡ 0 + length batches = omega arith in (
@@ -201,4 +201,4 @@ batches_are number (batch ∷ batches) bytes (suc count) stands le =
 pub batches_of_stands : (batches : List Batch) (file : List ℕ) → HoldsBatches batches file → batches_of file ≡ batches
 batches_of_stands batches file stands =
     let P : List ℕ → Type 0 = λ l. AreBatchesFrom 0 batches l in
-    batches_are 0 batches (drop 8 file) (length file) (subst P (sym (behind_magic file stands.0 stands.1)) stands.2) (omega (arith, length-drop 8 file))
+    batches_are 0 batches (drop 8 file) (length file) (subst P (sym (after_magic file stands.0 stands.1)) stands.2) (omega (arith, length-drop 8 file))

@@ -88,12 +88,12 @@ abbrev pub IsBeforeOrAfter : List Batch → Batch → List ℕ → Type 0
 IsBeforeOrAfter batches batch file = HoldsBatches batches file ⊎ HoldsBatches (batches ++ batch ∷ []) file
 
 -- these batches are after the first eight bytes, whatever those are
-abbrev pub HoldsBehind : List Batch → List ℕ → Type 0
-HoldsBehind batches file = AreBatchesFrom 0 batches (drop 8 file)
+abbrev pub HoldsAfter : List Batch → List ℕ → Type 0
+HoldsAfter batches file = AreBatchesFrom 0 batches (drop 8 file)
 
 -- The file is no log, or the log with this head and no batch, or one that a crash might have left before, after its
 -- first eight bytes. Of a medium that held no batches there it is no log or the new one.
 abbrev pub IsBegun : List ℕ → (List ℕ → Type 0) → List ℕ → Type 0
 IsBegun head old file =
     (batches : List Batch) → HoldsBatches batches file
-    → (batches ≡ (head ∷ []) ∷ []) ⊎ ((before : List ℕ) × old before × HoldsBehind batches before)
+    → (batches ≡ (head ∷ []) ∷ []) ⊎ ((before : List ℕ) × old before × HoldsAfter batches before)

@@ -29,7 +29,7 @@ abbrev pub IsDamage : ℕ → List ℕ → Type 0
 IsDamage number bytes = (batches : List (List (List ℕ))) → AreBatchesFrom number batches bytes → ⊥
 
 -- the place after a batch
-pub record GoesBehind (batch : Batch) (old new : Place) : Type 0 where
+pub record GoesAfter (batch : Batch) (old new : Place) : Type 0 where
   pub at : new.at ≡ old.at + 18 + length (encoded batch)
   pub number : new.number ≡ old.number + 1
   pub left : new.at + new.left ≡ old.at + old.left

@@ -4,7 +4,7 @@ ghost use Rattle.std.specs.Prelude.{◌≡◌, ◌≢◌, ◌+◌, ◌≤◌, �
 ghost use Rattle.ar_log.specs.Codec.{Batch, number_bytes, encoded, items_of};
 ghost use Rattle.ar_log.specs.Failure.{is_damage, is_of_medium, ReportsMedium};
 ghost use Rattle.ar_log.specs.Log.{magic, BeginsWith, HoldsBatches};
-ghost use Rattle.ar_log.specs.Reading.{OnlyReads, HasHead, IsClosedGate, IsDamage, GoesBehind, batches_before, IsAt, ReadsOn};
+ghost use Rattle.ar_log.specs.Reading.{OnlyReads, HasHead, IsClosedGate, IsDamage, GoesAfter, batches_before, IsAt, ReadsOn};
 
 use crate::codec::{batch_digest, decode, number_of};
 use crate::new_log::MAGIC;
@@ -114,7 +114,7 @@ fn read_payload<M: Media>(
         → HasHead (drop place.at (M.seen media.old)) len digest
         → BeginsWith place.number (items_of read.records.items) (drop place.at (M.seen media.old))
         (drop read.next.at (M.seen media.old))) }
-    ensures place { IfOk result (λ read. GoesBehind (items_of read.records.items) place read.next) }
+    ensures place { IfOk result (λ read. GoesAfter (items_of read.records.items) place read.next) }
     ensures damaged { IfErr result (λ e. is_damage e ≡ true → IsTrue (M.is_clean media.new)
         → HasHead (drop place.at (M.seen media.old)) len digest
         → IsDamage place.number (drop place.at (M.seen media.old))) }
@@ -148,7 +148,7 @@ fn read_batch<M: Media>(
     ensures batch { IfOk result (λ r. IfSome r (λ read. IsTrue (M.is_clean media.new)
         → BeginsWith place.number (items_of read.records.items) (drop place.at (M.seen media.old))
         (drop read.next.at (M.seen media.old)))) }
-    ensures place { IfOk result (λ r. IfSome r (λ read. GoesBehind (items_of read.records.items) place read.next)) }
+    ensures place { IfOk result (λ r. IfSome r (λ read. GoesAfter (items_of read.records.items) place read.next)) }
     ensures damaged { IfErr result (λ e. is_damage e ≡ true → IsTrue (M.is_clean media.new)
         → place.at + place.left ≡ length (M.seen media.old)
         → IsDamage place.number (drop place.at (M.seen media.old))) }

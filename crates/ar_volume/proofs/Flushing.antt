@@ -1,26 +1,22 @@
--- The cached blocks of one unit are given to the disks.
-use Rattle.std.proofs.Common.{◌≡◌, ℕ, ◌+◌, ◌-◌, ◌/◌, ◌<◌, ◌≤◌, false, cond, IsTrue, is_some, List, length, Option, None}
-use Rattle.std.proofs.Common.{Some, refl, sym, ap, subst, ◌∙◌, inl, inr, true≢false, arith}
-use Rattle.std.proofs.lemmas.Bool.{cases_lt, ltb-true}
+-- The cached blocks of a part of one unit are given to the disks.
+use Rattle.std.proofs.Common.{◌≡◌, ℕ, ◌+◌, ◌-◌, ◌/◌, ◌<◌, ◌≤◌, min, nat_lt, Bool, true, false, cond, IsTrue, is_some}
+use Rattle.std.proofs.Common.{List, length, Option, None, Some, refl, sym, ap, subst, ◌∙◌, inl, inr, true≢false, arith}
+use Rattle.std.proofs.lemmas.Bool.{cases_lt, ltb-true, ltb-false}
 use Rattle.ar_disks.specs.declared.address.Addr.{Addr}
 use Rattle.ar_disks.specs.declared.address.Key.{Key}
 use Rattle.ar_disks.specs.declared.geometry.Geometry.{Geometry}
 use Rattle.ar_disks.specs.declared.geometry.Geometry.TheVariants.{Paper, Small}
 use Rattle.ar_disks.specs.Geometry.{sectors_of}
 use Rattle.ar_book.specs.Tables.{blocks_of, has_unit, unit_in}
-use Rattle.ar_store.specs.Slots.{stands}
-use Rattle.ar_store.specs.Store.{StoreState}
 use Rattle.ar_store.proofs.Changes.{units_refl}
 use Rattle.ar_store.proofs.Fills.{accessed_refl}
 use Rattle.ar_cache.specs.Backing.{InTurn, StopsInTurn}
-use Rattle.ar_cache.specs.Cache.{cached}
-use Rattle.ar_unit.specs.Unit.{Absent as NoUnit, Present}
-use Rattle.ar_volume.specs.declared.flush.UnitFlush.TheVariants.{Done, Absent, Broken}
-use Rattle.ar_volume.specs.Flush.{FlushesUnit, unit_keys}
+use Rattle.ar_cache.specs.Cache.{CacheState, cached}
+use Rattle.ar_volume.specs.declared.flush.PartFlush.TheVariants.{Done, More, Absent, Broken}
+use Rattle.ar_volume.specs.Flush.{FlushesPart, after_part, blocks_at, part_keys}
 use Rattle.ar_volume.specs.Following.{ArrayFollows}
-use Rattle.ar_volume.specs.Image.{ArrayState, CacheAgrees, attention_at, geometry_of, is_broken, length_at, seen_at}
-use Rattle.ar_volume.specs.Image.{unit_by}
-use Rattle.ar_volume.specs.Sectors.{key_of, keys_from, sectors_in}
+use Rattle.ar_volume.specs.Image.{ArrayState, CacheAgrees, geometry_of, is_broken}
+use Rattle.ar_volume.specs.Sectors.{key_of, keys_from}
 use Rattle.ar_volume.specs.Seen.{IsUnit, KeepsCachedBut}
 use Rattle.ar_volume.specs.Storing.{BreaksForced, ForcesBlock}
 use Rattle.ar_volume.proofs.Seeing.{seen_absent}
@@ -39,12 +35,24 @@ blocks_are : (s : ArrayState) (addr : Addr) (sectors last : ℕ) → IsUnit s ad
 blocks_are s addr sectors last unit is =
     ap (λ n. n + 1) is ∙ last_block (geometry_of s) sectors unit.some ∙ sym unit.blocks
 
-keys_are : (s : ArrayState) (addr : Addr) (sectors last : ℕ) → IsUnit s addr sectors → IsLast s sectors last
-    → keys_from addr 0 (last + 1 - 0) ≡ unit_keys s addr
-keys_are s addr sectors last unit is =
-    let blocks = blocks_are s addr sectors last unit is in
-    let many : last + 1 - 0 ≡ length (unit_in s.store.book.units addr).homes = omega (arith, blocks) in
-    ap (keys_from addr 0) many
+-- no unit has more blocks than this
+few_blocks : (g : Geometry) (n : ℕ) → n ≤ 1048576 → (n - 1) / sectors_of g < 1048575
+few_blocks Paper n few = omega arith
+few_blocks Small n few = omega arith
+
+-- the last block of a part, in a unit whose last block is `end`
+abbrev IsPartLast : ℕ → ℕ → ℕ → Type 0
+IsPartLast first end last = last ≡ min end (min (first + 63) 4294967295)
+
+keys_are : (old : ArrayState) (addr : Addr) (first sectors last end : ℕ) → IsUnit old addr sectors
+    → IsLast old sectors end → IsPartLast first end last
+    → keys_from addr first (last + 1 - first) ≡ part_keys old addr first
+keys_are old addr first sectors last end unit is part =
+    let blocks : end + 1 ≡ blocks_at old addr = blocks_are old addr sectors end unit is in
+    let few : end < 1048575 =
+    subst (λ n. n < 1048575) (sym is) (few_blocks (geometry_of old) sectors unit.few) in
+    let many : last + 1 - first ≡ min 64 (blocks_at old addr - first) = omega (arith, blocks, few, part) in
+    ap (keys_from addr first) many
 
 -- a block that no unit has isn't cached
 not_known : (s : ArrayState) (k : Key) → CacheAgrees s → length (unit_in s.store.book.units k.addr).homes ≤ k.rb
@@ -59,96 +67,145 @@ not_known s k agrees past = by (cached s.cache k) refl
         (agrees.known.known k (ap (λ (o : Option (List ℕ)). is_some o) is)) in
         omega arith)
 
--- a unit is what its own blocks are
-own_blocks : (s : StoreState) (f g : Key → List ℕ) (addr : Addr) → ((rb : ℕ) → f (key_of addr rb) ≡ g (key_of addr rb))
-    → unit_by s f addr ≡ unit_by s g addr
-own_blocks s f g addr same =
-    ap (λ (blocks : ℕ → List ℕ). cond (has_unit s.book addr)
-    (Present (sectors_in s.disks.geometry blocks 0 (length_at s.book addr)) (attention_at s.book addr)) NoUnit)
-    (λ i rb. same rb i)
+-- what a part leaves cached
+others_kept : (old new : CacheState) (addr : Addr) (first last end : ℕ) → last + 1 ≤ end
+    → KeepsCachedBut old new addr first (last + 1) → KeepsCachedBut old new addr first end
+others_kept old new addr first last end within kept = record {
+  others = λ k out. kept.others k (elim out [
+    | inl other ↦ inl other
+    | inr place ↦ inr (elim place [
+      | inl low ↦ inl low
+      | inr high ↦ inr (omega arith)
+    ])
+  ]);
+}
 
--- all of the unit's blocks were given to the disks
-pub unit_flushed : (old new : ArrayState) (addr : Addr) (sectors last : ℕ) → CacheAgrees old → IsUnit old addr sectors
-    → IsLast old sectors last → is_broken old ≡ false → is_broken new ≡ false
-    → ((rb : ℕ) → 0 ≤ rb → rb ≤ last → cached new.cache (key_of addr rb) ≡ None)
-    → KeepsCachedBut old.cache new.cache addr 0 (last + 1)
-    → InTurn ForcesBlock (keys_from addr 0 (last + 1 - 0)) old new
-    → ArrayFollows old new → FlushesUnit old addr Done new
-unit_flushed old new addr sectors last agrees unit is was now forced kept turn follows =
-    let blocks = blocks_are old addr sectors last unit is in
-    let none : (rb : ℕ) → cached new.cache (key_of addr rb) ≡ None =
-    λ rb. elim (cases_lt rb (last + 1)) [
-      | inl below ↦ forced rb (omega arith) (omega arith)
+-- all of the part's blocks were given to the disks
+pub part_flushed : (old new : ArrayState) (addr : Addr) (first sectors last end : ℕ) → CacheAgrees old
+    → IsUnit old addr sectors → IsLast old sectors end → IsPartLast first end last → is_broken old ≡ false
+    → is_broken new ≡ false
+    → ((rb : ℕ) → first ≤ rb → rb ≤ last → cached new.cache (key_of addr rb) ≡ None)
+    → KeepsCachedBut old.cache new.cache addr first (last + 1)
+    → InTurn ForcesBlock (keys_from addr first (last + 1 - first)) old new
+    → ArrayFollows old new → FlushesPart old addr first (after_part last end) new
+part_flushed old new addr first sectors last end agrees unit is part was now forced kept turn follows =
+    by (nat_lt last end) refl
+  where
+    blocks : end + 1 ≡ blocks_at old addr
+    blocks = blocks_are old addr sectors end unit is
+
+    few : end < 1048575
+    few = subst (λ n. n < 1048575) (sym is) (few_blocks (geometry_of old) sectors unit.few)
+
+    none : (rb : ℕ) → first ≤ rb → rb < first + 64 → cached new.cache (key_of addr rb) ≡ None
+    none rb from below = elim (cases_lt rb (last + 1)) [
+      | inl inside ↦ forced rb from (omega arith)
       | inr past ↦
           kept.others (key_of addr rb) (inr (inr past))
-          ∙ not_known old (key_of addr rb) agrees (omega (arith, blocks, past))
-    ] in
-    record {
+          ∙ not_known old (key_of addr rb) agrees (omega (arith, blocks, few, part))
+    ]
+
+    keys : keys_from addr first (last + 1 - first) ≡ part_keys old addr first
+    keys = keys_are old addr first sectors last end unit is part
+
+    by : (left : Bool) → nat_lt last end ≡ left → FlushesPart old addr first (cond left (More (last + 1)) Done) new
+    by true more = record {
       there = λ _. unit.there;
+      ended = λ e. absurd (cc);
+      goes_on = λ next e. (let same : next ≡ last + 1 = cc in let below = ltb-true last end more in
+          (omega (arith, same, below, blocks, few, part), omega (arith, same, below, blocks)));
+      few = λ next e. (let same : next ≡ last + 1 = cc in let below = ltb-true last end more in
+          omega (arith, same, below, few));
       uncached = λ _. none;
-      on_disks = λ _.
-          own_blocks new.store (seen_at new) (stands new.store) addr (λ rb. seen_absent new (key_of addr rb) (none rb));
-      spared = λ _ key other. kept.others key (inl other);
-      in_turn = λ _. subst (λ ks. InTurn ForcesBlock ks old new) (keys_are old addr sectors last unit is) turn;
-      stopped = λ is _. absurd (cc);
-      absent = λ is. absurd (cc);
-      idle = λ is. absurd (cc);
+      on_disks = λ _. record { same = λ rb from below. seen_absent new (key_of addr rb) (none rb from below) };
+      spared = λ _. others_kept old.cache new.cache addr first last (first + 64) (omega (arith, part)) kept;
+      in_turn = λ _. subst (λ ks. InTurn ForcesBlock ks old new) keys turn;
+      stopped = λ e _. absurd (cc);
+      absent = λ e. absurd (cc);
+      idle = λ e. absurd (cc);
       units = follows.store.units;
       accessed = follows.store.accessed;
-      broken = (λ is. absurd (cc), λ is. absurd (true≢false (sym is ∙ now)));
-      unchanged = λ is. absurd (true≢false (sym is ∙ was));
+      broken = (λ e. absurd (cc), λ e. absurd (true≢false (sym e ∙ now)));
+      unchanged = λ e. absurd (true≢false (sym e ∙ was));
+    }
+    by false none_left = record {
+      there = λ _. unit.there;
+      ended = λ _. (let past = ltb-false last end none_left in omega (arith, past, blocks, few, part));
+      goes_on = λ next e. absurd (cc);
+      few = λ next e. absurd (cc);
+      uncached = λ _. none;
+      on_disks = λ _. record { same = λ rb from below. seen_absent new (key_of addr rb) (none rb from below) };
+      spared = λ _. others_kept old.cache new.cache addr first last (first + 64) (omega (arith, part)) kept;
+      in_turn = λ _. subst (λ ks. InTurn ForcesBlock ks old new) keys turn;
+      stopped = λ e _. absurd (cc);
+      absent = λ e. absurd (cc);
+      idle = λ e. absurd (cc);
+      units = follows.store.units;
+      accessed = follows.store.accessed;
+      broken = (λ e. absurd (cc), λ e. absurd (true≢false (sym e ∙ now)));
+      unchanged = λ e. absurd (true≢false (sym e ∙ was));
     }
 
 -- the array failed at one of them
-pub unit_stopped : (old new : ArrayState) (addr : Addr) (sectors last : ℕ) → IsUnit old addr sectors
-    → IsLast old sectors last → is_broken old ≡ false → IsTrue (is_broken new)
-    → StopsInTurn ForcesBlock BreaksForced (keys_from addr 0 (last + 1 - 0)) old new → ArrayFollows old new
-    → FlushesUnit old addr Broken new
-unit_stopped old new addr sectors last unit is was now stops follows = record {
-  there = λ is. absurd (cc);
-  uncached = λ is rb. absurd (cc);
-  on_disks = λ is. absurd (cc);
-  spared = λ is key other. absurd (cc);
-  in_turn = λ is. absurd (cc);
+pub part_stopped : (old new : ArrayState) (addr : Addr) (first sectors last end : ℕ) → IsUnit old addr sectors
+    → IsLast old sectors end → IsPartLast first end last → is_broken old ≡ false → IsTrue (is_broken new)
+    → StopsInTurn ForcesBlock BreaksForced (keys_from addr first (last + 1 - first)) old new → ArrayFollows old new
+    → FlushesPart old addr first Broken new
+part_stopped old new addr first sectors last end unit is part was now stops follows = record {
+  there = λ e. absurd (cc);
+  ended = λ e. absurd (cc);
+  goes_on = λ next e. absurd (cc);
+  few = λ next e. absurd (cc);
+  uncached = λ e. absurd (cc);
+  on_disks = λ e. absurd (cc);
+  spared = λ e. absurd (cc);
+  in_turn = λ e. absurd (cc);
   stopped = λ _ _.
-      subst (λ ks. StopsInTurn ForcesBlock BreaksForced ks old new) (keys_are old addr sectors last unit is) stops;
-  absent = λ is. absurd (cc);
-  idle = λ is. absurd (cc);
+      subst (λ ks. StopsInTurn ForcesBlock BreaksForced ks old new)
+      (keys_are old addr first sectors last end unit is part) stops;
+  absent = λ e. absurd (cc);
+  idle = λ e. absurd (cc);
   units = follows.store.units;
   accessed = follows.store.accessed;
   broken = (λ _. now, λ _. refl);
-  unchanged = λ is. absurd (true≢false (sym is ∙ was));
+  unchanged = λ e. absurd (true≢false (sym e ∙ was));
 }
 
 -- there is no such unit
-pub unit_absent : (s : ArrayState) (addr : Addr) → is_broken s ≡ false → has_unit s.store.book addr ≡ false
-    → FlushesUnit s addr Absent s
-unit_absent s addr sound none = record {
-  there = λ is. absurd (cc);
-  uncached = λ is rb. absurd (cc);
-  on_disks = λ is. absurd (cc);
-  spared = λ is key other. absurd (cc);
-  in_turn = λ is. absurd (cc);
-  stopped = λ is _. absurd (cc);
+pub part_absent : (s : ArrayState) (addr : Addr) (first : ℕ) → is_broken s ≡ false
+    → has_unit s.store.book addr ≡ false → FlushesPart s addr first Absent s
+part_absent s addr first sound none = record {
+  there = λ e. absurd (cc);
+  ended = λ e. absurd (cc);
+  goes_on = λ next e. absurd (cc);
+  few = λ next e. absurd (cc);
+  uncached = λ e. absurd (cc);
+  on_disks = λ e. absurd (cc);
+  spared = λ e. absurd (cc);
+  in_turn = λ e. absurd (cc);
+  stopped = λ e _. absurd (cc);
   absent = λ _. none;
   idle = λ _. refl;
   units = units_refl s.store.book;
   accessed = accessed_refl s.store.disks;
-  broken = (λ is. absurd (cc), λ is. absurd (true≢false (sym is ∙ sound)));
+  broken = (λ e. absurd (cc), λ e. absurd (true≢false (sym e ∙ sound)));
   unchanged = λ _. refl;
 }
 
 -- the array had failed before
-pub unit_lost : (s : ArrayState) (addr : Addr) → IsTrue (is_broken s) → FlushesUnit s addr Broken s
-unit_lost s addr lost = record {
-  there = λ is. absurd (cc);
-  uncached = λ is rb. absurd (cc);
-  on_disks = λ is. absurd (cc);
-  spared = λ is key other. absurd (cc);
-  in_turn = λ is. absurd (cc);
+pub part_lost : (s : ArrayState) (addr : Addr) (first : ℕ) → IsTrue (is_broken s) → FlushesPart s addr first Broken s
+part_lost s addr first lost = record {
+  there = λ e. absurd (cc);
+  ended = λ e. absurd (cc);
+  goes_on = λ next e. absurd (cc);
+  few = λ next e. absurd (cc);
+  uncached = λ e. absurd (cc);
+  on_disks = λ e. absurd (cc);
+  spared = λ e. absurd (cc);
+  in_turn = λ e. absurd (cc);
   stopped = λ _ sound. absurd (true≢false (sym lost ∙ sound));
-  absent = λ is. absurd (cc);
-  idle = λ is. absurd (cc);
+  absent = λ e. absurd (cc);
+  idle = λ e. absurd (cc);
   units = units_refl s.store.book;
   accessed = accessed_refl s.store.disks;
   broken = (λ _. lost, λ _. refl);

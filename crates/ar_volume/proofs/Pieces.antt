@@ -204,4 +204,4 @@ other_unit k key other = λ same. other (ap (λ (k : Key). k.addr) same)
 -- a call that is done has not broken what it was made on
 pub stored_done : (broken : Bool) → stored broken ≡ Kept → broken ≡ false
 stored_done false done = refl
-stored_done true done = let told = done in absurd (cc)
+stored_done true done = let reported = done in absurd (cc)

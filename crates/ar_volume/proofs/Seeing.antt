@@ -120,13 +120,13 @@ pub unit_same : (s : StoreState) (f g : Key → List ℕ) (addr : Addr) → ((k 
 unit_same s f g addr same = ap (λ (h : Key → List ℕ). unit_by s h addr) (λ i k. same k i)
 
 -- a call that is done left what isn't broken
-pub done_told : (b : Bool) → Done ≡ stored b → b ≡ false
-done_told true is = cc
-done_told false is = refl
+pub done_reported : (b : Bool) → Done ≡ stored b → b ≡ false
+done_reported true is = cc
+done_reported false is = refl
 
-pub lost_told : (b : Bool) → NotDone ≡ stored b → b ≡ true
-lost_told true is = refl
-lost_told false is = absurd (cc)
+pub lost_reported : (b : Bool) → NotDone ≡ stored b → b ≡ true
+lost_reported true is = refl
+lost_reported false is = absurd (cc)
 
 -- a store's answer by the health that it leaves, as a cache hears it
 pub heard : (h : Health) → outcome_of h ≡ stored (is_broken_set h)

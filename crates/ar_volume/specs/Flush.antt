@@ -1,5 +1,6 @@
--- What a flush of one cached block does, and one of a unit's.
-use Rattle.std.specs.Prelude.{◌≡◌, ◌≢◌, ◌↔◌, ℕ, true, false, IsTrue, List, None, length}
+-- What a flush of one cached block does, and one of a part of a unit's.
+use Rattle.std.specs.Prelude.{◌≡◌, ◌↔◌, ◌+◌, ◌-◌, ◌<◌, ◌≤◌, ℕ, min, nat_lt, Bool, true, false, if◌then◌else◌}
+use Rattle.std.specs.Prelude.{IsTrue, List, None, length}
 use Rattle.ar_disks.specs.declared.address.Addr.{Addr}
 use Rattle.ar_disks.specs.declared.address.Key.{Key}
 use Rattle.ar_book.specs.Tables.{has_unit, unit_in}
@@ -10,11 +11,12 @@ use Rattle.ar_cache.specs.declared.answers.Flush.{Flush}
 use Rattle.ar_cache.specs.declared.answers.Flush.TheVariants.{Idle, Broken as NotFlushed}
 use Rattle.ar_cache.specs.Backing.{InTurn, StopsInTurn}
 use Rattle.ar_cache.specs.Cache.{Flushes, Destages, IsPut, cached, last_keys}
-use Rattle.ar_volume.specs.declared.flush.UnitFlush.{UnitFlush}
-use Rattle.ar_volume.specs.declared.flush.UnitFlush.TheVariants.{Done, Absent, Broken as NotAllFlushed}
+use Rattle.ar_volume.specs.declared.flush.PartFlush.{PartFlush}
+use Rattle.ar_volume.specs.declared.flush.PartFlush.TheVariants.{Done, More, Absent, Broken as PartNotFlushed}
 use Rattle.ar_volume.specs.Following.{PutsStored, BreaksStored}
-use Rattle.ar_volume.specs.Image.{ArrayState, is_broken, image_at, image_on_disks}
+use Rattle.ar_volume.specs.Image.{ArrayState, is_broken, image_at, image_on_disks, seen_at}
 use Rattle.ar_volume.specs.Sectors.{key_of, keys_from}
+use Rattle.ar_volume.specs.Seen.{KeepsCachedBut}
 use Rattle.ar_volume.specs.Storing.{BreaksForced, ForcesBlock}
 
 -- The cache destaged its least recently used block in one put, or was empty. Broken is returned exactly if the array
@@ -34,28 +36,59 @@ pub record FlushesOne (old : ArrayState) (answer : Flush) (new : ArrayState) : T
   pub broken : (answer ≡ NotFlushed) ↔ IsTrue (is_broken new)
   pub unchanged : IsTrue (is_broken old) → new ≡ old
 
--- the keys of a unit's blocks, in ascending order
-abbrev pub unit_keys : ArrayState → Addr → List Key
-unit_keys s addr = keys_from addr 0 (length (unit_in s.store.book.units addr).homes)
+-- the most blocks of a part of a unit
+abbrev pub part_blocks : ℕ
+part_blocks = 64
 
--- The cached blocks of one unit were destaged, in ascending order, or there is no such unit. Broken is returned exactly
--- if the array has failed afterwards: it had before, and nothing changed, or one of these puts failed it.
-pub record FlushesUnit (old : ArrayState) (addr : Addr) (answer : UnitFlush) (new : ArrayState) : Type 0 where
-  pub there : answer ≡ Done → has_unit old.store.book addr ≡ true
-  -- none of the unit's blocks is cached any more, so its contents are on the disks
-  pub uncached : answer ≡ Done → (rb : ℕ) → cached new.cache (key_of addr rb) ≡ None
-  pub on_disks : answer ≡ Done → image_at new addr ≡ image_on_disks new.store addr
-  -- every other unit's cached blocks stay cached
-  pub spared : answer ≡ Done → (key : Key) → key.addr ≢ addr → cached new.cache key ≡ cached old.cache key
-  -- each cached block of the unit was put once; if a put failed the array, the blocks up to that one were
-  pub in_turn : answer ≡ Done → InTurn ForcesBlock (unit_keys old addr) old new
-  pub stopped : answer ≡ NotAllFlushed → is_broken old ≡ false
-      → StopsInTurn ForcesBlock BreaksForced (unit_keys old addr) old new
-  pub absent : answer ≡ Absent → has_unit old.store.book addr ≡ false
-  pub idle : answer ≡ Absent → new ≡ old
-  -- whatever is returned, the units keep all but homes and write sequence numbers, and the room stays
-  pub units : SameUnits old.store.book new.store.book
-  -- and disks failed only by faults, and no extent became unassigned
-  pub accessed : IsAccessed old.store.disks new.store.disks
-  pub broken : (answer ≡ NotAllFlushed) ↔ IsTrue (is_broken new)
-  pub unchanged : IsTrue (is_broken old) → new ≡ old
+-- how many blocks the unit at an address has
+abbrev pub blocks_at : ArrayState → Addr → ℕ
+blocks_at s addr = length (unit_in s.store.book.units addr).homes
+
+-- the keys of the blocks of a unit's part from `first` on, in ascending order
+abbrev pub part_keys : ArrayState → Addr → ℕ → List Key
+part_keys s addr first = keys_from addr first (min part_blocks (blocks_at s addr - first))
+
+-- how a part ends whose last block is this one, in a unit whose last block is `end`
+abbrev pub after_part : ℕ → ℕ → PartFlush
+after_part last end = if nat_lt last end then More (last + 1) else Done
+
+-- whether a part was destaged
+abbrev pub has_flushed : PartFlush → Bool
+has_flushed Done = true
+has_flushed (More next) = true
+has_flushed Absent = false
+has_flushed PartNotFlushed = false
+
+-- the disks have the contents of each block of a unit's part from `first` on
+pub record PartOnDisks (s : ArrayState) (addr : Addr) (first : ℕ) : Type 0 where
+  pub same : (rb : ℕ) → first ≤ rb → rb < first + part_blocks
+      → seen_at s (key_of addr rb) ≡ stands s.store (key_of addr rb)
+
+-- The cached blocks of one part of a unit were destaged, in ascending order, or there is no such unit. Broken is
+-- returned exactly if the array has failed afterwards: it had before, and nothing changed, or one of these puts failed
+-- it.
+pub record FlushesPart (old : ArrayState) (addr : Addr) (first : ℕ) (answer : PartFlush) (new : ArrayState) : Type 0
+  where
+    pub there : has_flushed answer ≡ true → has_unit old.store.book addr ≡ true
+    -- Done: the part had the unit's last block; More: it hadn't, and the next one begins with the block after it
+    pub ended : answer ≡ Done → blocks_at old addr ≤ first + part_blocks
+    pub goes_on : (next : ℕ) → answer ≡ More next → (next ≡ first + part_blocks) × (next < blocks_at old addr)
+    pub few : (next : ℕ) → answer ≡ More next → next < 1048576
+    -- none of the part's blocks is cached any more, so their contents are on the disks
+    pub uncached : has_flushed answer ≡ true → (rb : ℕ) → first ≤ rb → rb < first + part_blocks
+        → cached new.cache (key_of addr rb) ≡ None
+    pub on_disks : has_flushed answer ≡ true → PartOnDisks new addr first
+    -- all other cached blocks, the unit's too, stay cached
+    pub spared : has_flushed answer ≡ true → KeepsCachedBut old.cache new.cache addr first (first + part_blocks)
+    -- each cached block of the part was put once; if a put failed the array, the blocks up to that one were
+    pub in_turn : has_flushed answer ≡ true → InTurn ForcesBlock (part_keys old addr first) old new
+    pub stopped : answer ≡ PartNotFlushed → is_broken old ≡ false
+        → StopsInTurn ForcesBlock BreaksForced (part_keys old addr first) old new
+    pub absent : answer ≡ Absent → has_unit old.store.book addr ≡ false
+    pub idle : answer ≡ Absent → new ≡ old
+    -- whatever is returned, the units keep all but homes and write sequence numbers, and the room stays
+    pub units : SameUnits old.store.book new.store.book
+    -- and disks failed only by faults, and no extent became unassigned
+    pub accessed : IsAccessed old.store.disks new.store.disks
+    pub broken : (answer ≡ PartNotFlushed) ↔ IsTrue (is_broken new)
+    pub unchanged : IsTrue (is_broken old) → new ≡ old

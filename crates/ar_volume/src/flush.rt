@@ -3,7 +3,7 @@ ghost use Rattle.std.specs.Prelude.{◌≡◌, ◌≢◌, ◌≤◌, ◌+◌, �
 ghost use Rattle.ar_disks.specs.declared.address.Key.{Key};
 ghost use Rattle.ar_cache.specs.Backing.{InTurn, StopsInTurn, stored};
 ghost use Rattle.ar_cache.specs.Cache.{cached};
-ghost use Rattle.ar_volume.specs.Flush.{FlushesOne, FlushesUnit};
+ghost use Rattle.ar_volume.specs.Flush.{FlushesOne, FlushesPart, after_part};
 ghost use Rattle.ar_volume.specs.Following.{ArrayFollows};
 ghost use Rattle.ar_volume.specs.Image.{is_broken};
 ghost use Rattle.ar_volume.specs.Sectors.{key_of, keys_from};
@@ -13,11 +13,16 @@ ghost use Rattle.ar_volume.specs.Storing.{BreaksForced, EmptiesCache, ForcesBloc
 use crate::{Blocks, Flush, Health};
 use ar_disks::{Addr, Completion, Disk, Key};
 
-/// How the destaging of a unit's cached blocks ended.
+/// The most blocks that one call destages for a unit's host, 4 MiB. Other hosts' commands are executed between two calls.
+const PART_BLOCKS: u32 = 64;
+
+/// How the destaging of a part of a unit's cached blocks ended.
 #[derive(Clone, Copy, Debug, PartialEq, Eq)]
-pub enum UnitFlush {
-    /// None of the unit's blocks is cached any more: its contents are on the disks.
+pub enum PartFlush {
+    /// None of the part's blocks is cached any more, and the unit has no block after them.
     Done,
+    /// None of the part's blocks is cached any more, and the unit's next part begins at this block.
+    More(u32),
     /// There is no such unit, and nothing changed.
     Absent,
     /// The array has failed, before or during this call.
@@ -53,22 +58,24 @@ impl<D: Disk> Blocks<D> {
         self.cache.flush_all(&mut self.behind)
     }
 
-    /// Destages all cached blocks of the unit at `addr`, in ascending order, and no other block.
-    pub fn flush_unit(&mut self, addr: Addr) -> UnitFlush
-        ensures flushes { FlushesUnit self.old addr result self.new }
+    /// Destages those of 64 blocks of the unit at `addr` that are cached, from block `first` on and in ascending order,
+    /// and no other block.
+    pub fn flush_part(&mut self, addr: Addr, first: u32) -> PartFlush
+        ensures flushes { FlushesPart self.old addr first result self.new }
         ensures seen { is_broken self.new ≡ false → SameSeen self.old self.new }
         ensures follows { ArrayFollows self.old self.new }
     {
         if let Health::Broken = self.health() {
-            return UnitFlush::Broken;
+            return PartFlush::Broken;
         }
         let Some(sectors) = self.sectors(addr) else {
-            return UnitFlush::Absent;
+            return PartFlush::Absent;
         };
-        let last = (sectors - 1) / self.geometry().sectors();
-        match self.force(addr, 0, last) {
-            Completion::Done => UnitFlush::Done,
-            Completion::Broken => UnitFlush::Broken,
+        let end = (sectors - 1) / self.geometry().sectors();
+        let last = end.min(first.saturating_add(PART_BLOCKS - 1));
+        match self.force(addr, first, last) {
+            Completion::Done => after_part(last, end),
+            Completion::Broken => PartFlush::Broken,
         }
     }
 
@@ -110,5 +117,16 @@ impl<D: Disk> Blocks<D> {
             }
         }
         Completion::Done
+    }
+}
+
+// How a part ended whose last block was destaged; block `end` is the unit's last.
+fn after_part(last: u32, end: u32) -> PartFlush
+    ensures { result ≡ after_part last end }
+{
+    if last < end {
+        PartFlush::More(last + 1)
+    } else {
+        PartFlush::Done
     }
 }

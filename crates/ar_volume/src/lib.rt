@@ -23,7 +23,7 @@ pub use ar_book::{Refusal as UnitRefusal, Slot};
 pub use ar_cache::{Backing, CAPACITY_LIMIT, Flush};
 pub use ar_extents::{DiskRefusal, Health, StartFault};
 pub use blocks::{Blocks, Counters};
-pub use flush::UnitFlush;
+pub use flush::PartFlush;
 pub use new_disk::NewDisk;
 pub use refusal::Refusal;
 pub use transfer::{read_sectors, write_sectors};

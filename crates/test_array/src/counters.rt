@@ -71,7 +71,7 @@ const CACHED: [Counted; 12] = [
         Return::Flushed(0, 1),
         [0, 0, 2, 2, 1],
     ),
-    (Call::FlushUnit(0, 0), Return::Done, [0, 0, 2, 3, 0]),
+    (Call::FlushPart(0, 0, 0), Return::Done, [0, 0, 2, 3, 0]),
     (Call::Force(0, 0, 6, 2, 0xA3), Return::Good, [0, 0, 2, 4, 0]),
     (Call::Write(0, 0, 6, 2, 0xA4), Return::Good, [0, 0, 2, 4, 1]),
     (Call::Remove(0, 0), Return::Done, [0, 0, 2, 4, 0]),

@@ -86,7 +86,7 @@ fn is_lost_in_a_discard<R: Abort + AllocGlobal>(rt: &R, shape: Shape) -> bool {
 
 // Halves of blocks are read and written, so that a second disk may be lost there.
 #[test]
-fn a_second_loss_is_told_by_a_discard(rt: HostRuntime) {
+fn a_second_loss_is_reported_by_a_discard(rt: HostRuntime) {
     for cache in [0, 2] {
         let shape = Shape {
             cache,

@@ -228,13 +228,13 @@ const TWO_UNITS: [Step; 6] = [
     (Ask::Does(Call::Write(0, 0, 6, 2, 0xA4)), GOOD),
     (Ask::Does(Call::Write(1, 0, 0, 2, 0xB1)), GOOD),
     (Ask::Does(Call::Write(0, 0, 2, 2, 0xA2)), GOOD),
-    (Ask::Does(Call::FlushUnit(2, 0)), ABSENT),
+    (Ask::Does(Call::FlushPart(2, 0, 0)), ABSENT),
 ];
 
 /// The first unit's blocks are placed in ascending order, on the pair of disks of the first mirrored slots. The other's
 /// stays in the cache, and is the next to be destaged.
 const ONE_UNIT: [Step; 13] = [
-    (Ask::Does(Call::FlushUnit(0, 0)), DONE),
+    (Ask::Does(Call::FlushPart(0, 0, 0)), DONE),
     (Ask::Home(0), Answer::Unplaced),
     (Ask::Home(1), Answer::At(0, 0)),
     (Ask::Home(3), Answer::At(0, 1)),
@@ -243,7 +243,7 @@ const ONE_UNIT: [Step; 13] = [
     (Ask::Shows(0, 0, 1), Answer::Byte(0xA4)),
     (Ask::Shows(1, 0, 1), Answer::Byte(0xA4)),
     (Ask::Shows(2, 0, 0), Answer::Byte(0xEE)),
-    (Ask::Does(Call::FlushUnit(0, 0)), DONE),
+    (Ask::Does(Call::FlushPart(0, 0, 0)), DONE),
     (Ask::Shows(2, 0, 0), Answer::Byte(0xEE)),
     (
         Ask::Does(Call::Work(Work::Flush)),
@@ -258,10 +258,10 @@ const ONE_UNIT: [Step; 13] = [
 /// With two disks out no unit is flushed, whether there is one or not.
 const LOST_UNIT: [Step; 5] = [
     (Ask::Does(Call::DiskOut(1)), DONE),
-    (Ask::Does(Call::FlushUnit(1, 0)), DONE),
+    (Ask::Does(Call::FlushPart(1, 0, 0)), DONE),
     (Ask::Does(Call::DiskOut(2)), DONE),
-    (Ask::Does(Call::FlushUnit(0, 0)), BROKEN),
-    (Ask::Does(Call::FlushUnit(2, 0)), BROKEN),
+    (Ask::Does(Call::FlushPart(0, 0, 0)), BROKEN),
+    (Ask::Does(Call::FlushPart(2, 0, 0)), BROKEN),
 ];
 
 #[test]
@@ -271,4 +271,29 @@ fn one_unit_is_flushed_and_no_other(rt: HostRuntime) {
         ..FOUR_GROUPS
     };
     run(&rt, shape, &[&TWO_UNITS, &ONE_UNIT, &LOST_UNIT]);
+}
+
+/// The last block of a unit's first part and the first of its second wait in the cache.
+const TWO_PARTS: [Step; 8] = [
+    (Ask::Does(Call::Make(0, 0, 132)), DONE),
+    (Ask::Does(Call::Write(0, 0, 126, 4, 0xA1)), GOOD),
+    (
+        Ask::Does(Call::FlushPart(0, 0, 0)),
+        Answer::Returns(Return::More(64)),
+    ),
+    (Ask::Home(63), Answer::At(0, 0)),
+    (Ask::Home(64), Answer::Unplaced),
+    (Ask::Does(Call::FlushPart(0, 0, 64)), DONE),
+    (Ask::Home(64), Answer::At(0, 1)),
+    (Ask::Does(Call::FlushPart(0, 0, 128)), DONE),
+];
+
+#[test]
+fn a_unit_is_flushed_in_parts(rt: HostRuntime) {
+    let shape = Shape {
+        extents: 13,
+        cache: 4,
+        ..FOUR_GROUPS
+    };
+    run(&rt, shape, &[&TWO_PARTS]);
 }

@@ -245,7 +245,7 @@ pub fn broken_by(rt: &impl Abort, shape: Shape, ending: Ending) -> Option<Call> 
 
 // The second disk goes before the first one is taken out, in a write after that, and in a read.
 #[test]
-fn a_second_loss_is_told(rt: HostRuntime) {
+fn a_second_loss_is_reported(rt: HostRuntime) {
     for cache in [0, 2] {
         let shape = Shape {
             cache,

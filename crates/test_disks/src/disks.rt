@@ -328,7 +328,7 @@ fn take_all_memory(alloc: Global, held: &mut Vec<Vec<u8>>) {
 }
 
 #[test]
-fn refused_memory_is_told(rt: HostRuntime) -> Result<(), Fail> {
+fn refused_memory_is_reported(rt: HostRuntime) -> Result<(), Fail> {
     let alloc = rt.alloc();
     let mut held = Vec::with_capacity(alloc, 100_000)?;
     take_all_memory(alloc, &mut held);

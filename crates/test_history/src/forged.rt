@@ -54,7 +54,7 @@ const OTHERS: [(u8, u8, Option<u64>); 4] = [
 ];
 
 #[test]
-fn forged_transcripts_are_told(rt: HostRuntime) {
+fn forged_transcripts_are_reported(rt: HostRuntime) {
     plays(&rt, FOUR_GROUPS, Play::Forge);
 }
 

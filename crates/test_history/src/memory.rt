@@ -143,12 +143,12 @@ fn is_no_memory<L: Ledger>(rig: &mut Rig<L>, operation: Operation<FuseDisk>) -> 
 
 fn is_busy<L: Ledger>(rig: &mut Rig<L>, cdb: [u8; 16]) -> bool {
     let served = rig.host(0, 0, cdb, Bytes::new());
-    let is_busy = is_told_busy(&served);
+    let is_busy = is_reported_busy(&served);
     drop(served);
     is_busy
 }
 
-fn is_told_busy(served: &Served) -> bool {
+fn is_reported_busy(served: &Served) -> bool {
     returned_of(&served.reply) == Return::Busy && served.at.is_none()
 }
 

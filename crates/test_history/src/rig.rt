@@ -53,7 +53,7 @@ impl<L: Ledger> Rig<L> {
         self.kept.background(task)
     }
 
-    /// Does an event: a host's command, an operation, a flush of a unit, or work in the background.
+    /// Does an event: a host's command, an operation, a part of a flush, or work in the background.
     pub fn step(&mut self, event: Event<FuseDisk>) -> Outcome<FuseDisk> {
         match event {
             EventOf::Cmd {
@@ -72,7 +72,9 @@ impl<L: Ledger> Rig<L> {
             EventOf::Replace(number, disk) => self.operate(OperationOf::Replace(number, disk)),
             EventOf::DiskOut(number) => self.operate(OperationOf::DiskOut(number)),
             EventOf::Flush => self.background(Task::Flush),
-            EventOf::FlushUnit(unit) => OutcomeOf::FlushUnit(self.kept.flush_unit(unit)),
+            EventOf::FlushPart(unit, first) => {
+                OutcomeOf::FlushPart(self.kept.flush_part(unit, first))
+            }
             EventOf::Rebuild => self.background(Task::Rebuild),
             EventOf::Clean => self.background(Task::Clean),
             EventOf::Balance => self.background(Task::Balance),

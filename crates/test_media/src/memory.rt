@@ -103,7 +103,7 @@ fn a_failed_sync_closes(rt: HostRuntime) -> Result<(), AllocError> {
 }
 
 #[test]
-fn crashes_leave_what_they_are_told_to(rt: HostRuntime) -> Result<(), AllocError> {
+fn crashes_leave_what_they_are_reported_to(rt: HostRuntime) -> Result<(), AllocError> {
     let mut file = file_of(&rt, b"")?;
     play(&rt, &mut file, &PENDING);
     for (fates, bytes) in CRASHES {

@@ -484,7 +484,7 @@ fn a_broken_shelf_leaves_the_entries(rt: HostRuntime) -> Result<(), Fail> {
 }
 
 #[test]
-fn a_broken_shelf_is_told_where_nothing_is_cached(rt: HostRuntime) -> Result<(), Fail> {
+fn a_broken_shelf_is_reported_where_nothing_is_cached(rt: HostRuntime) -> Result<(), Fail> {
     run(
         &rt,
         Setup {

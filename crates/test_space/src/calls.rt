@@ -144,7 +144,7 @@ fn seen(rt: &impl Abort, book: &Book, call: Call) -> Answer {
         Call::GroupAt(place) => some_number(book.group_at(place)),
         Call::Hole(class) => slot(book.hole(class, &mut Steps::new())),
         Call::KeyAt(group, slot) => block(book.key_at(Slot { group, slot })),
-        Call::OldestMirrored => block(book.oldest_mirrored(&mut Steps::new())),
+        Call::OldestMirrored => block(book.oldest_mirrored()),
         Call::SectorsOfABlock => number(book.geometry().sectors()),
         Call::Room => number(book.room()),
         Call::Units => Answer::Number(book.units() as u64),

@@ -218,7 +218,7 @@ fn check_free(rt: &impl Abort, book: &Book, event: u32) {
 }
 
 fn check_oldest(rt: &impl Abort, book: &Book, event: u32) {
-    let oldest = book.oldest_mirrored(&mut Steps::new());
+    let oldest = book.oldest_mirrored();
     let wanted = plain_oldest(book);
     assert!(rt;
         oldest == wanted,

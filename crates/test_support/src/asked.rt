@@ -17,7 +17,7 @@ pub fn event_of<N>(ask: Ask) -> Result<EventOf<N>, AllocError> {
         Ask::Make(place, sectors) => EventOf::Make(unit_at(place), sectors),
         Ask::Remove(place) => EventOf::Remove(unit_at(place)),
         Ask::Grow(place, sectors) => EventOf::Grow(unit_at(place), sectors),
-        Ask::FlushUnit(place) => EventOf::FlushUnit(unit_at(place)),
+        Ask::FlushUnit(place) => EventOf::FlushPart(unit_at(place), 0),
         Ask::Work(work) => event_of_work(work),
         Ask::Command(command) => event_of_command(command)?,
         Ask::Unmap(place, lba, count) => EventOf::Unmap(unit_at(place), lba, count),

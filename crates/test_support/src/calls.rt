@@ -3,7 +3,7 @@ use crate::asked::event_of_work;
 use crate::draw::Work;
 use crate::shape::Shape;
 use ar_core::{
-    Balance, Event, EventOf, Flush, Move, OutcomeOf, Rebuild, Refusal, UnitFlush, UnitRefusal,
+    Balance, Event, EventOf, Flush, Move, OutcomeOf, PartFlush, Rebuild, Refusal, UnitRefusal,
 };
 use ar_disks::{Addr, FuseDisk, Host};
 use ar_scsi::{Reply, Sense, Status, sense18};
@@ -19,8 +19,8 @@ pub enum Call {
     Grow(u8, u8, u32),
     /// Deletes it.
     Remove(u8, u8),
-    /// Destages its cached blocks.
-    FlushUnit(u8, u8),
+    /// Destages those of 64 of its blocks that are cached, from a block on.
+    FlushPart(u8, u8, u32),
     /// WRITE (10): address, sectors, and the byte of all of them.
     Write(u8, u8, u8, u8, u8),
     /// The same with FORCE UNIT ACCESS.
@@ -43,8 +43,10 @@ pub enum Call {
 /// What a call returns.
 #[derive(Clone, Copy, Debug, PartialEq, Eq)]
 pub enum Return {
-    /// A unit or a disk is changed, or a unit's blocks are on the disks.
+    /// A unit or a disk is changed, or a unit's last part is on the disks.
     Done,
+    /// A part of a unit is on the disks, and the next begins at this block.
+    More(u32),
     Refused(Refusal),
     /// GOOD, without bytes.
     Good,
@@ -97,7 +99,7 @@ pub fn event(alloc: Global, shape: Shape, call: Call) -> Result<Event<FuseDisk>,
         Call::Make(host, lun, sectors) => EventOf::Make(unit_of(host, lun), sectors),
         Call::Grow(host, lun, sectors) => EventOf::Grow(unit_of(host, lun), sectors),
         Call::Remove(host, lun) => EventOf::Remove(unit_of(host, lun)),
-        Call::FlushUnit(host, lun) => EventOf::FlushUnit(unit_of(host, lun)),
+        Call::FlushPart(host, lun, first) => EventOf::FlushPart(unit_of(host, lun), first),
         Call::Unmap(host, lun, lba, count) => EventOf::Unmap(unit_of(host, lun), lba, count),
         Call::Work(work) => event_of_work(work),
         Call::AddDisk => EventOf::AddDisk(shape.new_disk(alloc, u64::MAX)?),
@@ -172,7 +174,7 @@ pub fn returned<N>(outcome: &OutcomeOf<N>) -> Return {
             Err((refusal, _)) => Return::Refused(*refusal),
         },
         OutcomeOf::Flush(flush) => flushed(*flush),
-        OutcomeOf::FlushUnit(flush) => unit_flushed(*flush),
+        OutcomeOf::FlushPart(flush) => part_flushed(*flush),
         OutcomeOf::Demote(moved) | OutcomeOf::Clean(moved) => moved_to(*moved),
         OutcomeOf::Balance(balance) => Return::Balance(*balance),
         OutcomeOf::Rebuild(rebuild) => Return::Rebuild(*rebuild),
@@ -190,11 +192,12 @@ fn flushed(flush: Flush) -> Return {
     }
 }
 
-fn unit_flushed(flush: UnitFlush) -> Return {
+fn part_flushed(flush: PartFlush) -> Return {
     match flush {
-        UnitFlush::Done => Return::Done,
-        UnitFlush::Absent => Return::Refused(Refusal::Unit(UnitRefusal::Absent)),
-        UnitFlush::Broken => Return::Broken,
+        PartFlush::Done => Return::Done,
+        PartFlush::More(next) => Return::More(next),
+        PartFlush::Absent => Return::Refused(Refusal::Unit(UnitRefusal::Absent)),
+        PartFlush::Broken => Return::Broken,
     }
 }
 

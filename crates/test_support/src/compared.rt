@@ -1,7 +1,7 @@
 // An array's answers beside those of the model.
 use crate::answer::{Answer, PlainReply, Refused};
 use crate::kinds::Kind;
-use ar_core::{Balance, Flush, Move, OutcomeOf, Rebuild, Refusal, UnitFlush, UnitRefusal};
+use ar_core::{Balance, Flush, Move, OutcomeOf, PartFlush, Rebuild, Refusal, UnitRefusal};
 use ar_scsi::{Reply, Status};
 
 /// Whether an array returned what plain lists did. Maintenance may do anything but lose data or run out of memory.
@@ -13,9 +13,9 @@ pub fn agrees<N>(outcome: &OutcomeOf<N>, wanted: &Answer) -> bool {
             OutcomeOf::Make(done) | OutcomeOf::Grow(done) | OutcomeOf::Remove(done),
             Answer::Refused(refused),
         ) => *done == Err(refusal(*refused)),
-        (OutcomeOf::FlushUnit(flush), Answer::Flushed) => *flush == UnitFlush::Done,
-        (OutcomeOf::FlushUnit(flush), Answer::Refused(Refused::Absent)) => *flush
-            == UnitFlush::Absent,
+        (OutcomeOf::FlushPart(flush), Answer::Flushed) => *flush == PartFlush::Done,
+        (OutcomeOf::FlushPart(flush), Answer::Refused(Refused::Absent)) => *flush
+            == PartFlush::Absent,
         (OutcomeOf::Cmd(reply) | OutcomeOf::Unmap(reply), Answer::Replied(wanted)) => is_same(
             reply, wanted,
         ),

@@ -22,7 +22,7 @@ pub enum Ask {
     Remove(Place),
     /// A unit grows to this many sectors.
     Grow(Place, u32),
-    /// A unit's cached blocks are destaged.
+    /// A unit's cached blocks are destaged: all, since no unit that is drawn has more than one part.
     FlushUnit(Place),
     Work(Work),
     Command(Command),

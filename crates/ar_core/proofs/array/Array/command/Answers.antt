@@ -4,7 +4,7 @@ use Rattle.ar_scsi.specs.Field.{operation_code}
 use Rattle.ar_book.specs.Tables.{has_unit}
 use Rattle.ar_volume.specs.Image.{ArrayState, attention_at}
 use Rattle.ar_volume.specs.Seen.{IsUnit}
-use Rattle.ar_core.proofs.Commanding.{tells, commands_served, commands_told, commands_absent}
+use Rattle.ar_core.proofs.Commanding.{tells, commands_served, commands_reported, commands_absent}
 use Rattle.ar_core.proofs.array.Array.command.Goals as goal
 use Rattle.ar_core.proofs.array.Array.command.Goals.{else-attention-via-then-attention+else-not-is_inquiry}
 use Rattle.ar_core.proofs.array.Array.command.Goals.{else-attention-via-else-attention}
@@ -22,10 +22,10 @@ returns-then-not-is_inquiry g c =
     ap (λ (s : ArrayState). attention_at s.store.book c.args.addr) (sym c.self.view_is) ∙ sym c.attention.ensures
     ∙ c.if-attention.true in
     let other : (operation_code c.args.cdb.now == 0x12) ≡ false = sym c.is_inquiry.ensures ∙ c.if-not-is_inquiry.true in
-    commands_told c.args.self.now c.tell_growth.new.self c.args.addr c.in-Some.sectors c.args.cdb.now c.args.bytes.now
+    commands_reported c.args.self.now c.tell_growth.new.self c.args.addr c.in-Some.sectors c.args.cdb.now c.args.bytes.now
     c.tell_growth.result unit
     (ap (λ (b : Bool). b && not (operation_code c.args.cdb.now == 0x12)) mark ∙ ap not other)
-    c.tell_growth.ensures.told c.tell_growth.ensures.cleared c.tell_growth.ensures.seen
+    c.tell_growth.ensures.reported_to c.tell_growth.ensures.cleared c.tell_growth.ensures.seen
 
 pub returns : goal.returns
 returns g c =

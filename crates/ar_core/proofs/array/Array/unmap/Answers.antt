@@ -2,7 +2,7 @@ use Rattle.std.proofs.Common.{◌≡◌, true, false, sym, subst, ap, ◌∙◌}
 use Rattle.ar_book.specs.Tables.{has_unit}
 use Rattle.ar_volume.specs.Image.{ArrayState, attention_at}
 use Rattle.ar_volume.specs.Seen.{IsUnit}
-use Rattle.ar_core.proofs.Unmapping.{steps_unmapped, unmaps_served, unmaps_told, unmaps_absent}
+use Rattle.ar_core.proofs.Unmapping.{steps_unmapped, unmaps_served, unmaps_reported, unmaps_absent}
 use Rattle.ar_core.proofs.array.Array.unmap.Goals as goal
 
 pub returns-in_default : goal.returns-in_default
@@ -19,8 +19,8 @@ returns-then-attention g c =
     ap (λ (s : ArrayState). attention_at s.store.book c.args.addr) (sym c.self.view_is) ∙ sym c.attention.ensures
     ∙ c.if-attention.true in
     steps_unmapped c.args.self.now c.tell_growth.new.self c.args.addr c.args.lba c.args.count c.tell_growth.result
-    (unmaps_told c.args.self.now c.tell_growth.new.self c.args.addr c.in-Some.sectors c.args.lba c.args.count
-    c.tell_growth.result unit mark c.tell_growth.ensures.told c.tell_growth.ensures.cleared c.tell_growth.ensures.seen)
+    (unmaps_reported c.args.self.now c.tell_growth.new.self c.args.addr c.in-Some.sectors c.args.lba c.args.count
+    c.tell_growth.result unit mark c.tell_growth.ensures.reported_to c.tell_growth.ensures.cleared c.tell_growth.ensures.seen)
 
 pub returns : goal.returns
 returns g c =

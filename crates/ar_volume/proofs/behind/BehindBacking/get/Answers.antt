@@ -5,7 +5,7 @@ use Rattle.ar_cache.specs.Backing.{stored}
 use Rattle.ar_store.proofs.Accesses.{get_accessed, get_keeps}
 use Rattle.ar_volume.specs.declared.behind.Behind.{Behind}
 use Rattle.ar_volume.proofs.Breaking.{not_broken}
-use Rattle.ar_volume.proofs.Seeing.{heard, keeps_store, done_told, units_same}
+use Rattle.ar_volume.proofs.Seeing.{heard, keeps_store, done_reported, units_same}
 use Rattle.ar_volume.proofs.behind.BehindBacking.get.Goals as goal
 
 pub returns : goal.returns
@@ -15,7 +15,7 @@ returns g c =
     let got = c.get.ensures in
     let answer : c.get.result ≡ stored (is_broken_set new.disks.health) = got.outcome ∙ heard new.disks.health in
     let sound = λ (done : c.get.result ≡ Done). not_broken new.disks.health
-    (done_told (is_broken_set new.disks.health) (sym done ∙ answer)) in
+    (done_reported (is_broken_set new.disks.health) (sym done ∙ answer)) in
     record {
       answer = answer;
       content = got.given;

@@ -1,0 +1,13 @@
+use Rattle.std.proofs.Common.{◌≡◌, List, subst, ◌∙◌}
+use Rattle.ar_history.specs.declared.entry.Entry.{Entry}
+use Rattle.ar_history.specs.Kept.{HistoryAgrees}
+use Rattle.ar_history.proofs.kept.Kept.flush_part.Goals as goal
+
+pub invariant_of-self : goal.invariant_of-self
+invariant_of-self g c =
+    let same : c.flush_part.new.self.history ≡ c.self.inside.history.items =
+    c.flush_part.ensures.history ∙ c.self.invariant.2 in (
+      subst (λ (l : List Entry). HistoryAgrees c.flush_part.new.self.array l) same c.flush_part.ensures.kept.after,
+      c.self.invariant.1,
+      same,
+    )
