@@ -11,7 +11,7 @@ use std::process::ExitCode;
 pub trait ExitStatus: Display {
     ghost status_of: { Self → ℕ };
 
-    /// 2 for a bad command line, 1 for any other failure.
+    /// 2 for a bad command line, 1 for any failure that has no status of its own (OPERATING, *Its messages*).
     fn status(&self) -> u8
         ensures { result ≡ status_of self.now };
 }

@@ -7,7 +7,7 @@ use crate::command::{Parsed, parse};
 use crate::fault::{UsageFault, bad_value};
 use crate::operator::{OperatorDoor, door_named};
 use ar_cli::CommandLineFault;
-use ar_disks::{Addr, Geometry, Host};
+use ar_disks::{Addr, Geometry, Host, MAX_LUN};
 use ar_numbers::{number, sectors};
 use clap::ArgMatches;
 use clap::parser::ValueSource;
@@ -289,7 +289,7 @@ fn place_named(word: &str) -> Option<Addr> {
     let (host, lun) = word.split_once(':')?;
     let host = Host::new(u8::try_from(number(host)?).ok()?)?;
     let lun = u8::try_from(number(lun)?).ok()?;
-    if lun > 7 {
+    if lun > MAX_LUN {
         return None;
     }
     Some(Addr { host, lun })

@@ -7,8 +7,8 @@ ghost use Rattle.ar_extents.specs.Set.{CanCount};
 ghost use Rattle.ar_history.specs.History.{is_command};
 ghost use Rattle.ar_history.specs.Kept.{HistoryAgrees};
 ghost use Rattle.ar_history.specs.Seat.{SeatState};
-ghost use Rattle.ar_history.specs.Served.{AnswersCommand, DestagesUnit, DiscardsSectors, Maintains, Operates};
-ghost use Rattle.ar_history.specs.Served.{acknowledges, asks_commit};
+ghost use Rattle.ar_history.specs.Served.{AnswersCommand, DestagesPart, DiscardsSectors, Maintains, Operates};
+ghost use Rattle.ar_history.specs.Served.{acknowledges, after_refusal, asks_commit};
 ghost use Rattle.ar_durable.specs.Durable.{AreRecords};
 ghost use Rattle.ar_durable.specs.Store.{Lasts};
 
@@ -20,7 +20,7 @@ use crate::records::{
 use crate::sharing::Sharing;
 use ar_checkpoint::CheckpointError;
 use ar_compaction::{MAX_NAME, StoreHead};
-use ar_core::{Array, NewDisk, Outcome, UnitFlush};
+use ar_core::{Array, NewDisk, Outcome, PartFlush};
 use ar_disks::{Addr, Disk, Host};
 use ar_history::{
     CountedArray, Counts, LiveArray, OperationOf, Seat, StoreState, StoreStatus, Task,
@@ -177,6 +177,13 @@ impl<'a, D: Disk, L: Ledger, M: Media, R> DurableArray<'a, D, L, M, R> {
         self.counted.lend_memory(memory);
     }
 
+    /// Counts a reply BUSY to a command of `host` that isn't executed (`CountedArray::count_refusal`).
+    pub fn count_refusal(&mut self, host: Host, cdb: &[u8; 16])
+        ensures { self.new ≡ record self.old { kept = after_refusal self.old.kept host.number cdb.now } }
+    {
+        self.counted.count_refusal(host, cdb);
+    }
+
     /// Compares a seat with the ledger (`CountedArray::audit_seat`).
     pub fn audit_seat(&mut self, seat: &mut Seat<L>)
         ensures same { self.new ≡ self.old }
@@ -305,11 +312,11 @@ impl<'a, D: Disk + Drop, L: Ledger, M: Media, R> DurableArray<'a, D, L, M, R> {
         self.counted.background(task)
     }
 
-    /// Destages all cached blocks of a unit. Only a commit makes them last.
-    pub fn flush_unit(&mut self, addr: Addr) -> UnitFlush
-        ensures { DestagesUnit self.old.kept addr result self.new.kept }
+    /// Destages those of 64 blocks of a unit that are cached, from block `first` on. Only a commit makes them last.
+    pub fn flush_part(&mut self, addr: Addr, first: u32) -> PartFlush
+        ensures { DestagesPart self.old.kept addr first result self.new.kept }
     {
-        self.counted.flush_unit(addr)
+        self.counted.flush_part(addr, first)
     }
 
     /// Discards `count` sectors of a host's LUN from `lba` on as `CountedArray::discard` does, and notes it.

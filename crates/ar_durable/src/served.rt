@@ -4,7 +4,7 @@ ghost use Rattle.ar_extents.specs.Set.{CanCount};
 ghost use Rattle.ar_history.specs.Served.{Operates};
 
 use crate::DurableArray;
-use ar_core::{Allocation, Array, Outcome, UnitFlush};
+use ar_core::{Allocation, Array, Outcome, PartFlush};
 use ar_disks::{Addr, Disk, Host};
 use ar_history::{Counts, OperableArray, Seat, ServedArray, StoreStatus, Task, is_idle};
 use ar_media::Media;
@@ -63,6 +63,10 @@ impl<'a, D: Disk + Drop, L: Ledger, M: Media + Drop, R: Clock + Log> ServedArray
         self.host(seat, lun, *cdb, payload)
     }
 
+    fn count_refusal(&mut self, host: Host, cdb: &[u8; 16]) {
+        DurableArray::count_refusal(self, host, cdb);
+    }
+
     fn audit_seat(&mut self, seat: &mut Seat<L>) {
         DurableArray::audit_seat(self, seat);
     }
@@ -90,8 +94,8 @@ impl<'a, D: Disk + Drop, L: Ledger, M: Media + Drop, R: Clock + Log> ServedArray
         !is_idle(&outcome)
     }
 
-    fn flush_unit(&mut self, addr: Addr) -> UnitFlush {
-        DurableArray::flush_unit(self, addr)
+    fn flush_part(&mut self, addr: Addr, first: u32) -> PartFlush {
+        DurableArray::flush_part(self, addr, first)
     }
 
     fn discard(&mut self, host: Host, lun: u8, lba: u64, count: u32) -> Reply {

@@ -89,14 +89,14 @@ unsent_stage BadLogin = refl
 unsent_stage HostInUse = refl
 
 -- a whole login was answered, or its answer couldn't be written
-pub told : {P : Type 0} (logins : Logins P) (commands : Commands P) (source source' : SourceState)
+pub reported_as : {P : Type 0} (logins : Logins P) (commands : Commands P) (source source' : SourceState)
     (sink sink' : SinkState) (port port' : P)
     (login : List ℕ) (admission : Admission) (entry : LoginResult) → Reading source source' login false
     → Opening logins port login (greeting_of admission ∷ []) (stage_of admission) port'
     → ((host : Host) → admission ≡ Admitted host → Names host login) → ReportsAdmission sink sink' admission entry
     → Enters logins commands source source' sink sink' port port' entry
 unfolding no_frames
-told logins commands source source' sink sink' port port' login admission (LoginAdmitted host) read opening named
+reported_as logins commands source source' sink sink' port port' login admission (LoginAdmitted host) read opening named
     tells = record {
       login = login;
       names = named host tells.0;
@@ -105,7 +105,7 @@ told logins commands source source' sink sink' port port' login admission (Login
       read = read;
       written = tells.1;
     }
-told logins commands source source' sink sink' port port' login admission (LoginEnded reason.BadLogin) read opening
+reported_as logins commands source source' sink sink' port port' login admission (LoginEnded reason.BadLogin) read opening
     named tells = record {
       stage = refused;
       login = login;
@@ -122,7 +122,7 @@ told logins commands source source' sink sink' port port' login admission (Login
       ended = tt;
       written = tells.1;
     }
-told logins commands source source' sink sink' port port' login admission (LoginEnded reason.HostInUse) read opening
+reported_as logins commands source source' sink sink' port port' login admission (LoginEnded reason.HostInUse) read opening
     named tells = record {
       stage = in_use;
       login = login;
@@ -139,7 +139,7 @@ told logins commands source source' sink sink' port port' login admission (Login
       ended = tt;
       written = tells.1;
     }
-told logins commands source source' sink sink' port port' login admission (LoginEnded reason.Write) read opening named
+reported_as logins commands source source' sink sink' port port' login admission (LoginEnded reason.Write) read opening named
     tells = record {
       stage = stage_of admission;
       login = login;
@@ -158,17 +158,17 @@ told logins commands source source' sink sink' port port' login admission (Login
           let whole : length (greeting ++ []) ≤ 0 + length greeting = omega (arith, ap length (append-nil greeting)) in
           record { part = record { n = 0; proper = omega arith; written = tells }; whole = whole };
     }
-told logins commands source source' sink sink' port port' login admission (LoginEnded reason.End) read opening named
+reported_as logins commands source source' sink sink' port port' login admission (LoginEnded reason.End) read opening named
     tells = absurd tells
-told logins commands source source' sink sink' port port' login admission (LoginEnded (reason.TooShort n)) read opening
+reported_as logins commands source source' sink sink' port port' login admission (LoginEnded (reason.TooShort n)) read opening
     named tells = absurd tells
-told logins commands source source' sink sink' port port' login admission (LoginEnded (reason.TooLong n)) read opening
+reported_as logins commands source source' sink sink' port port' login admission (LoginEnded (reason.TooLong n)) read opening
     named tells = absurd tells
-told logins commands source source' sink sink' port port' login admission (LoginEnded reason.Cut) read opening named
+reported_as logins commands source source' sink sink' port port' login admission (LoginEnded reason.Cut) read opening named
     tells = absurd tells
-told logins commands source source' sink sink' port port' login admission (LoginEnded reason.Read) read opening named
+reported_as logins commands source source' sink sink' port port' login admission (LoginEnded reason.Read) read opening named
     tells = absurd tells
-told logins commands source source' sink sink' port port' login admission (LoginEnded reason.Bound) read opening named
+reported_as logins commands source source' sink sink' port port' login admission (LoginEnded reason.Bound) read opening named
     tells = absurd tells
 
 -- what the port said of a login of the right name

@@ -24,9 +24,10 @@ reads_frame_front a b c base front request first rest = record {
 pub receives_front : (a b c : SourceState) (base front : List ℕ) (incoming : Incoming) → Reading a b front false
     → Receives (base ++ front) b c incoming → Receives base a c incoming
 receives_front a b c base front (Whole request) first rest = reads_frame_front a b c base front request first rest
-receives_front a b c base front (Lost tag) first rest = record {
+receives_front a b c base front (Lost tag cdb) first rest = record {
   request = rest.request;
   tag_is = rest.tag_is;
+  cdb_is = rest.cdb_is;
   some = rest.some;
   reads = reads_frame_front a b c base front rest.request first rest.reads;
 }

@@ -13,7 +13,7 @@ use Rattle.ar_frames.specs.Frame.{IsFrame, IsReplyFrame, status_byte, sense_byte
 use Rattle.ar_frames.specs.Conversation.{Commands, RepliesTo, RepliesToAll, AreFrames, AreReplyFrames, Conversation}
 use Rattle.ar_frames.specs.Conversation.{reply_len, last_len}
 use Rattle.ar_frames.specs.Observer.{Announces, Reports}
-use Rattle.ar_frames.specs.Port.{Logins}
+use Rattle.ar_frames.specs.Port.{CommandRefusals, Logins}
 use Rattle.ar_frames.specs.Session.{admitted, most_frames, is_read_fault, WritesAnswers, WritesPart, WritesAllButLast}
 use Rattle.ar_frames.specs.Session.{Session}
 use Rattle.ar_frames.specs.FrameStep.{ServesFrame, EndsStep, Served, ServesAll, Moment, StepsTo}
@@ -100,10 +100,11 @@ served_none commands source sink port = record {
 }
 
 -- one more frame was served
-pub served_more : {P O : Type 0} {n0 n1 : ℕ} {announces : Announces O} {reports : Reports O} {host : Host}
-    {o0 o1 : O} (commands : Commands P) (s0 s1 s2 : SourceState) (w0 w1 w2 : SinkState) (p0 p1 p2 : P) (count : ℕ)
+pub served_more : {P O : Type 0} {n0 n1 : ℕ} {refuses : CommandRefusals P} {announces : Announces O}
+    {reports : Reports O} {host : Host} {o0 o1 : O} (commands : Commands P) (s0 s1 s2 : SourceState)
+    (w0 w1 w2 : SinkState) (p0 p1 p2 : P) (count : ℕ)
     → Served commands s0 s1 w0 w1 p0 p1 count
-    → ServesFrame commands announces reports host s1 s2 w1 w2 p1 p2 o0 o1 n0 n1 Answered
+    → ServesFrame commands refuses announces reports host s1 s2 w1 w2 p1 p2 o0 o1 n0 n1 Answered
     → Served commands s0 s2 w0 w2 p0 p2 (count + 1)
 served_more commands s0 s1 s2 w0 w1 w2 p0 p1 p2 count served step = record {
   frames = served.frames ++ step.reads.body;
@@ -179,10 +180,11 @@ last_len_grows len [] = omega arith
 last_len_grows len (r ∷ rs) = le_refl (last_len (reply_len r) rs)
 
 -- the reply to the last frame wasn't written whole
-pub serves_unsent : {P O : Type 0} {n0 n1 : ℕ} {announces : Announces O} {reports : Reports O} {host : Host}
-    {o0 o1 : O} (commands : Commands P) (s0 s1 s2 : SourceState) (w0 w1 w2 : SinkState) (p0 p1 p2 : P) (count : ℕ)
+pub serves_unsent : {P O : Type 0} {n0 n1 : ℕ} {refuses : CommandRefusals P} {announces : Announces O}
+    {reports : Reports O} {host : Host} {o0 o1 : O} (commands : Commands P) (s0 s1 s2 : SourceState)
+    (w0 w1 w2 : SinkState) (p0 p1 p2 : P) (count : ℕ)
     → Served commands s0 s1 w0 w1 p0 p1 count → count < most_frames
-    → ServesFrame commands announces reports host s1 s2 w1 w2 p1 p2 o0 o1 n0 n1 Unsent
+    → ServesFrame commands refuses announces reports host s1 s2 w1 w2 p1 p2 o0 o1 n0 n1 Unsent
     → ServesAll commands s0 s2 w0 w2 p0 p2 (record { frames = count + 1; reason = reason.Write })
 unfolding part_after conversation_more
 serves_unsent commands s0 s1 s2 w0 w1 w2 p0 p1 p2 count served below step = record {
@@ -250,40 +252,43 @@ serves_bound commands s0 s1 w0 w1 p0 p1 count served all = record {
 }
 
 -- one more frame was answered
-pub stepped_more : {P O : Type 0} (commands : Commands P) (announces : Announces O) (reports : Reports O) (host : Host)
-    (count : ℕ) (first between last : Moment P O)
-    → HasStepped commands announces reports host count first between
-    → StepsTo commands announces reports host between last Answered
-    → HasStepped commands announces reports host (count + 1) first last
-stepped_more commands announces reports host count first between last stepped step =
-    subst (λ n. HasStepped commands announces reports host n first last) (suc-eq-add-one count) (between, stepped, step)
+pub stepped_more : {P O : Type 0} (commands : Commands P) (refuses : CommandRefusals P) (announces : Announces O)
+    (reports : Reports O) (host : Host) (count : ℕ) (first between last : Moment P O)
+    → HasStepped commands refuses announces reports host count first between
+    → StepsTo commands refuses announces reports host between last Answered
+    → HasStepped commands refuses announces reports host (count + 1) first last
+stepped_more commands refuses announces reports host count first between last stepped step =
+    subst (λ n. HasStepped commands refuses announces reports host n first last) (suc-eq-add-one count)
+    (between, stepped, step)
 
 -- as many frames as may come were answered in turn
-pub steps_full : {P O : Type 0} (commands : Commands P) (announces : Announces O) (reports : Reports O) (host : Host)
-    (count : ℕ) (first last : Moment P O)
-    → HasStepped commands announces reports host count first last → count ≡ most_frames
-    → RunsInSteps commands announces reports host first last (record { frames = most_frames; reason = reason.Bound })
-steps_full commands announces reports host count first last stepped all =
-    subst (λ (n : ℕ). RunsInSteps commands announces reports host first last
+pub steps_full : {P O : Type 0} (commands : Commands P) (refuses : CommandRefusals P) (announces : Announces O)
+    (reports : Reports O) (host : Host) (count : ℕ) (first last : Moment P O)
+    → HasStepped commands refuses announces reports host count first last → count ≡ most_frames
+    → RunsInSteps commands refuses announces reports host first last
+    (record { frames = most_frames; reason = reason.Bound })
+steps_full commands refuses announces reports host count first last stepped all =
+    subst (λ (n : ℕ). RunsInSteps commands refuses announces reports host first last
     (record { frames = n; reason = reason.Bound })) all
     (record { count = count; between = last; answered = stepped; finish = full all refl })
 
 -- the reply to the last frame wasn't written whole
-pub steps_unsent : {P O : Type 0} (commands : Commands P) (announces : Announces O) (reports : Reports O) (host : Host)
-    (count : ℕ) (first between last : Moment P O)
-    → HasStepped commands announces reports host count first between
-    → StepsTo commands announces reports host between last Unsent
-    → RunsInSteps commands announces reports host first last (record { frames = count + 1; reason = reason.Write })
-steps_unsent commands announces reports host count first between last stepped step =
+pub steps_unsent : {P O : Type 0} (commands : Commands P) (refuses : CommandRefusals P) (announces : Announces O)
+    (reports : Reports O) (host : Host) (count : ℕ) (first between last : Moment P O)
+    → HasStepped commands refuses announces reports host count first between
+    → StepsTo commands refuses announces reports host between last Unsent
+    → RunsInSteps commands refuses announces reports host first last
+    (record { frames = count + 1; reason = reason.Write })
+steps_unsent commands refuses announces reports host count first between last stepped step =
     record { count = count; between = between; answered = stepped; finish = unsent step }
 
 -- no whole frame came after those answered
-pub steps_stopped : {P O : Type 0} (commands : Commands P) (announces : Announces O) (reports : Reports O) (host : Host)
-    (count : ℕ) (end : EndReason) (first between last : Moment P O)
-    → HasStepped commands announces reports host count first between
-    → StepsTo commands announces reports host between last (ResultEnded end)
-    → RunsInSteps commands announces reports host first last (record { frames = count; reason = end })
-steps_stopped commands announces reports host count end first between last stepped step =
+pub steps_stopped : {P O : Type 0} (commands : Commands P) (refuses : CommandRefusals P) (announces : Announces O)
+    (reports : Reports O) (host : Host) (count : ℕ) (end : EndReason) (first between last : Moment P O)
+    → HasStepped commands refuses announces reports host count first between
+    → StepsTo commands refuses announces reports host between last (ResultEnded end)
+    → RunsInSteps commands refuses announces reports host first last (record { frames = count; reason = end })
+steps_stopped commands refuses announces reports host count end first between last stepped step =
     record { count = count; between = between; answered = stepped; finish = stopped end step }
 
 -- a login after which the reader's limit was lifted

@@ -9,7 +9,7 @@ use Rattle.ar_frames.specs.Frame.{IsFrame, IsReplyFrame, sense_bytes}
 abbrev pub Commands : Type 0 → Type 1
 Commands P = P → ℕ → List ℕ → List ℕ → Reply → P → Type 0
 
--- one reply: the port's, or BUSY without the port, which only a request with data gets
+-- one reply: the port's to the command, or BUSY from a port that stays as it is, which only a request with data gets
 abbrev pub RepliesTo : {P : Type 0} → Commands P → P → Request → Reply → P → Type 0
 RepliesTo commands old request reply new =
     commands old request.lun request.cdb request.payload reply new

@@ -11,7 +11,7 @@ use Rattle.ar_frames.specs.Stream.{SourceState, SinkState, Reading, Writing}
 use Rattle.ar_frames.specs.Conversation.{Commands}
 use Rattle.ar_frames.specs.FrameStep.{RunsObserved}
 use Rattle.ar_frames.specs.Observer.{Announces, Reports}
-use Rattle.ar_frames.specs.Port.{Logins}
+use Rattle.ar_frames.specs.Port.{CommandRefusals, Logins}
 use Rattle.ar_frames.specs.Session.{Stage, refused, in_use, admitted, login_bytes, Opening, Session}
 
 -- the stage that an admission leads to
@@ -63,22 +63,22 @@ pub record IsAdmitted {P : Type 0} (host : Host) (logins : Logins P) (source sou
 
 -- An observed session: the login of a host was accepted, and after it each command was announced with its number, the
 -- first one with 1, before it was executed, and reported with it once its reply was written or its write had faulted.
-pub record IsObserved {P O : Type 0} (logins : Logins P) (commands : Commands P) (announces : Announces O)
-    (reports : Reports O) (source source' : SourceState) (sink sink' : SinkState) (port port' : P)
-    (observer observer' : O) (end : SessionEnd) : Type 0 where
+pub record IsObserved {P O : Type 0} (logins : Logins P) (commands : Commands P) (refuses : CommandRefusals P)
+    (announces : Announces O) (reports : Reports O) (source source' : SourceState) (sink sink' : SinkState)
+    (port port' : P) (observer observer' : O) (end : SessionEnd) : Type 0 where
   pub host : Host
   pub source_mid : SourceState
   pub sink_mid : SinkState
   pub port_mid : P
   pub entry : IsAdmitted host logins source source_mid sink sink_mid port port_mid
-  pub runs : RunsObserved commands announces reports host source_mid source' sink_mid sink' port_mid port' observer
-      observer' end
+  pub runs : RunsObserved commands refuses announces reports host source_mid source' sink_mid sink' port_mid port'
+      observer observer' end
 
 -- the same, or no login was accepted, no frame read, and the observer not called
-abbrev pub ObservesSession : {P O : Type 0} → Logins P → Commands P → Announces O → Reports O → SourceState
-    → SourceState → SinkState → SinkState → P → P → O → O → SessionEnd → Type 0
-ObservesSession logins commands announces reports source source' sink sink' port port' observer observer' end =
-    IsObserved logins commands announces reports source source' sink sink' port port' observer observer' end
+abbrev pub ObservesSession : {P O : Type 0} → Logins P → Commands P → CommandRefusals P → Announces O → Reports O
+    → SourceState → SourceState → SinkState → SinkState → P → P → O → O → SessionEnd → Type 0
+ObservesSession logins commands refuses announces reports source source' sink sink' port port' observer observer' end =
+    IsObserved logins commands refuses announces reports source source' sink sink' port port' observer observer' end
     ⊎ ((end.frames ≡ 0) × (observer' ≡ observer))
 
 -- the login was accepted, or the session has ended without a frame

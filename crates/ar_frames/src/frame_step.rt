@@ -11,7 +11,6 @@ use crate::receive::{Incoming, receive};
 use crate::reply::send_reply;
 use crate::stream::{Sink, Source};
 use ar_disks::Host;
-use ar_scsi::Reply;
 use std::alloc::Global;
 
 // The result of a step.
@@ -52,7 +51,7 @@ pub(crate) fn serve_frame<R: Source, W: Sink, P: Port, O: Observer>(
 ) -> FrameResult
     requires logged { P.has_login port.old ≡ true }
     requires room { state.old.given < 2 ^ 63 }
-    ensures step { FrameStep P.commands O.announces O.reports host (R.state reader.old) (R.state reader.new)
+    ensures step { FrameStep P.commands P.refuses O.announces O.reports host (R.state reader.old) (R.state reader.new)
         (W.state writer.old) (W.state writer.new) port.old port.new observer.old observer.new
         state.old.given
         state.new.given
@@ -62,7 +61,7 @@ pub(crate) fn serve_frame<R: Source, W: Sink, P: Port, O: Observer>(
 {
     match receive(alloc, reader) {
         Incoming::Whole(request) => answer(writer, port, observer, host, state, request),
-        Incoming::Lost(tag) => refuse(writer, state, tag),
+        Incoming::Lost { tag, cdb } => refuse(writer, port, tag, &cdb),
         Incoming::Ended(reason) => FrameResult::Ended(reason),
     }
 }
@@ -79,7 +78,8 @@ fn answer<W: Sink, P: Port, O: Observer>(
 ) -> FrameResult
     requires logged { P.has_login port.old ≡ true }
     requires room { state.old.given < 2 ^ 63 }
-    ensures answers { AnswersRequest P.commands O.announces O.reports host (W.state writer.old) (W.state writer.new)
+    ensures answers { AnswersRequest P.commands P.refuses O.announces O.reports host
+        (W.state writer.old) (W.state writer.new)
         port.old port.new observer.old observer.new request result
         state.old.given
         state.new.given }
@@ -100,14 +100,14 @@ fn answer<W: Sink, P: Port, O: Observer>(
     result_of(sent)
 }
 
-// Replies BUSY to a frame whose data couldn't be allocated.
-fn refuse<W: Sink>(writer: &mut W, state: &mut SessionState, tag: u64) -> FrameResult
-    ensures answers { RefusesRequest (W.state writer.old) (W.state writer.new) tag result
-        state.old.given
-        state.new.given }
-    ensures given { state.new.given ≡ state.old.given }
+// Writes the port's BUSY to a frame whose data couldn't be allocated.
+fn refuse<W: Sink, P: Port>(writer: &mut W, port: &mut P, tag: u64, cdb: &[u8; 16]) -> FrameResult
+    requires { P.has_login port.old ≡ true }
+    ensures refuses { RefusesRequest P.refuses (W.state writer.old) (W.state writer.new) port.old port.new tag cdb.now
+        result }
 {
-    result_of(send_reply(writer, tag, &Reply::busy()))
+    let reply = port.refuse(cdb);
+    result_of(send_reply(writer, tag, &reply))
 }
 
 fn result_of(sent: Sent) -> FrameResult

@@ -1,9 +1,10 @@
 // The interface from a session to the array. A port executes one host's commands, and only after an accepted login.
 ghost use Rattle.std.specs.Prelude.{◌≡◌, ◌<◌, ◌↔◌, ℕ, Bool, true, false, List};
 ghost use Rattle.ar_scsi.specs.declared.reply.Reply.{Reply};
+ghost use Rattle.ar_scsi.specs.Reply.{busy};
 ghost use Rattle.ar_frames.specs.Frame.{IsReply};
 ghost use Rattle.ar_frames.specs.Conversation.{Commands};
-ghost use Rattle.ar_frames.specs.Port.{Logins, is_taken};
+ghost use Rattle.ar_frames.specs.Port.{CommandRefusals, Logins, is_taken};
 
 use ar_disks::Host;
 use ar_scsi::Reply;
@@ -32,6 +33,9 @@ pub trait Port {
     /// reply, the port after.
     ghost commands: { Commands Self };
 
+    /// What a refusal may do, as the port specifies it: the port before, the command block, the port after.
+    ghost refuses: { CommandRefusals Self };
+
     /// Logs a host in by its number. `BadHost` is returned exactly for a number above 3. Unless the result is `Taken`,
     /// the port stays without a login.
     fn login(&mut self, host: u8) -> Login
@@ -47,4 +51,12 @@ pub trait Port {
         ensures command { commands self.old lun cdb.now payload result self.new }
         ensures reply { IsReply result }
         ensures stays { has_login self.new ≡ true };
+
+    /// Answers BUSY to a command of the host, by its block, without executing it. The port stays as it is; whether it
+    /// counts the reply, it specifies itself. It allocates nothing, since memory for the command's data has run out.
+    fn refuse(&mut self, cdb: &[u8; 16]) -> Reply
+        requires { has_login self.old ≡ true }
+        ensures refusal { refuses self.old cdb.now self.new }
+        ensures same { self.new ≡ self.old }
+        ensures busy { result ≡ busy };
 }

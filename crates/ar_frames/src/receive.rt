@@ -17,8 +17,8 @@ use std::alloc::Global;
 #[derive(Drop)]
 pub(crate) enum Incoming {
     Whole(Request),
-    // A whole frame with this tag, whose data couldn't be allocated.
-    Lost(u64),
+    // A whole frame, whose data couldn't be allocated.
+    Lost { tag: u64, cdb: [u8; 16] },
     // No whole frame, for this reason.
     Ended(EndReason),
 }
@@ -79,7 +79,7 @@ fn receive_data<R: Source>(alloc: Global, reader: &mut R, head: &[u8; 25], len: 
             cdb,
             payload,
         }),
-        Fetched::Lost => Incoming::Lost(tag),
+        Fetched::Lost => Incoming::Lost { tag, cdb },
         Fetched::Ended => Incoming::Ended(EndReason::Cut),
         Fetched::Failed => Incoming::Ended(EndReason::Read),
     }

@@ -18,8 +18,8 @@ use std::alloc::Global;
 pub const MOST_FRAMES: u64 = 1_000_000;
 
 /// Runs one session: reads a login and frames, gives each command to the port, and writes its reply. A frame whose data
-/// can't be allocated is read to its end and gets BUSY, without the port. Returns how many frames were read whole, and
-/// why the session ended.
+/// can't be allocated is read to its end, and the port refuses its command. Returns how many frames were read whole,
+/// and why the session ended.
 pub fn serve_session<R: Source, W: Sink, P: Port>(
     alloc: Global,
     reader: &mut R,
@@ -44,7 +44,7 @@ pub fn serve_gated<R: Source, W: Sink, P: Port, G: Gate>(
     requires { P.has_login port.old ≡ false }
     ensures session { Session P.logins P.commands (R.state reader.old) (R.state reader.new)
         (W.state writer.old) (W.state writer.new) port.old port.new result }
-    ensures observed { ObservesSession P.logins P.commands (λ _ host n _ _. G.announced host n)
+    ensures observed { ObservesSession P.logins P.commands P.refuses (λ _ host n _ _. G.announced host n)
         (λ _ host n _ _. G.reported host n) (R.state reader.old) (R.state reader.new)
         (W.state writer.old) (W.state writer.new) port.old port.new (tt {0}) (tt {0}) result }
 {
@@ -63,7 +63,7 @@ pub fn serve_observed<R: Source, W: Sink, P: Port, O: Observer>(
     requires { P.has_login port.old ≡ false }
     ensures session { Session P.logins P.commands (R.state reader.old) (R.state reader.new)
         (W.state writer.old) (W.state writer.new) port.old port.new result }
-    ensures observed { ObservesSession P.logins P.commands O.announces O.reports
+    ensures observed { ObservesSession P.logins P.commands P.refuses O.announces O.reports
         (R.state reader.old) (R.state reader.new)
         (W.state writer.old) (W.state writer.new) port.old port.new observer.old observer.new result }
 {
@@ -88,7 +88,8 @@ fn serve_frames<R: Source, W: Sink, P: Port, O: Observer>(
     requires { P.has_login port.old ≡ true }
     ensures all { ServesAll P.commands (R.state reader.old) (R.state reader.new)
         (W.state writer.old) (W.state writer.new) port.old port.new result }
-    ensures observed { RunsObserved P.commands O.announces O.reports host (R.state reader.old) (R.state reader.new)
+    ensures observed { RunsObserved P.commands P.refuses O.announces O.reports host
+        (R.state reader.old) (R.state reader.new)
         (W.state writer.old) (W.state writer.new) port.old port.new observer.old observer.new result }
 {
     let mut state = SessionState::new();
@@ -110,7 +111,7 @@ fn converse<R: Source, W: Sink, P: Port, O: Observer>(
     requires fresh { state.old.given ≡ 0 }
     ensures all { ServesAll P.commands (R.state reader.old) (R.state reader.new)
         (W.state writer.old) (W.state writer.new) port.old port.new result }
-    ensures in_steps { RunsInSteps P.commands O.announces O.reports host
+    ensures in_steps { RunsInSteps P.commands P.refuses O.announces O.reports host
         (record {
           source = R.state reader.old;
           sink = W.state writer.old;

@@ -1,6 +1,7 @@
 -- Where the phases of a session begin.
 use Rattle.std.proofs.Common.{◌≡◌, ℕ, List, [], None, subst}
 use Rattle.ar_frames.specs.Conversation.{Commands}
+use Rattle.ar_frames.specs.Port.{CommandRefusals}
 use Rattle.ar_frames.specs.Port.{Logins}
 use Rattle.ar_frames.specs.Stream.{SourceState, SinkState}
 use Rattle.ar_target.specs.ResetPort.{UnitResets}
@@ -21,48 +22,50 @@ use Rattle.ar_iscsi.specs.declared.login.LoginState.{LoginState}
 
 -- without collected data, with none that wait, and by what was agreed on
 pub feature_from :
-    {P : Type 0} (commands : Commands P) (resets : UnitResets P) (address : List ℕ) (limits agreed : Limits)
+    {P : Type 0} (commands : Commands P) (refuses : CommandRefusals P) (resets : UnitResets P) (address : List ℕ)
+    (limits agreed : Limits)
     (source : SourceState) (sink : SinkState)
     (flow : Flow) (bytes : List ℕ) (waiting : List WaitingPdu) (port : P) (reason : FeatureEnd)
     (new : Place FeatureSpot P) → limits ≡ agreed → bytes ≡ [] → waiting ≡ []
-    → RunsFeature commands resets address limits
+    → RunsFeature commands refuses resets address limits
     (record {
       source = source;
       sink = sink;
-      spot = record { spot = record { flow = flow; bytes = bytes }; waiting = waiting };
+      spot = record { session = record { flow = flow; bytes = bytes }; waiting = waiting };
       port = port;
     })
     reason new
-    → RunsFeature commands resets address agreed
+    → RunsFeature commands refuses resets address agreed
     (record {
       source = source;
       sink = sink;
-      spot = record { spot = record { flow = flow; bytes = [] }; waiting = [] };
+      spot = record { session = record { flow = flow; bytes = [] }; waiting = [] };
       port = port;
     })
     reason new
-feature_from commands resets address limits agreed source sink flow bytes waiting port reason new same no_bytes none runs =
-    subst (λ (a : Limits). RunsFeature commands resets address a
+feature_from commands refuses resets address limits agreed source sink flow bytes waiting port reason new same no_bytes
+    none runs =
+    subst (λ (a : Limits). RunsFeature commands refuses resets address a
     (record {
       source = source;
       sink = sink;
-      spot = record { spot = record { flow = flow; bytes = [] }; waiting = [] };
+      spot = record { session = record { flow = flow; bytes = [] }; waiting = [] };
       port = port;
     })
     reason new) same
-    (subst (λ (l : List ℕ). RunsFeature commands resets address limits
+    (subst (λ (l : List ℕ). RunsFeature commands refuses resets address limits
     (record {
       source = source;
       sink = sink;
-      spot = record { spot = record { flow = flow; bytes = l }; waiting = [] };
+      spot = record { session = record { flow = flow; bytes = l }; waiting = [] };
       port = port;
     })
     reason new) no_bytes
-    (subst (λ (w : List WaitingPdu). RunsFeature commands resets address limits
+    (subst (λ (w : List WaitingPdu). RunsFeature commands refuses resets address limits
     (record {
       source = source;
       sink = sink;
-      spot = record { spot = record { flow = flow; bytes = bytes }; waiting = w };
+      spot = record { session = record { flow = flow; bytes = bytes }; waiting = w };
       port = port;
     })
     reason new) none runs))
@@ -102,10 +105,10 @@ login_from logins source sink so_far text port reason new first none runs =
     first runs)
 
 -- a full feature phase after a login whose reader's limit was lifted
-pub feature_behind : {P : Type 0} (commands : Commands P) (resets : UnitResets P) (address : List ℕ)
-    (state : LoginState)
-    (s0 s1 s2 : SourceState) (w0 w1 : SinkState) (p0 p1 : P) (reason : FeatureEnd)
-    → s1 ≡ s0 → IsFeature commands resets address state s1 s2 w0 w1 p0 p1 reason
-    → IsFeature commands resets address state s0 s2 w0 w1 p0 p1 reason
-feature_behind commands resets address state s0 s1 s2 w0 w1 p0 p1 reason same feature =
-    subst (λ (s : SourceState). IsFeature commands resets address state s s2 w0 w1 p0 p1 reason) same feature
+pub feature_after : {P : Type 0} (commands : Commands P) (refuses : CommandRefusals P) (resets : UnitResets P)
+    (address : List ℕ) (state : LoginState) (s0 s1 s2 : SourceState) (w0 w1 : SinkState) (p0 p1 : P)
+    (reason : FeatureEnd)
+    → s1 ≡ s0 → IsFeature commands refuses resets address state s1 s2 w0 w1 p0 p1 reason
+    → IsFeature commands refuses resets address state s0 s2 w0 w1 p0 p1 reason
+feature_after commands refuses resets address state s0 s1 s2 w0 w1 p0 p1 reason same feature =
+    subst (λ (s : SourceState). IsFeature commands refuses resets address state s s2 w0 w1 p0 p1 reason) same feature

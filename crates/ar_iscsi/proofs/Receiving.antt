@@ -7,7 +7,7 @@ use Rattle.ar_iscsi.specs.declared.receive.ReceiveEnd.TheVariants as end
 use Rattle.ar_iscsi.specs.declared.receive.Received.{Received}
 use Rattle.ar_iscsi.specs.declared.receive.Received.TheVariants.{Pdu, Nothing}
 use Rattle.ar_iscsi.specs.Pdu.{IsPdu, segment_len, rest_len}
-use Rattle.ar_iscsi.specs.Receive.{ReceivesPdu, ReadsNoPdu, IsCutPdu, behind_header, StopsPdu}
+use Rattle.ar_iscsi.specs.Receive.{ReceivesPdu, ReadsNoPdu, IsCutPdu, after_header, StopsPdu}
 use Rattle.std.specs.Prelude.{take}
 use Rattle.std.specs.Io.KnownBytes.{IsAtEnd}
 
@@ -34,7 +34,7 @@ cut_behind : (limit : ℕ) (header front part : List ℕ) → length header ≡ 
     → length front + length part < rest_len header → IsCutPdu limit ((header ++ front) ++ part)
 cut_behind limit header front part header_is within short =
     subst (IsCutPdu limit) (sym (append_assoc header front part))
-    (behind_header header (front ++ part) header_is within (omega (arith, length-append front part, short)))
+    (after_header header (front ++ part) header_is within (omega (arith, length-append front part, short)))
 
 -- a header and more has more than no byte
 some_bytes : (header front part : List ℕ) → length header ≡ 48 → 0 < length ((header ++ front) ++ part)

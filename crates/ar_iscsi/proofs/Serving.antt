@@ -2,6 +2,7 @@
 use Rattle.std.proofs.Common.{◌≡◌, ℕ, ◌+◌, false, List, [], refl, subst, take, Option, Some, None}
 use Rattle.std.proofs.Math.Numerals.{suc-eq-add-one}
 use Rattle.ar_frames.specs.Conversation.{Commands}
+use Rattle.ar_frames.specs.Port.{CommandRefusals}
 use Rattle.ar_frames.specs.Stream.{SourceState, SinkState}
 use Rattle.ar_target.specs.ResetPort.{UnitResets}
 use Rattle.ar_frames.specs.declared.fill.Sent.{Sent}
@@ -65,12 +66,13 @@ pub served_more :
 served_more steps next count old between new served serves =
     subst (λ (n : ℕ). ServesPdus steps next n old new) (suc-eq-add-one count) (between, served, serves)
 
-module _ {P : Type 0} (commands : Commands P) (resets : UnitResets P) (address : List ℕ) (limits : Limits) where
+module _ {P : Type 0} (commands : Commands P) (refuses : CommandRefusals P) (resets : UnitResets P) (address : List ℕ)
+    (limits : Limits) where
   -- by how the turn left the session, and how far its answer was written
   by_step :
       (old new : Place FeatureSpot P) (left : TurnEnd) (sent : Sent)
-      → FeatureStep commands resets address limits old new left sent
-      → NextIsServed commands resets address limits old (result_of_turn left sent) new
+      → FeatureStep commands refuses resets address limits old new left sent
+      → NextIsServed commands refuses resets address limits old (result_of_turn left sent) new
   by_step old new Next Whole step = step
   by_step old new LoggedOut Whole step = λ count. step
   by_step old new BrokenData Whole step = λ count. step
@@ -83,9 +85,9 @@ module _ {P : Type 0} (commands : Commands P) (resets : UnitResets P) (address :
   -- a PDU that was read
   pub arrival_served :
       (old new : Place FeatureSpot P) (answered : Option (TurnEnd × Sent))
-      → is_next_waiting old.spot.spot.flow old.spot.waiting ≡ false
-      → IsHandled (ArrivalTurn commands resets address limits) (MayUse commands resets) old new answered
-      → NextIsServed commands resets address limits old (result_of_answer answered) new
+      → is_next_waiting old.spot.session.flow old.spot.waiting ≡ false
+      → IsHandled (ArrivalTurn commands refuses resets address limits) (MayUse commands resets) old new answered
+      → NextIsServed commands refuses resets address limits old (result_of_answer answered) new
   arrival_served old new (Some (left, sent)) none_next serves =
       by_step old new left sent (of_arrival (record { none_next = none_next; serves = serves }))
   arrival_served old new None none_next none = λ count. read_lacks none
@@ -95,12 +97,12 @@ module _ {P : Type 0} (commands : Commands P) (resets : UnitResets P) (address :
       (source : SourceState) (sink sink' : SinkState) (spot spot' : Spot) (waiting waiting' : List WaitingPdu)
       (port port' : P) (pdu : WaitingPdu) (answered : Option (TurnEnd × Sent))
       → TakesWaiting spot.flow waiting (Some pdu) waiting'
-      → AnswersPdu (WaitingTurn commands address limits pdu.state) (MayGive commands) pdu.header pdu.carried sink
-      spot port answered sink' spot' port'
-      → NextIsServed commands resets address limits
-      (record { source = source; sink = sink; spot = record { spot = spot; waiting = waiting }; port = port })
+      → AnswersPdu (WaitingTurn commands refuses address limits pdu.state) (MayGive commands) pdu.header pdu.carried
+      sink spot port answered sink' spot' port'
+      → NextIsServed commands refuses resets address limits
+      (record { source = source; sink = sink; spot = record { session = spot; waiting = waiting }; port = port })
       (result_of_answer answered)
-      (record { source = source; sink = sink'; spot = record { spot = spot'; waiting = waiting' }; port = port' })
+      (record { source = source; sink = sink'; spot = record { session = spot'; waiting = waiting' }; port = port' })
   waiting_served source sink sink' spot spot' waiting waiting' port port' pdu _ taken
       (turned left sent out _ _ _ turn sending) =
       by_step _ _ left sent
@@ -112,8 +114,8 @@ module _ {P : Type 0} (commands : Commands P) (resets : UnitResets P) (address :
   -- the end
   pub feature_ended :
       (count : ℕ) (old between new : Place FeatureSpot P) (reason : FeatureEnd)
-      → ServesPdus (FeatureStep commands resets address limits) Next count old between
-      → EndsFeature commands resets address limits count between reason new
-      → RunsFeature commands resets address limits old reason new
+      → ServesPdus (FeatureStep commands refuses resets address limits) Next count old between
+      → EndsFeature commands refuses resets address limits count between reason new
+      → RunsFeature commands refuses resets address limits old reason new
   feature_ended count old between new reason served ends =
       record { count = count; between = between; served = served; ends = ends }

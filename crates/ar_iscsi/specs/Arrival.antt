@@ -2,6 +2,7 @@
 -- done otherwise (RFC 7143, 4.2.2.1 and 11.5). A task management request is done at once, and its answer waits.
 use Rattle.std.specs.Prelude.{◌≡◌, ℕ, Bool, List, [], ◌∷◌, ◌++◌, length, map, MatchBool, Option}
 use Rattle.ar_frames.specs.Conversation.{Commands}
+use Rattle.ar_frames.specs.Port.{CommandRefusals}
 use Rattle.ar_target.specs.declared.reset_port.ResetOutcome.{ResetOutcome}
 use Rattle.ar_target.specs.ResetPort.{UnitResets}
 use Rattle.ar_iscsi.specs.declared.negotiation.Limits.{Limits}
@@ -22,34 +23,34 @@ use Rattle.ar_iscsi.specs.Waiting.{waits, kept}
 
 -- where a full feature phase is: between two turns, with the PDUs that wait, the oldest first
 pub record FeatureSpot : Type 0 where
-  pub spot : Spot
+  pub session : Spot
   pub waiting : List WaitingPdu
 
 -- a PDU is kept after those that wait, and not answered
 pub record KeepsPdu {P : Type 0} (header carried : List ℕ) (old : FeatureSpot) (port : P) (out : List ℕ)
     (new : FeatureSpot)
     (port' : P) (end : TurnEnd) : Type 0 where
-  pub silent : StaysSilent old.spot out new.spot end
+  pub silent : StaysSilent old.session out new.session end
   pub appended : new.waiting ≡ old.waiting ++ kept header carried state.Undone ∷ []
   pub port_same : port' ≡ port
 
 -- a PDU takes its turn at once, and leaves those that wait as they are
-pub record TurnsAtOnce {P : Type 0} (commands : Commands P) (address : List ℕ) (limits : Limits)
-    (header carried : List ℕ) (old : FeatureSpot) (port : P) (out : List ℕ) (new : FeatureSpot) (port' : P)
-    (end : TurnEnd) : Type 0 where
-  pub turn : FeatureTurn commands address limits header carried old.spot port out new.spot port' end
+pub record TurnsAtOnce {P : Type 0} (commands : Commands P) (refuses : CommandRefusals P) (address : List ℕ)
+    (limits : Limits) (header carried : List ℕ) (old : FeatureSpot) (port : P) (out : List ℕ) (new : FeatureSpot)
+    (port' : P) (end : TurnEnd) : Type 0 where
+  pub turn : FeatureTurn commands refuses address limits header carried old.session port out new.session port' end
   pub waiting_same : new.waiting ≡ old.waiting
 
 -- A task management request is done: the commands that it means are dropped, those that wait and the WRITE whose data
 -- are collected; units are reset at the port; and this is its response.
 pub record ManagesTasks {P : Type 0} (resets : UnitResets P) (request : TaskManagement) (old : FeatureSpot) (port : P)
     (new : FeatureSpot) (port' : P) (response : ℕ) : Type 0 where
-  pub flow : new.spot.flow ≡ managed_flow request old.spot.flow
-  pub bytes : new.spot.bytes ≡ managed_bytes request old.spot.flow old.spot.bytes
+  pub flow : new.session.flow ≡ managed_flow request old.session.flow
+  pub bytes : new.session.bytes ≡ managed_bytes request old.session.flow old.session.bytes
   pub waiting : new.waiting ≡ map (managed_by request) old.waiting
   pub outcome : ResetOutcome
   pub reset : ResetsAtPort resets request port outcome port'
-  pub response_is : response ≡ response_to request (means_one request old.spot.flow old.waiting) outcome
+  pub response_is : response ≡ response_to request (means_one request old.session.flow old.waiting) outcome
 
 -- it is done, and its response is sent
 pub record AnswersNow {P : Type 0} (resets : UnitResets P) (request : TaskManagement) (old : FeatureSpot) (port : P)
@@ -58,8 +59,8 @@ pub record AnswersNow {P : Type 0} (resets : UnitResets P) (request : TaskManage
   pub response : ℕ
   pub manages : ManagesTasks resets request old port managed port' response
   pub responds :
-      Responds (received managed.spot.flow request.immediate)
-      (pdu.TaskManagementResponse request.task_tag response) [] managed.spot.bytes out new.spot end Next
+      Responds (received managed.session.flow request.immediate)
+      (pdu.TaskManagementResponse request.task_tag response) [] managed.session.bytes out new.session end Next
   pub waiting_same : new.waiting ≡ managed.waiting
 
 -- it is done, and its response is kept after those that wait: it has to be counted in CmdSN's order
@@ -68,13 +69,13 @@ pub record AnswersLater {P : Type 0} (resets : UnitResets P) (header carried : L
   pub managed : FeatureSpot
   pub response : ℕ
   pub manages : ManagesTasks resets request old port managed port' response
-  pub silent : StaysSilent managed.spot out new.spot end
+  pub silent : StaysSilent managed.session out new.session end
   pub appended : new.waiting ≡ managed.waiting ++ kept header carried (state.Answered response) ∷ []
 
 -- nothing is done, and nothing is answered
 pub record IsIgnored {P : Type 0} (old : FeatureSpot) (port : P) (out : List ℕ) (new : FeatureSpot) (port' : P)
     (end : TurnEnd) : Type 0 where
-  pub silent : StaysSilent old.spot out new.spot end
+  pub silent : StaysSilent old.session out new.session end
   pub waiting_same : new.waiting ≡ old.waiting
   pub port_same : port' ≡ port
 
@@ -83,25 +84,25 @@ abbrev pub ManagementTurn : {P : Type 0} → UnitResets P → List ℕ → List 
     → List ℕ → FeatureSpot → P → TurnEnd → Type 0
 ManagementTurn resets header carried request waits old port out new port' end =
     MatchBool waits (AnswersLater resets header carried request old port out new port' end)
-    (MatchBool (is_accepted old.spot.flow request.immediate request.cmd_sn)
+    (MatchBool (is_accepted old.session.flow request.immediate request.cmd_sn)
     (AnswersNow resets request old port out new port' end) (IsIgnored old port out new port' end))
 
 -- the same of any PDU
-abbrev pub ArrivalFor : {P : Type 0} → Commands P → UnitResets P → List ℕ → Limits → List ℕ → List ℕ → InitiatorPdu
-    → Bool → FeatureSpot → P → List ℕ → FeatureSpot → P → TurnEnd → Type 0
-ArrivalFor commands resets address limits header carried (asks.TaskManagement request) waits old port out new port'
-    end =
+abbrev pub ArrivalFor : {P : Type 0} → Commands P → CommandRefusals P → UnitResets P → List ℕ → Limits → List ℕ → List ℕ
+    → InitiatorPdu → Bool → FeatureSpot → P → List ℕ → FeatureSpot → P → TurnEnd → Type 0
+ArrivalFor commands refuses resets address limits header carried (asks.TaskManagement request) waits old port out new
+    port' end =
     ManagementTurn resets header carried request waits old port out new port' end
-ArrivalFor commands resets address limits header carried other waits old port out new port' end =
+ArrivalFor commands refuses resets address limits header carried other waits old port out new port' end =
     MatchBool waits (KeepsPdu header carried old port out new port' end)
-    (TurnsAtOnce commands address limits header carried old port out new port' end)
+    (TurnsAtOnce commands refuses address limits header carried old port out new port' end)
 
 -- a PDU that was read
-abbrev pub ArrivalTurn : {P : Type 0} → Commands P → UnitResets P → List ℕ → Limits → List ℕ → List ℕ → FeatureSpot → P
-    → List ℕ → FeatureSpot → P → TurnEnd → Type 0
-ArrivalTurn commands resets address limits header carried old port out new port' end =
-    ArrivalFor commands resets address limits header carried (initiator_pdu header)
-    (waits old.spot.flow (length old.waiting) (initiator_pdu header)) old port out new port' end
+abbrev pub ArrivalTurn : {P : Type 0} → Commands P → CommandRefusals P → UnitResets P → List ℕ → Limits → List ℕ
+    → List ℕ → FeatureSpot → P → List ℕ → FeatureSpot → P → TurnEnd → Type 0
+ArrivalTurn commands refuses resets address limits header carried old port out new port' end =
+    ArrivalFor commands refuses resets address limits header carried (initiator_pdu header)
+    (waits old.session.flow (length old.waiting) (initiator_pdu header)) old port out new port' end
 
 -- at most one command was given to the port, or units were reset once
 pub data MayUse {P : Type 0} (commands : Commands P) (resets : UnitResets P) (old new : P) : Type 0 where

@@ -42,7 +42,7 @@ pub record ComesUnkept (old new : SourceState) (wanted : ℕ) (result : Came) : 
 -- an incomplete PDU: fewer bytes than a header has, or fewer than a header says, with a data segment within `limit`
 pub data IsCutPdu (limit : ℕ) : List ℕ → Type 0 where
   in_header : (bytes : List ℕ) → length bytes < 48 → IsCutPdu limit bytes
-  behind_header :
+  after_header :
       (header rest : List ℕ) → length header ≡ 48 → segment_len header ≤ limit → length rest < rest_len header
       → IsCutPdu limit (header ++ rest)
 

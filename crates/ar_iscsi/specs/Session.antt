@@ -1,6 +1,7 @@
 -- The full feature phase of a normal session.
 use Rattle.std.specs.Prelude.{◌≡◌, ℕ, true, false, List, [], ◌∷◌, Option, Some, None}
 use Rattle.ar_frames.specs.Conversation.{Commands}
+use Rattle.ar_frames.specs.Port.{CommandRefusals}
 use Rattle.ar_target.specs.ResetPort.{UnitResets}
 use Rattle.ar_frames.specs.Stream.{Sending}
 use Rattle.ar_frames.specs.declared.fill.Sent.{Sent}
@@ -35,14 +36,13 @@ CountsDropped old out new end =
 
 -- what a PDU that waited does, by its state: what its turn says; or it is counted and, as a task management request
 -- that was done when it was read, answered by its response
-abbrev pub WaitingTurn : {P : Type 0} → Commands P → List ℕ → Limits → WaitingState → List ℕ → List ℕ → Spot → P
-    → List ℕ
-    → Spot → P → TurnEnd → Type 0
-WaitingTurn commands address limits state.Undone header carried old port out new port' end =
-    FeatureTurn commands address limits header carried old port out new port' end
-WaitingTurn commands address limits state.Dropped header carried old port out new port' end =
+abbrev pub WaitingTurn : {P : Type 0} → Commands P → CommandRefusals P → List ℕ → Limits → WaitingState → List ℕ
+    → List ℕ → Spot → P → List ℕ → Spot → P → TurnEnd → Type 0
+WaitingTurn commands refuses address limits state.Undone header carried old port out new port' end =
+    FeatureTurn commands refuses address limits header carried old port out new port' end
+WaitingTurn commands refuses address limits state.Dropped header carried old port out new port' end =
     CountsDropped old out new end × (port' ≡ port)
-WaitingTurn commands address limits (state.Answered response) header carried old port out new port' end =
+WaitingTurn commands refuses address limits (state.Answered response) header carried old port out new port' end =
     Responds (received old.flow false) (pdu.TaskManagementResponse (task_tag header) response) [] old.bytes out new end
     Next
     × (port' ≡ port)
@@ -53,31 +53,30 @@ TakesWaiting flow old None new = (is_next_waiting flow old ≡ false) × (new �
 TakesWaiting flow old (Some pdu) new = (is_open flow.collecting ≡ true) × (old ≡ pdu ∷ new)
 
 -- the oldest PDU that waited took its turn, once no data are collected, and was answered; nothing was read
-pub record ServesWaiting {P : Type 0} (commands : Commands P) (address : List ℕ) (limits : Limits)
-    (old new : Place FeatureSpot P) (left : TurnEnd) (sent : Sent) : Type 0 where
+pub record ServesWaiting {P : Type 0} (commands : Commands P) (refuses : CommandRefusals P) (address : List ℕ)
+    (limits : Limits) (old new : Place FeatureSpot P) (left : TurnEnd) (sent : Sent) : Type 0 where
   pub pdu : WaitingPdu
   pub out : List ℕ
-  pub oldest : TakesWaiting old.spot.spot.flow old.spot.waiting (Some pdu) new.spot.waiting
+  pub oldest : TakesWaiting old.spot.session.flow old.spot.waiting (Some pdu) new.spot.waiting
   pub turn :
-      WaitingTurn commands address limits pdu.state pdu.header pdu.carried old.spot.spot old.port out
-      new.spot.spot new.port left
+      WaitingTurn commands refuses address limits pdu.state pdu.header pdu.carried old.spot.session old.port out
+      new.spot.session new.port left
   pub source : new.source ≡ old.source
   pub sending : Sending old.sink new.sink out sent
 
 -- none that waits is next, and a PDU was read, did what its turn says, and was answered
-pub record ServesArrival {P : Type 0} (commands : Commands P) (resets : UnitResets P) (address : List ℕ)
-    (limits : Limits)
-    (old new : Place FeatureSpot P) (left : TurnEnd) (sent : Sent) : Type 0 where
-  pub none_next : is_next_waiting old.spot.spot.flow old.spot.waiting ≡ false
-  pub serves : ServesPdu (ArrivalTurn commands resets address limits) old new left sent
+pub record ServesArrival {P : Type 0} (commands : Commands P) (refuses : CommandRefusals P) (resets : UnitResets P)
+    (address : List ℕ) (limits : Limits) (old new : Place FeatureSpot P) (left : TurnEnd) (sent : Sent) : Type 0 where
+  pub none_next : is_next_waiting old.spot.session.flow old.spot.waiting ≡ false
+  pub serves : ServesPdu (ArrivalTurn commands refuses resets address limits) old new left sent
 
 -- a step of the phase
-pub data FeatureStep {P : Type 0} (commands : Commands P) (resets : UnitResets P) (address : List ℕ) (limits : Limits)
-    (old new : Place FeatureSpot P) (left : TurnEnd) (sent : Sent) : Type 0 where
-  of_waiting : ServesWaiting commands address limits old new left sent
-      → FeatureStep commands resets address limits old new left sent
-  of_arrival : ServesArrival commands resets address limits old new left sent
-      → FeatureStep commands resets address limits old new left sent
+pub data FeatureStep {P : Type 0} (commands : Commands P) (refuses : CommandRefusals P) (resets : UnitResets P)
+    (address : List ℕ) (limits : Limits) (old new : Place FeatureSpot P) (left : TurnEnd) (sent : Sent) : Type 0 where
+  of_waiting : ServesWaiting commands refuses address limits old new left sent
+      → FeatureStep commands refuses resets address limits old new left sent
+  of_arrival : ServesArrival commands refuses resets address limits old new left sent
+      → FeatureStep commands refuses resets address limits old new left sent
 
 -- memory for the answer to a PDU that was read, or waited, ran out: nothing was written, and the port was given at most
 -- one command, or units were reset
@@ -89,29 +88,28 @@ pub data LacksAnswer {P : Type 0} (commands : Commands P) (resets : UnitResets P
       → LacksAnswer commands resets old new
 
 -- when each end comes, after `count` PDUs, from the last moment between two of them
-abbrev pub EndsFeature : {P : Type 0} → Commands P → UnitResets P → List ℕ → Limits → ℕ → Place FeatureSpot P
-    → FeatureEnd
-    → Place FeatureSpot P → Type 0
-EndsFeature commands resets address limits count old (end.Unread reason) new = IsLeftAlone old new reason
-EndsFeature commands resets address limits count old end.Write new =
-    IsAnswerLost (FeatureStep commands resets address limits) old new
-EndsFeature commands resets address limits count old end.LoggedOut new =
-    FeatureStep commands resets address limits old new LoggedOut Whole
-EndsFeature commands resets address limits count old end.BrokenData new =
-    FeatureStep commands resets address limits old new BrokenData Whole
-EndsFeature commands resets address limits count old end.Rejected new =
-    FeatureStep commands resets address limits old new Rejected Whole
-EndsFeature commands resets address limits count old end.NoMemory new =
+abbrev pub EndsFeature : {P : Type 0} → Commands P → CommandRefusals P → UnitResets P → List ℕ → Limits → ℕ
+    → Place FeatureSpot P → FeatureEnd → Place FeatureSpot P → Type 0
+EndsFeature commands refuses resets address limits count old (end.Unread reason) new = IsLeftAlone old new reason
+EndsFeature commands refuses resets address limits count old end.Write new =
+    IsAnswerLost (FeatureStep commands refuses resets address limits) old new
+EndsFeature commands refuses resets address limits count old end.LoggedOut new =
+    FeatureStep commands refuses resets address limits old new LoggedOut Whole
+EndsFeature commands refuses resets address limits count old end.BrokenData new =
+    FeatureStep commands refuses resets address limits old new BrokenData Whole
+EndsFeature commands refuses resets address limits count old end.Rejected new =
+    FeatureStep commands refuses resets address limits old new Rejected Whole
+EndsFeature commands refuses resets address limits count old end.NoMemory new =
     LacksAnswer commands resets old new
-EndsFeature commands resets address limits count old end.Bound new = (count ≡ most_pdus) × (new ≡ old)
+EndsFeature commands refuses resets address limits count old end.Bound new = (count ≡ most_pdus) × (new ≡ old)
 
 -- one more PDU was served, or the phase has ended, after however many PDUs
-abbrev pub NextIsServed : {P : Type 0} → Commands P → UnitResets P → List ℕ → Limits → Place FeatureSpot P → PduResult
-    → Place FeatureSpot P → Type 0
-NextIsServed commands resets address limits old Served new =
-    FeatureStep commands resets address limits old new Next Whole
-NextIsServed commands resets address limits old (Ended reason) new =
-    (count : ℕ) → EndsFeature commands resets address limits count old reason new
+abbrev pub NextIsServed : {P : Type 0} → Commands P → CommandRefusals P → UnitResets P → List ℕ → Limits
+    → Place FeatureSpot P → PduResult → Place FeatureSpot P → Type 0
+NextIsServed commands refuses resets address limits old Served new =
+    FeatureStep commands refuses resets address limits old new Next Whole
+NextIsServed commands refuses resets address limits old (Ended reason) new =
+    (count : ℕ) → EndsFeature commands refuses resets address limits count old reason new
 
 -- what becomes of the session after a turn whose answer was written this far
 abbrev pub result_of_turn : TurnEnd → Sent → PduResult
@@ -127,9 +125,10 @@ result_of_answer None = Ended end.NoMemory
 result_of_answer (Some answered) = result_of_turn answered.0 answered.1
 
 -- A full feature phase: PDUs were served in order, each did what its turn says and was answered, and then its end came.
-pub record RunsFeature {P : Type 0} (commands : Commands P) (resets : UnitResets P) (address : List ℕ) (limits : Limits)
-    (old : Place FeatureSpot P) (reason : FeatureEnd) (new : Place FeatureSpot P) : Type 0 where
+pub record RunsFeature {P : Type 0} (commands : Commands P) (refuses : CommandRefusals P) (resets : UnitResets P)
+    (address : List ℕ) (limits : Limits) (old : Place FeatureSpot P) (reason : FeatureEnd) (new : Place FeatureSpot P)
+    : Type 0 where
   pub count : ℕ
   pub between : Place FeatureSpot P
-  pub served : ServesPdus (FeatureStep commands resets address limits) Next count old between
-  pub ends : EndsFeature commands resets address limits count between reason new
+  pub served : ServesPdus (FeatureStep commands refuses resets address limits) Next count old between
+  pub ends : EndsFeature commands refuses resets address limits count between reason new

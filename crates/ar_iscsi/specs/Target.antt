@@ -5,7 +5,7 @@ use Rattle.ar_scsi.specs.Sense.{logical_unit_not_supported}
 use Rattle.ar_frames.specs.Conversation.{Commands}
 use Rattle.ar_target.specs.declared.reset_port.ResetOutcome.TheVariants.{NoUnit}
 use Rattle.ar_target.specs.ResetPort.{UnitResets}
-use Rattle.ar_frames.specs.Port.{Logins}
+use Rattle.ar_frames.specs.Port.{CommandRefusals, Logins}
 use Rattle.ar_frames.specs.Stream.{SourceState, SinkState}
 use Rattle.ar_iscsi.specs.declared.login.LoginState.{LoginState}
 use Rattle.ar_iscsi.specs.declared.login_phase.LoginEnd.{LoginEnd}
@@ -30,7 +30,11 @@ use Rattle.ar_iscsi.specs.Session.{RunsFeature}
 abbrev pub no_units : Commands NoUnits
 no_units old lun cdb payload reply new = (reply ≡ check logical_unit_not_supported) × (new ≡ old)
 
--- and each reset, too
+-- it counts no reply
+abbrev pub no_refusals : CommandRefusals NoUnits
+no_refusals old cdb new = new ≡ old
+
+-- each reset is answered so, too
 abbrev pub no_resets : UnitResets NoUnits
 no_resets old lun outcome new = (outcome ≡ NoUnit) × (new ≡ old)
 
@@ -50,7 +54,7 @@ normal_limits so_far = record so_far.limits { host = host_of so_far.target }
 -- where a full feature phase begins, after the last response of the login: its numbers count on
 abbrev pub feature_start : LoginState → FeatureSpot
 feature_start state = record {
-  spot = record {
+  session = record {
     flow = record { stat_sn = state.stat_sn; exp_cmd_sn = state.cmd_sn; next_tag = 0; collecting = None };
     bytes = [];
   };
@@ -67,40 +71,37 @@ pub record IsLoginAlone {P : Type 0} (logins : Logins P) (source source' : Sourc
       (record { source = source'; sink = sink'; spot = spot; port = port' })
 
 -- a full feature phase after a login: in a normal session at the port, in one for discovery at no units
-pub data IsFeature {P : Type 0} (commands : Commands P) (resets : UnitResets P) (address : List ℕ) (state : LoginState)
-    (source source' : SourceState)
-    (sink sink' : SinkState) (port port' : P) (reason : FeatureEnd) : Type 0 where
+pub data IsFeature {P : Type 0} (commands : Commands P) (refuses : CommandRefusals P) (resets : UnitResets P)
+    (address : List ℕ) (state : LoginState) (source source' : SourceState) (sink sink' : SinkState) (port port' : P)
+    (reason : FeatureEnd) : Type 0 where
   at_port :
       (spot : FeatureSpot) → state.so_far.kind ≡ Normal
-      → RunsFeature commands resets address (normal_limits state.so_far)
+      → RunsFeature commands refuses resets address (normal_limits state.so_far)
       (record { source = source; sink = sink; spot = feature_start state; port = port }) reason
       (record { source = source'; sink = sink'; spot = spot; port = port' })
-      → IsFeature commands resets address state source source' sink sink' port port' reason
+      → IsFeature commands refuses resets address state source source' sink sink' port port' reason
   at_no_units :
       (spot : FeatureSpot) (idle idle' : NoUnits) → (state.so_far.kind ≡ Normal → ⊥)
-      → RunsFeature no_units no_resets address state.so_far.limits
+      → RunsFeature no_units no_refusals no_resets address state.so_far.limits
       (record { source = source; sink = sink; spot = feature_start state; port = idle }) reason
       (record { source = source'; sink = sink'; spot = spot; port = idle' }) → port' ≡ port
-      → IsFeature commands resets address state source source' sink sink' port port' reason
+      → IsFeature commands refuses resets address state source source' sink sink' port port' reason
 
 -- a login, and the full feature phase after it
-pub record IsWholeSession {P : Type 0} (logins : Logins P) (commands : Commands P) (resets : UnitResets P)
-    (address : List ℕ)
-    (source source' : SourceState)
-    (sink sink' : SinkState) (port port' : P) (reason : FeatureEnd) : Type 0 where
+pub record IsWholeSession {P : Type 0} (logins : Logins P) (commands : Commands P) (refuses : CommandRefusals P)
+    (resets : UnitResets P) (address : List ℕ) (source source' : SourceState) (sink sink' : SinkState) (port port' : P)
+    (reason : FeatureEnd) : Type 0 where
   pub middle : Place LoginSpot P
   pub login : RunsLogin logins (record { source = source; sink = sink; spot = login_start; port = port }) Entered middle
-  pub feature : IsFeature commands resets address middle.spot.state middle.source source' middle.sink sink' middle.port
-      port'
-      reason
+  pub feature : IsFeature commands refuses resets address middle.spot.state middle.source source' middle.sink sink'
+      middle.port port' reason
 
 -- A session with a target whose address is `address`, by its end.
-abbrev pub TargetSession : {P : Type 0} → Logins P → Commands P → UnitResets P → List ℕ → SourceState → SourceState
-    → SinkState
-    → SinkState → P → P → IscsiEnd → Type 0
-TargetSession logins commands resets address source source' sink sink' port port' end.NoBuffer =
+abbrev pub TargetSession : {P : Type 0} → Logins P → Commands P → CommandRefusals P → UnitResets P → List ℕ
+    → SourceState → SourceState → SinkState → SinkState → P → P → IscsiEnd → Type 0
+TargetSession logins commands refuses resets address source source' sink sink' port port' end.NoBuffer =
     (source' ≡ source) × (sink' ≡ sink) × (port' ≡ port)
-TargetSession logins commands resets address source source' sink sink' port port' (end.Login reason) =
+TargetSession logins commands refuses resets address source source' sink sink' port port' (end.Login reason) =
     IsLoginAlone logins source source' sink sink' port port' reason
-TargetSession logins commands resets address source source' sink sink' port port' (end.Feature reason) =
-    IsWholeSession logins commands resets address source source' sink sink' port port' reason
+TargetSession logins commands refuses resets address source source' sink sink' port port' (end.Feature reason) =
+    IsWholeSession logins commands refuses resets address source source' sink sink' port port' reason

@@ -6,6 +6,7 @@ use Rattle.ar_scsi.specs.declared.reply.Reply.{Reply}
 use Rattle.ar_scsi.specs.Reply.{check, busy}
 use Rattle.ar_scsi.specs.Sense.{logical_unit_not_supported}
 use Rattle.ar_frames.specs.Conversation.{Commands}
+use Rattle.ar_frames.specs.Port.{CommandRefusals}
 use Rattle.ar_iscsi.specs.declared.flow.Flow.{Flow}
 use Rattle.ar_iscsi.specs.declared.flow.Collecting.{Collecting}
 use Rattle.ar_iscsi.specs.declared.negotiation.Limits.{Limits}
@@ -107,9 +108,10 @@ pub record Completes {P : Type 0} (commands : Commands P) (flow : Flow) (limits 
   pub puts : PutsReply command (numbers_of flow) (most_in limits) asked reply out out'
   pub after_is : after ≡ answered flow
 
--- a command was answered BUSY, without the port
-pub record GetsBusy (flow : Flow) (limits : Limits) (command : ScsiCommand) (asked : ℕ) (out out' : List ℕ)
-    (after : Flow) : Type 0 where
+-- the port refused a command, which was answered BUSY
+pub record GetsBusy {P : Type 0} (refuses : CommandRefusals P) (flow : Flow) (limits : Limits) (command : ScsiCommand)
+    (asked : ℕ) (port port' : P) (out out' : List ℕ) (after : Flow) : Type 0 where
+  pub refused : refuses port command.cdb port'
   pub puts : PutsReply command (numbers_of flow) (most_in limits) asked busy out out'
   pub after_is : after ≡ answered flow
 

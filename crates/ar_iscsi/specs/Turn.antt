@@ -3,6 +3,7 @@ use Rattle.std.specs.Prelude.{◌≡◌, ◌<◌, ◌⊎◌, ◌==◌, ◌||◌,
 use Rattle.std.specs.Prelude.{[], ◌++◌}
 use Rattle.std.specs.Prelude.{length, slice_index_or, take}
 use Rattle.ar_frames.specs.Conversation.{Commands}
+use Rattle.ar_frames.specs.Port.{CommandRefusals}
 use Rattle.ar_iscsi.specs.declared.flow.Flow.{Flow}
 use Rattle.ar_iscsi.specs.declared.flow.Collecting.{Collecting}
 use Rattle.ar_iscsi.specs.declared.negotiation.Limits.{Limits}
@@ -87,88 +88,91 @@ ReactionTurn address limits header carried flow (Closes response) old out new en
 ReactionTurn address limits header carried flow (Rejects reason) old out new end =
     IsRejected header reason old out new end
 
--- A command that is complete was given to the port once and answered or, out of memory for its data, it got BUSY
--- without the port. No data are collected any more.
-abbrev pub IsDone : {P : Type 0} → Commands P → Limits → Flow → ScsiCommand → List ℕ → ℕ → P → P → List ℕ → Flow
-    → Type 0
-IsDone commands limits flow command payload asked port port' out after =
+-- A command that is complete was given to the port once and answered or, out of memory for its data, the port refused
+-- it. No data are collected any more.
+abbrev pub IsDone : {P : Type 0} → Commands P → CommandRefusals P → Limits → Flow → ScsiCommand → List ℕ → ℕ → P → P
+    → List ℕ → Flow → Type 0
+IsDone commands refuses limits flow command payload asked port port' out after =
     Completes commands flow limits command payload asked port port' [] out after
-    ⊎ ((0 < length payload) × (port' ≡ port) × GetsBusy flow limits command asked [] out after)
+    ⊎ ((0 < length payload) × (port' ≡ port) × GetsBusy refuses flow limits command asked port port' [] out after)
 
--- Data are asked for after those that a command carries or, out of memory for them, it got BUSY.
-abbrev pub StartsData : Limits → Flow → ScsiCommand → ℕ → List ℕ → List ℕ → Spot → Type 0
-StartsData limits flow command wanted carried out new =
+-- Data are asked for after those that a command carries or, out of memory for them, the port refused it.
+abbrev pub StartsData : {P : Type 0} → CommandRefusals P → Limits → Flow → ScsiCommand → ℕ → List ℕ → P → List ℕ → Spot
+    → P → Type 0
+StartsData refuses limits flow command wanted carried port out new port' =
     (AsksFrom flow limits command wanted (length carried) 0 [] out new.flow × (new.bytes ≡ carried))
-    ⊎ GetsBusy flow limits command 0 [] out new.flow
+    ⊎ GetsBusy refuses flow limits command 0 port port' [] out new.flow
 
 -- what a command does that carries these data, by its step
-abbrev pub CommandTurn : {P : Type 0} → Commands P → Limits → ScsiCommand → List ℕ → List ℕ → CommandStep → Spot → P
-    → List ℕ → Spot → P → TurnEnd
-    → Type 0
-CommandTurn commands limits command header carried step.Ignores old port out new port' end =
+abbrev pub CommandTurn : {P : Type 0} → Commands P → CommandRefusals P → Limits → ScsiCommand → List ℕ → List ℕ
+    → CommandStep → Spot → P → List ℕ → Spot → P → TurnEnd → Type 0
+CommandTurn commands refuses limits command header carried step.Ignores old port out new port' end =
     StaysSilent old out new end × (port' ≡ port)
-CommandTurn commands limits command header carried (step.Rejects reason) old port out new port' end =
+CommandTurn commands refuses limits command header carried (step.Rejects reason) old port out new port' end =
     IsRejected header reason old out new end × (port' ≡ port)
-CommandTurn commands limits command header carried step.Refuses old port out new port' end =
-    GetsBusy (received old.flow command.immediate) limits command 0 [] out new.flow × (new.bytes ≡ old.bytes)
+CommandTurn commands refuses limits command header carried step.Refuses old port out new port' end =
+    GetsBusy refuses (received old.flow command.immediate) limits command 0 port port' [] out new.flow
+    × (new.bytes ≡ old.bytes) × (port' ≡ port) × (end ≡ Next)
+CommandTurn commands refuses limits command header carried (step.Runs wanted) old port out new port' end =
+    IsDone commands refuses limits (received old.flow command.immediate) command (take wanted carried) 0 port port' out
+    new.flow
+    × (end ≡ Next)
+CommandTurn commands refuses limits command header carried (step.Collects wanted) old port out new port' end =
+    StartsData refuses limits (received old.flow command.immediate) command wanted carried port out new port'
     × (port' ≡ port) × (end ≡ Next)
-CommandTurn commands limits command header carried (step.Runs wanted) old port out new port' end =
-    IsDone commands limits (received old.flow command.immediate) command (take wanted carried) 0 port port' out new.flow
-    × (end ≡ Next)
-CommandTurn commands limits command header carried (step.Collects wanted) old port out new port' end =
-    StartsData limits (received old.flow command.immediate) command wanted carried out new × (port' ≡ port)
-    × (end ≡ Next)
 
 -- What data do that are the next ones of a WRITE, once they are `all`: more of the R2T are awaited, or the next R2T is
 -- sent, or the command is complete.
-abbrev pub TakesData : {P : Type 0} → Commands P → Limits → Collecting → List ℕ → Flow → P → List ℕ → Spot → P → Type 0
-TakesData commands limits c all flow port out new port' =
+abbrev pub TakesData : {P : Type 0} → Commands P → CommandRefusals P → Limits → Collecting → List ℕ → Flow → P → List ℕ
+    → Spot → P → Type 0
+TakesData commands refuses limits c all flow port out new port' =
     MatchBool (nat_lt (length all) c.burst_end) ((out ≡ []) × (new.flow ≡ awaiting flow c) × (new.bytes ≡ all)
     × (port' ≡ port))
     (MatchBool (nat_lt (length all) c.wanted)
     (AsksFrom flow limits c.command c.wanted (length all) c.asked [] out new.flow × (new.bytes ≡ all) × (port' ≡ port))
-    (IsDone commands limits (reopened flow) c.command all c.asked port port' out new.flow))
+    (IsDone commands refuses limits (reopened flow) c.command all c.asked port port' out new.flow))
 
 -- what a Data-Out PDU does that carries these data, by its step
-abbrev pub DataTurn : {P : Type 0} → Commands P → Limits → List ℕ → DataStep → Spot → P → List ℕ → Spot → P → TurnEnd
-    → Type 0
-DataTurn commands limits carried steps.Ignores old port out new port' end = StaysSilent old out new end × (port' ≡ port)
-DataTurn commands limits carried steps.Breaks old port out new port' end =
+abbrev pub DataTurn : {P : Type 0} → Commands P → CommandRefusals P → Limits → List ℕ → DataStep → Spot → P → List ℕ
+    → Spot → P → TurnEnd → Type 0
+DataTurn commands refuses limits carried steps.Ignores old port out new port' end =
+    StaysSilent old out new end × (port' ≡ port)
+DataTurn commands refuses limits carried steps.Breaks old port out new port' end =
     AnswersBy out new end [] old.flow old.bytes BrokenData × (port' ≡ port)
-DataTurn commands limits carried (steps.Takes c) old port out new port' end =
-    TakesData commands limits c (old.bytes ++ carried) old.flow port out new port' × (end ≡ Next)
+DataTurn commands refuses limits carried (steps.Takes c) old port out new port' end =
+    TakesData commands refuses limits c (old.bytes ++ carried) old.flow port out new port' × (end ≡ Next)
 
 -- what a PDU does, by its header's fields
-abbrev pub TurnFor : {P : Type 0} → Commands P → List ℕ → Limits → List ℕ → List ℕ → InitiatorPdu → Spot → P → List ℕ
-    → Spot → P → TurnEnd → Type 0
-TurnFor commands address limits header carried (asks.ScsiCommand command) old port out new port' end =
-    CommandTurn commands limits command header carried (command_step old.flow limits command (length carried)) old port
+abbrev pub TurnFor : {P : Type 0} → Commands P → CommandRefusals P → List ℕ → Limits → List ℕ → List ℕ → InitiatorPdu
+    → Spot → P → List ℕ → Spot → P → TurnEnd → Type 0
+TurnFor commands refuses address limits header carried (asks.ScsiCommand command) old port out new port' end =
+    CommandTurn commands refuses limits command header carried (command_step old.flow limits command (length carried))
+    old port out new port' end
+TurnFor commands refuses address limits header carried (asks.DataOut data_out) old port out new port' end =
+    DataTurn commands refuses limits carried (data_step old.flow data_out (length old.bytes) (length carried)) old port
     out new port' end
-TurnFor commands address limits header carried (asks.DataOut data_out) old port out new port' end =
-    DataTurn commands limits carried (data_step old.flow data_out (length old.bytes) (length carried)) old port out new
-    port' end
-TurnFor commands address limits header carried (asks.NopOut nop) old port out new port' end =
+TurnFor commands refuses address limits header carried (asks.NopOut nop) old port out new port' end =
     ReactionTurn address limits header carried (received old.flow nop.immediate) (to_nop_out old.flow nop) old out new
     end × (port' ≡ port)
-TurnFor commands address limits header carried (asks.Text request) old port out new port' end =
+TurnFor commands refuses address limits header carried (asks.Text request) old port out new port' end =
     ReactionTurn address limits header carried (received old.flow request.immediate) (to_text old.flow request) old out
     new end × (port' ≡ port)
-TurnFor commands address limits header carried (asks.Logout request) old port out new port' end =
+TurnFor commands refuses address limits header carried (asks.Logout request) old port out new port' end =
     ReactionTurn address limits header carried (received old.flow request.immediate) (to_logout old.flow request) old
     out new end
     × (port' ≡ port)
 -- a task management request was done when it was read
-TurnFor commands address limits header carried (asks.TaskManagement request) old port out new port' end =
+TurnFor commands refuses address limits header carried (asks.TaskManagement request) old port out new port' end =
     StaysSilent old out new end × (port' ≡ port)
 -- a login in the full feature phase is PROTOCOL ERROR, another opcode COMMAND NOT SUPPORTED
-TurnFor commands address limits header carried (asks.Login request) old port out new port' end =
+TurnFor commands refuses address limits header carried (asks.Login request) old port out new port' end =
     IsRejected header 0x04 old out new end × (port' ≡ port)
-TurnFor commands address limits header carried (asks.Unknown opcode) old port out new port' end =
+TurnFor commands refuses address limits header carried (asks.Unknown opcode) old port out new port' end =
     IsRejected header 0x05 old out new end × (port' ≡ port)
 
 -- A turn of a normal session: a PDU with this header and this data segment was answered by `out`. The target's address
 -- is `address`.
-abbrev pub FeatureTurn : {P : Type 0} → Commands P → List ℕ → Limits → List ℕ → List ℕ → Spot → P → List ℕ → Spot → P
-    → TurnEnd → Type 0
-FeatureTurn commands address limits header carried old port out new port' end =
-    TurnFor commands address limits header carried (initiator_pdu header) old port out new port' end
+abbrev pub FeatureTurn : {P : Type 0} → Commands P → CommandRefusals P → List ℕ → Limits → List ℕ → List ℕ → Spot → P
+    → List ℕ → Spot → P → TurnEnd → Type 0
+FeatureTurn commands refuses address limits header carried old port out new port' end =
+    TurnFor commands refuses address limits header carried (initiator_pdu header) old port out new port' end

@@ -26,8 +26,8 @@ ordered_sn (asks.Login c) = None
 ordered_sn (asks.Unknown opcode) = None
 
 -- the CmdSN that is expected after `count` PDUs that wait
-abbrev pub sn_behind : Flow → ℕ → ℕ
-sn_behind flow count = (flow.exp_cmd_sn + count) % 2 ^ 32
+abbrev pub sn_after : Flow → ℕ → ℕ
+sn_after flow count = (flow.exp_cmd_sn + count) % 2 ^ 32
 
 -- there is a CmdSN, and it is this one
 abbrev pub is_sn : Option ℕ → ℕ → Bool
@@ -37,7 +37,7 @@ is_sn (Some cmd_sn) n = cmd_sn == n
 -- a PDU that was read waits after `count` others: data are collected, the window has room, and it is the next in order
 abbrev pub waits : Flow → ℕ → InitiatorPdu → Bool
 waits flow count pdu =
-    not (is_open flow.collecting) && (nat_lt count 16 && is_sn (ordered_sn pdu) (sn_behind flow count))
+    not (is_open flow.collecting) && (nat_lt count 16 && is_sn (ordered_sn pdu) (sn_after flow count))
 
 -- there are none
 abbrev pub is_none : List WaitingPdu → Bool

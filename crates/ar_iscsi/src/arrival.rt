@@ -26,15 +26,15 @@ pub(crate) fn take_arrival<P: ResetPort>(
 ) -> Result<TurnEnd, AllocError>
     requires logged { P.has_login port.old ≡ true }
     requires empty { work.old.out.items ≡ [] }
-    ensures turn { IfOk result (λ ended. arrival.ArrivalTurn P.commands P.resets address.now work.old.limits header.now
-        carried.now
+    ensures turn { IfOk result (λ ended. arrival.ArrivalTurn P.commands P.refuses P.resets address.now work.old.limits
+        header.now carried.now
         (record {
-          spot = record { flow = work.old.flow; bytes = work.old.collected.items };
+          session = record { flow = work.old.flow; bytes = work.old.collected.items };
           waiting = waiting.old.items;
         })
         port.old work.new.out.items
         (record {
-          spot = record { flow = work.new.flow; bytes = work.new.collected.items };
+          session = record { flow = work.new.flow; bytes = work.new.collected.items };
           waiting = waiting.new.items;
         })
         port.new ended) }
@@ -43,20 +43,20 @@ pub(crate) fn take_arrival<P: ResetPort>(
     ensures limits { work.new.limits ≡ work.old.limits }
 {
     let pdu = initiator_pdu(header);
-    let is_behind = waits(&work.flow, waiting.len(), &pdu);
+    let is_after = waits(&work.flow, waiting.len(), &pdu);
     if let InitiatorPdu::TaskManagement(request) = pdu {
         return take_management(
-            work, waiting, alloc, port, header, carried, &request, is_behind,
+            work, waiting, alloc, port, header, carried, &request, is_after,
         );
     }
-    if is_behind {
+    if is_after {
         keep(waiting, alloc, header, carried, WaitingState::Undone)?;
         return Ok(TurnEnd::Next);
     }
     take_turn(work, alloc, port, address, header, carried)
 }
 
-// Does what a task management request asks for that was read. `is_behind`: it is the next in CmdSN's order after those
+// Does what a task management request asks for that was read. `is_after`: it is the next in CmdSN's order after those
 // that wait, so that its response waits, too.
 fn take_management<P: ResetPort>(
     work: &mut Work,
@@ -66,18 +66,18 @@ fn take_management<P: ResetPort>(
     header: &[u8; 48],
     carried: &[u8],
     request: &TaskManagement,
-    is_behind: bool,
+    is_after: bool,
 ) -> Result<TurnEnd, AllocError>
     requires logged { P.has_login port.old ≡ true }
     requires empty { work.old.out.items ≡ [] }
-    ensures turn { IfOk result (λ ended. arrival.ManagementTurn P.resets header.now carried.now request.now is_behind
+    ensures turn { IfOk result (λ ended. arrival.ManagementTurn P.resets header.now carried.now request.now is_after
         (record {
-          spot = record { flow = work.old.flow; bytes = work.old.collected.items };
+          session = record { flow = work.old.flow; bytes = work.old.collected.items };
           waiting = waiting.old.items;
         })
         port.old work.new.out.items
         (record {
-          spot = record { flow = work.new.flow; bytes = work.new.collected.items };
+          session = record { flow = work.new.flow; bytes = work.new.collected.items };
           waiting = waiting.new.items;
         })
         port.new ended) }
@@ -85,7 +85,7 @@ fn take_management<P: ResetPort>(
     ensures stays { P.has_login port.new ≡ true }
     ensures limits { work.new.limits ≡ work.old.limits }
 {
-    if is_behind {
+    if is_after {
         return answer_later(work, waiting, alloc, port, header, carried, request);
     }
     if work.flow.accepts(request.immediate, request.cmd_sn) {
@@ -108,12 +108,12 @@ fn answer_later<P: ResetPort>(
     requires empty { work.old.out.items ≡ [] }
     ensures turn { IfOk result (λ ended. arrival.AnswersLater P.resets header.now carried.now request.now
         (record {
-          spot = record { flow = work.old.flow; bytes = work.old.collected.items };
+          session = record { flow = work.old.flow; bytes = work.old.collected.items };
           waiting = waiting.old.items;
         })
         port.old work.new.out.items
         (record {
-          spot = record { flow = work.new.flow; bytes = work.new.collected.items };
+          session = record { flow = work.new.flow; bytes = work.new.collected.items };
           waiting = waiting.new.items;
         })
         port.new ended) }
@@ -138,12 +138,12 @@ fn answer_now<P: ResetPort>(
     requires empty { work.old.out.items ≡ [] }
     ensures turn { IfOk result (λ ended. arrival.AnswersNow P.resets request.now
         (record {
-          spot = record { flow = work.old.flow; bytes = work.old.collected.items };
+          session = record { flow = work.old.flow; bytes = work.old.collected.items };
           waiting = waiting.old.items;
         })
         port.old work.new.out.items
         (record {
-          spot = record { flow = work.new.flow; bytes = work.new.collected.items };
+          session = record { flow = work.new.flow; bytes = work.new.collected.items };
           waiting = waiting.new.items;
         })
         port.new ended) }

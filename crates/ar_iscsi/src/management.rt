@@ -21,12 +21,12 @@ pub(crate) fn manage_tasks<P: ResetPort>(
     requires logged { P.has_login port.old ≡ true }
     ensures manages { ManagesTasks P.resets request.now
         (record {
-          spot = record { flow = work.old.flow; bytes = work.old.collected.items };
+          session = record { flow = work.old.flow; bytes = work.old.collected.items };
           waiting = waiting.old.items;
         })
         port.old
         (record {
-          spot = record { flow = work.new.flow; bytes = work.new.collected.items };
+          session = record { flow = work.new.flow; bytes = work.new.collected.items };
           waiting = waiting.new.items;
         })
         port.new result }

@@ -63,12 +63,12 @@ pub fn serve_feature<R: Source, W: Sink, P: ResetPort>(
     requires logged { P.has_login port.old ≡ true }
     requires room { length buffer.old ≡ phase.most_segment }
     requires empty { work.old.out.items ≡ [] }
-    ensures { session.RunsFeature P.commands P.resets address.now work.old.limits
+    ensures { session.RunsFeature P.commands P.refuses P.resets address.now work.old.limits
         (record {
           source = R.state reader.old;
           sink = W.state writer.old;
           spot = record {
-            spot = record { flow = work.old.flow; bytes = work.old.collected.items };
+            session = record { flow = work.old.flow; bytes = work.old.collected.items };
             waiting = waiting.old.items;
           };
           port = port.old;
@@ -78,7 +78,7 @@ pub fn serve_feature<R: Source, W: Sink, P: ResetPort>(
           source = R.state reader.new;
           sink = W.state writer.new;
           spot = record {
-            spot = record { flow = work.new.flow; bytes = work.new.collected.items };
+            session = record { flow = work.new.flow; bytes = work.new.collected.items };
             waiting = waiting.new.items;
           };
           port = port.new;
@@ -107,12 +107,12 @@ fn serve_pdu<R: Source, W: Sink, P: ResetPort>(
     requires logged { P.has_login port.old ≡ true }
     requires room { length buffer.old ≡ phase.most_segment }
     requires empty { work.old.out.items ≡ [] }
-    ensures next { session.NextIsServed P.commands P.resets address.now work.old.limits
+    ensures next { session.NextIsServed P.commands P.refuses P.resets address.now work.old.limits
         (record {
           source = R.state reader.old;
           sink = W.state writer.old;
           spot = record {
-            spot = record { flow = work.old.flow; bytes = work.old.collected.items };
+            session = record { flow = work.old.flow; bytes = work.old.collected.items };
             waiting = waiting.old.items;
           };
           port = port.old;
@@ -122,7 +122,7 @@ fn serve_pdu<R: Source, W: Sink, P: ResetPort>(
           source = R.state reader.new;
           sink = W.state writer.new;
           spot = record {
-            spot = record { flow = work.new.flow; bytes = work.new.collected.items };
+            session = record { flow = work.new.flow; bytes = work.new.collected.items };
             waiting = waiting.new.items;
           };
           port = port.new;
@@ -166,12 +166,12 @@ fn serve_arrival<R: Source, W: Sink, P: ResetPort>(
     requires logged { P.has_login port.old ≡ true }
     requires room { length buffer.old ≡ phase.most_segment }
     requires empty { work.old.out.items ≡ [] }
-    ensures next { session.NextIsServed P.commands P.resets address.now work.old.limits
+    ensures next { session.NextIsServed P.commands P.refuses P.resets address.now work.old.limits
         (record {
           source = R.state reader.old;
           sink = W.state writer.old;
           spot = record {
-            spot = record { flow = work.old.flow; bytes = work.old.collected.items };
+            session = record { flow = work.old.flow; bytes = work.old.collected.items };
             waiting = waiting.old.items;
           };
           port = port.old;
@@ -181,7 +181,7 @@ fn serve_arrival<R: Source, W: Sink, P: ResetPort>(
           source = R.state reader.new;
           sink = W.state writer.new;
           spot = record {
-            spot = record { flow = work.new.flow; bytes = work.new.collected.items };
+            session = record { flow = work.new.flow; bytes = work.new.collected.items };
             waiting = waiting.new.items;
           };
           port = port.new;
@@ -216,16 +216,16 @@ fn answer_arrival<W: Sink, P: ResetPort>(
 ) -> Option<(TurnEnd, Sent)>
     requires logged { P.has_login port.old ≡ true }
     requires empty { work.old.out.items ≡ [] }
-    ensures answers { phase.AnswersPdu (ArrivalTurn P.commands P.resets address.now work.old.limits)
+    ensures answers { phase.AnswersPdu (ArrivalTurn P.commands P.refuses P.resets address.now work.old.limits)
         (MayUse P.commands P.resets)
         header.now carried.now (W.state writer.old)
         (record {
-          spot = record { flow = work.old.flow; bytes = work.old.collected.items };
+          session = record { flow = work.old.flow; bytes = work.old.collected.items };
           waiting = waiting.old.items;
         })
         port.old result (W.state writer.new)
         (record {
-          spot = record { flow = work.new.flow; bytes = work.new.collected.items };
+          session = record { flow = work.new.flow; bytes = work.new.collected.items };
           waiting = waiting.new.items;
         })
         port.new }
@@ -254,7 +254,8 @@ fn answer_waiting<W: Sink, P: Port>(
 ) -> Option<(TurnEnd, Sent)>
     requires logged { P.has_login port.old ≡ true }
     requires empty { work.old.out.items ≡ [] }
-    ensures answers { phase.AnswersPdu (session.WaitingTurn P.commands address.now work.old.limits pdu.now.state)
+    ensures answers { phase.AnswersPdu (session.WaitingTurn P.commands P.refuses address.now work.old.limits
+        pdu.now.state)
         (MayGive P.commands) pdu.now.header pdu.now.carried
         (W.state writer.old) (record { flow = work.old.flow; bytes = work.old.collected.items }) port.old result
         (W.state writer.new) (record { flow = work.new.flow; bytes = work.new.collected.items }) port.new }
@@ -282,7 +283,7 @@ fn turn_waiting<P: Port>(
 ) -> Result<TurnEnd, AllocError>
     requires logged { P.has_login port.old ≡ true }
     requires empty { work.old.out.items ≡ [] }
-    ensures turn { IfOk result (λ ended. session.WaitingTurn P.commands address.now work.old.limits
+    ensures turn { IfOk result (λ ended. session.WaitingTurn P.commands P.refuses address.now work.old.limits
         pdu.now.state pdu.now.header pdu.now.carried
         (record { flow = work.old.flow; bytes = work.old.collected.items }) port.old work.new.out.items
         (record { flow = work.new.flow; bytes = work.new.collected.items }) port.new ended) }

@@ -33,13 +33,15 @@ pub struct NoUnits {
 }
 
 impl Port for NoUnits {
-    ghost use Rattle.ar_iscsi.specs.Target.{no_units};
+    ghost use Rattle.ar_iscsi.specs.Target.{no_refusals, no_units};
 
     ghost has_login = { λ port. port.has_login };
 
     ghost logins = { λ old host login new. new ≡ old };
 
     ghost commands = { no_units };
+
+    ghost refuses = { no_refusals };
 
     fn login(&mut self, host: u8) -> Login {
         if host > 3 {
@@ -51,6 +53,10 @@ impl Port for NoUnits {
 
     fn command(&mut self, _lun: u8, _cdb: &[u8; 16], _payload: Bytes) -> Reply {
         Reply::check(Sense::LOGICAL_UNIT_NOT_SUPPORTED)
+    }
+
+    fn refuse(&mut self, _cdb: &[u8; 16]) -> Reply {
+        Reply::busy()
     }
 }
 
@@ -75,8 +81,8 @@ pub fn serve_target<R: Source, W: Sink, P: ResetPort>(
     address: &[u8],
 ) -> IscsiEnd
     requires { P.has_login port.old ≡ false }
-    ensures { session.TargetSession P.logins P.commands P.resets address.now (R.state reader.old) (R.state reader.new)
-        (W.state writer.old) (W.state writer.new) port.old port.new result }
+    ensures { session.TargetSession P.logins P.commands P.refuses P.resets address.now
+        (R.state reader.old) (R.state reader.new) (W.state writer.old) (W.state writer.new) port.old port.new result }
 {
     match segment_buffer(alloc) {
         Ok(mut buffer) => serve_buffered(alloc, reader, writer, port, address, &mut buffer),
@@ -106,8 +112,8 @@ fn serve_buffered<R: Source, W: Sink, P: ResetPort>(
 ) -> IscsiEnd
     requires unlogged { P.has_login port.old ≡ false }
     requires room { length buffer.old ≡ most_segment }
-    ensures { session.TargetSession P.logins P.commands P.resets address.now (R.state reader.old) (R.state reader.new)
-        (W.state writer.old) (W.state writer.new) port.old port.new result }
+    ensures { session.TargetSession P.logins P.commands P.refuses P.resets address.now
+        (R.state reader.old) (R.state reader.new) (W.state writer.old) (W.state writer.new) port.old port.new result }
 {
     let mut work = LoginWork {
         state: LoginState {
@@ -152,8 +158,8 @@ fn serve_entered<R: Source, W: Sink, P: ResetPort>(
 ) -> FeatureEnd
     requires logged { state.so_far.kind ≡ SessionKind.Normal → P.has_login port.old ≡ true }
     requires room { length buffer.old ≡ most_segment }
-    ensures { session.IsFeature P.commands P.resets address.now state (R.state reader.old) (R.state reader.new)
-        (W.state writer.old) (W.state writer.new) port.old port.new result }
+    ensures { session.IsFeature P.commands P.refuses P.resets address.now state
+        (R.state reader.old) (R.state reader.new) (W.state writer.old) (W.state writer.new) port.old port.new result }
 {
     let mut work = Work {
         flow: Flow {

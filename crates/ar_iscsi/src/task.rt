@@ -166,24 +166,23 @@ pub fn complete<P: Port>(
     Ok(flow.answered())
 }
 
-/// Answers BUSY to a command without the port.
-pub fn refuse(
+/// Has the port refuse a command, and appends its answer BUSY to `out`. `Err` if the answer can't be allocated: `out`
+/// ends in an unspecified part of it.
+pub fn refuse<P: Port>(
+    port: &mut P,
     flow: Flow,
     limits: &Limits,
     out: &mut Vec<u8>,
     command: &ScsiCommand,
     asked: u32,
 ) -> Result<Flow, AllocError>
-    ensures { IfOk result (λ after. task.GetsBusy flow limits.now command.now asked out.old.items out.new.items after) }
+    requires { P.has_login port.old ≡ true }
+    ensures busy { IfOk result (λ after. task.GetsBusy P.refuses flow limits.now command.now asked port.old port.new
+        out.old.items out.new.items after) }
+    ensures same { port.new ≡ port.old }
 {
-    put_reply(
-        out,
-        command,
-        flow.numbers(),
-        most_in(limits),
-        asked,
-        &Reply::busy(),
-    )?;
+    let reply = port.refuse(&command.cdb);
+    put_reply(out, command, flow.numbers(), most_in(limits), asked, &reply)?;
     Ok(flow.answered())
 }
 

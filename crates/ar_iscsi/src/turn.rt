@@ -58,7 +58,8 @@ pub fn take_turn<P: Port>(
 ) -> Result<TurnEnd, AllocError>
     requires logged { P.has_login port.old ≡ true }
     requires empty { work.old.out.items ≡ [] }
-    ensures turn { IfOk result (λ ended. turn.FeatureTurn P.commands address.now work.old.limits header.now carried.now
+    ensures turn { IfOk result (λ ended. turn.FeatureTurn P.commands P.refuses address.now work.old.limits header.now
+        carried.now
         (record { flow = work.old.flow; bytes = work.old.collected.items }) port.old work.new.out.items
         (record { flow = work.new.flow; bytes = work.new.collected.items }) port.new ended) }
     ensures once { MayGive P.commands port.old port.new }
@@ -228,7 +229,7 @@ fn command_turn<P: Port>(
     requires logged { P.has_login port.old ≡ true }
     requires empty { work.old.out.items ≡ [] }
     requires suits { SuitsData (length carried.now) step }
-    ensures turn { IfOk result (λ ended. turn.CommandTurn P.commands work.old.limits command.now header.now
+    ensures turn { IfOk result (λ ended. turn.CommandTurn P.commands P.refuses work.old.limits command.now header.now
         carried.now step
         (record { flow = work.old.flow; bytes = work.old.collected.items }) port.old work.new.out.items
         (record { flow = work.new.flow; bytes = work.new.collected.items }) port.new ended) }
@@ -241,12 +242,12 @@ fn command_turn<P: Port>(
         CommandStep::Rejects(reason) => reject(work, header, reason),
         CommandStep::Refuses => {
             let flow = work.flow.received(command.immediate);
-            refuse_done(work, flow, command, 0)
+            refuse_done(work, port, flow, command, 0)
         }
         CommandStep::Runs { wanted } => {
             run_command(work, alloc, port, command, &carried[..wanted as usize])
         }
-        CommandStep::Collects { wanted } => collect(work, command, carried, wanted),
+        CommandStep::Collects { wanted } => collect(work, port, command, carried, wanted),
     }
 }
 
@@ -260,7 +261,7 @@ fn run_command<P: Port>(
 ) -> Result<TurnEnd, AllocError>
     requires logged { P.has_login port.old ≡ true }
     requires empty { work.old.out.items ≡ [] }
-    ensures done { OnOk result (turn.IsDone P.commands work.old.limits (received work.old.flow
+    ensures done { OnOk result (turn.IsDone P.commands P.refuses work.old.limits (received work.old.flow
         command.now.immediate) command.now
         payload.now 0 port.old port.new work.new.out.items work.new.flow) }
     ensures next { IfOk result (λ ended. ended ≡ TurnEnd.Next) }
@@ -271,7 +272,7 @@ fn run_command<P: Port>(
     let flow = work.flow.received(command.immediate);
     match shared_copy(alloc, payload) {
         Some(payload) => finish(work, port, flow, command, payload, 0),
-        None => refuse_done(work, flow, command, 0),
+        None => refuse_done(work, port, flow, command, 0),
     }
 }
 
@@ -306,21 +307,24 @@ fn finish<P: Port>(
     Ok(TurnEnd::Next)
 }
 
-// Answers BUSY to a command, in this state.
-fn refuse_done(
+// Has the port refuse a command, in this state.
+fn refuse_done<P: Port>(
     work: &mut Work,
+    port: &mut P,
     flow: Flow,
     command: &ScsiCommand,
     asked: u32,
 ) -> Result<TurnEnd, AllocError>
+    requires logged { P.has_login port.old ≡ true }
     requires empty { work.old.out.items ≡ [] }
-    ensures refused { OnOk result (GetsBusy flow work.old.limits command.now asked [] work.new.out.items
-        work.new.flow) }
+    ensures refused { OnOk result (GetsBusy P.refuses flow work.old.limits command.now asked port.old port.new []
+        work.new.out.items work.new.flow) }
     ensures next { IfOk result (λ ended. ended ≡ TurnEnd.Next) }
+    ensures same { port.new ≡ port.old }
     ensures collected { work.new.collected.items ≡ work.old.collected.items }
     ensures limits { work.new.limits ≡ work.old.limits }
 {
-    let after = refuse(flow, &work.limits, &mut work.out, command, asked)?;
+    let after = refuse(port, flow, &work.limits, &mut work.out, command, asked)?;
     work.flow = after;
     Ok(TurnEnd::Next)
 }
@@ -337,25 +341,28 @@ pub(crate) fn shared_copy(alloc: Global, payload: &[u8]) -> Option<Bytes>
 }
 
 // Begins to collect a command's data: those that it carries, and those that the first R2T asks for.
-fn collect(
+fn collect<P: Port>(
     work: &mut Work,
+    port: &mut P,
     command: &ScsiCommand,
     carried: &[u8],
     wanted: u32,
 ) -> Result<TurnEnd, AllocError>
+    requires logged { P.has_login port.old ≡ true }
     requires empty { work.old.out.items ≡ [] }
     requires more { length carried.now < wanted }
-    ensures starts { OnOk result (turn.StartsData work.old.limits (received work.old.flow command.now.immediate)
-        command.now wanted
-        carried.now work.new.out.items (record { flow = work.new.flow; bytes = work.new.collected.items })) }
+    ensures starts { OnOk result (turn.StartsData P.refuses work.old.limits
+        (received work.old.flow command.now.immediate) command.now wanted carried.now port.old work.new.out.items
+        (record { flow = work.new.flow; bytes = work.new.collected.items }) port.new) }
     ensures next { IfOk result (λ ended. ended ≡ TurnEnd.Next) }
+    ensures same { port.new ≡ port.old }
     ensures limits { work.new.limits ≡ work.old.limits }
 {
     let flow = work.flow.received(command.immediate);
     if hold(&mut work.collected, carried, wanted as usize) {
         ask_for(work, flow, command, wanted, carried.len() as u32, 0)
     } else {
-        refuse_done(work, flow, command, 0)
+        refuse_done(work, port, flow, command, 0)
     }
 }
 
@@ -411,7 +418,7 @@ fn data_turn<P: Port>(
     requires logged { P.has_login port.old ≡ true }
     requires empty { work.old.out.items ≡ [] }
     requires suits { SuitsBurst (length work.old.collected.items + length carried.now) step }
-    ensures turn { IfOk result (λ ended. turn.DataTurn P.commands work.old.limits carried.now step
+    ensures turn { IfOk result (λ ended. turn.DataTurn P.commands P.refuses work.old.limits carried.now step
         (record { flow = work.old.flow; bytes = work.old.collected.items }) port.old work.new.out.items
         (record { flow = work.new.flow; bytes = work.new.collected.items }) port.new ended) }
     ensures once { MayGive P.commands port.old port.new }
@@ -436,7 +443,7 @@ fn take_data<P: Port>(
     requires logged { P.has_login port.old ≡ true }
     requires empty { work.old.out.items ≡ [] }
     requires within { length work.old.collected.items + length carried.now ≤ c.now.burst_end }
-    ensures takes { OnOk result (turn.TakesData P.commands work.old.limits c.now (work.old.collected.items ++
+    ensures takes { OnOk result (turn.TakesData P.commands P.refuses work.old.limits c.now (work.old.collected.items ++
         carried.now)
         work.old.flow port.old work.new.out.items
         (record { flow = work.new.flow; bytes = work.new.collected.items }) port.new) }
@@ -459,7 +466,7 @@ fn take_all<P: Port>(
     requires logged { P.has_login port.old ≡ true }
     requires empty { work.old.out.items ≡ [] }
     requires within { length work.old.collected.items ≤ c.now.burst_end }
-    ensures takes { OnOk result (turn.TakesData P.commands work.old.limits c.now work.old.collected.items
+    ensures takes { OnOk result (turn.TakesData P.commands P.refuses work.old.limits c.now work.old.collected.items
         work.old.flow port.old
         work.new.out.items (record { flow = work.new.flow; bytes = work.new.collected.items }) port.new) }
     ensures next { IfOk result (λ ended. ended ≡ TurnEnd.Next) }
@@ -488,7 +495,7 @@ fn finish_collected<P: Port>(
 ) -> Result<TurnEnd, AllocError>
     requires logged { P.has_login port.old ≡ true }
     requires empty { work.old.out.items ≡ [] }
-    ensures done { OnOk result (turn.IsDone P.commands work.old.limits (reopened work.old.flow) c.now.command
+    ensures done { OnOk result (turn.IsDone P.commands P.refuses work.old.limits (reopened work.old.flow) c.now.command
         work.old.collected.items c.now.asked port.old port.new work.new.out.items work.new.flow) }
     ensures next { IfOk result (λ ended. ended ≡ TurnEnd.Next) }
     ensures once { MayGive P.commands port.old port.new }
@@ -499,7 +506,7 @@ fn finish_collected<P: Port>(
     let collected = mem::replace(&mut work.collected, Vec::new(alloc));
     match shared(collected) {
         Some(payload) => finish(work, port, flow, &c.command, payload, c.asked),
-        None => refuse_done(work, flow, &c.command, c.asked),
+        None => refuse_done(work, port, flow, &c.command, c.asked),
     }
 }
 

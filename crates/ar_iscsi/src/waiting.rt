@@ -17,15 +17,15 @@ pub(crate) fn waits(flow: &Flow, count: usize, pdu: &InitiatorPdu) -> bool
     match ordered_sn(pdu) {
         Some(cmd_sn) => flow.collecting.is_some()
             && count < WINDOW
-            && cmd_sn == sn_behind(flow, count),
+            && cmd_sn == sn_after(flow, count),
         None => false,
     }
 }
 
 // The CmdSN that is expected after `count` PDUs that wait.
-fn sn_behind(flow: &Flow, count: usize) -> u32
+fn sn_after(flow: &Flow, count: usize) -> u32
     requires { count < 16 }
-    ensures { result ≡ rule.sn_behind flow.now count }
+    ensures { result ≡ rule.sn_after flow.now count }
 {
     flow.exp_cmd_sn.wrapping_add(count as u32)
 }

@@ -138,8 +138,8 @@ pub some_bytes : (text : List ℕ) → (length text == 0) ≡ false → 0 < leng
 some_bytes text some = search (rules, tests)
 
 module _ (text : List ℕ) (end : ℕ) (at : end ≡ position_or_len is_space text) where
-  not_behind : end ≤ length text
-  not_behind = omega (arith, at, no_further text)
+  not_after : end ≤ length text
+  not_after = omega (arith, at, no_further text)
 
   first_taken : end < length text → words_of text ≡ take end text ∷ words_of (drop (end + 1) text)
   first_taken inside =
@@ -162,7 +162,7 @@ module _ (text : List ℕ) (end : ℕ) (at : end ≡ position_or_len is_space te
     pub first_word : (rest : List ℕ) → rest ≡ drop (end + 1) text → (end ≡ length text → ⊥)
         → words_of text ≡ word ∷ words_of rest
     first_word rest is_rest more =
-        first_taken (omega (arith, not_behind, more)) ∙ ap (λ w. w ∷ words_of (drop (end + 1) text)) (sym is)
+        first_taken (omega (arith, not_after, more)) ∙ ap (λ w. w ∷ words_of (drop (end + 1) text)) (sym is)
         ∙ ap (λ r. word ∷ words_of r) (sym is_rest)
 
     pub last_word : end ≡ length text → words_of text ≡ word ∷ []
@@ -170,17 +170,17 @@ module _ (text : List ℕ) (end : ℕ) (at : end ≡ position_or_len is_space te
 
     pub some_word : (end ≡ 0 → ⊥) → 0 < length word
     some_word some = let len : length word ≡ end =
-        ap length is ∙ length-take-le end text not_behind in omega (arith, len, some)
+        ap length is ∙ length-take-le end text not_after in omega (arith, len, some)
 
   space_at : end < length text → get_or text end 0 ≡ 32
   space_at inside = ap (λ n. get_or text n 0) at ∙ eqb-true _ _ (passes_at_first is_space text 0 (omega (arith, at)))
 
   -- it may be cut there, and after a space
   pub cut_at : IsCharBoundary text end
-  cut_at = (not_behind, λ inside wide. absurd (omega (arith, space_at inside)))
+  cut_at = (not_after, λ inside wide. absurd (omega (arith, space_at inside)))
 
   pub cut_behind : IsUtf8 text → (end ≡ length text → ⊥) → IsCharBoundary text (end + 1)
   cut_behind utf8 more =
       let inside : end < length text =
-      omega (arith, not_behind, more) in IsCharBoundary-after_ascii text end utf8 inside
+      omega (arith, not_after, more) in IsCharBoundary-after_ascii text end utf8 inside
       (omega (arith, space_at inside))

@@ -19,7 +19,7 @@ use Rattle.ar_language.specs.declared.fault.Fault.TheVariants.{Start, Line}
 use Rattle.ar_language.specs.declared.lines.Lines.{Lines}
 use Rattle.ar_language.specs.Lines.{lines_in, lines_of, first_of, front_of, line_fault, bytes_left, Took, HasNoEnd}
 use Rattle.ar_language.specs.Lines.{is_printable, IsLine, IsFirst, IsLacking, IsAllTaken, AreThere, IsFaultFrom}
-use Rattle.ar_language.specs.Lines.{IsUnasked, IsToldOfFirst, IsToldOfNext, IsNextLineFault, is_given, IsReached}
+use Rattle.ar_language.specs.Lines.{IsUnasked, IsReportedOfFirst, IsReportedOfNext, IsNextLineFault, is_given, IsReached}
 use Rattle.ar_language.specs.Lines.{IsNumbered, IsOfNext}
 use Rattle.ar_language.specs.Left.{bytes_read, lines_begun, lines_left, IsBegunByByte, IsSettled, HasFault}
 use Rattle.ar_language.specs.Left.{IsLineRefused, GoesOn}
@@ -100,26 +100,26 @@ taken_line {reads = reads} old new unasked ended is =
     (subst (λ l. Took (lines_of (prepend_known (bytes_read old) (beyond old))) l (line ∷ [])) (sym right) front)
 
 -- why the first line isn't given
-told_of : (read : List ℕ) (more : Option (List ℕ)) (kind : FaultKind) → IsFaultFrom read kind
-    → IsToldOfNext (lines_of (prepend_known read more)) kind
-told_of read None kind is = tt
-told_of read (Some xs) kind is = inr (inl (is xs))
+reported_of : (read : List ℕ) (more : Option (List ℕ)) (kind : FaultKind) → IsFaultFrom read kind
+    → IsReportedOfNext (lines_of (prepend_known read more)) kind
+reported_of read None kind is = tt
+reported_of read (Some xs) kind is = inr (inl (is xs))
 
-told_more : (read : List ℕ) (more : Option (List ℕ)) → read ≢ []
-    → IsToldOfNext (lines_of (prepend_known read more)) TooManyLines
-told_more read None some = tt
-told_more [] (Some xs) some = absurd (some refl)
-told_more (x ∷ read) (Some xs) some = inr (inr (refl, some_line (x ∷ (read ++ xs)) (λ e. cc)))
+reported_more : (read : List ℕ) (more : Option (List ℕ)) → read ≢ []
+    → IsReportedOfNext (lines_of (prepend_known read more)) TooManyLines
+reported_more read None some = tt
+reported_more [] (Some xs) some = absurd (some refl)
+reported_more (x ∷ read) (Some xs) some = inr (inr (refl, some_line (x ∷ (read ++ xs)) (λ e. cc)))
 
 pub refused_line : {R : Type 0} {reads : Ghosts R} (lines : Lines R reads) (begun : Bool) (fault : Fault)
     → IsLineRefused lines begun fault → IsNextLineFault (lines_left lines) fault
 refused_line lines begun Start is = absurd is
 refused_line lines begun (Line n kind) is =
-    subst (λ l. IsToldOfNext l kind) (sym (left_of lines))
+    subst (λ l. IsReportedOfNext l kind) (sym (left_of lines))
     (elim is.1 [
-      | inl full ↦ subst (IsToldOfNext (lines_of (prepend_known (bytes_read lines) (beyond lines)))) (sym full.0)
-          (told_more (bytes_read lines) (beyond lines) full.2)
-      | inr wrong ↦ told_of (bytes_read lines) (beyond lines) kind wrong.0
+      | inl full ↦ subst (IsReportedOfNext (lines_of (prepend_known (bytes_read lines) (beyond lines)))) (sym full.0)
+          (reported_more (bytes_read lines) (beyond lines) full.2)
+      | inr wrong ↦ reported_of (bytes_read lines) (beyond lines) kind wrong.0
     ])
 
 -- and where none was taken before
@@ -128,7 +128,7 @@ pub stops_later : (old mid : Option (List (List ℕ))) (fault : Fault) → Took 
 stops_later old mid Start kept stops = absurd stops
 stops_later None mid (Line n kind) kept stops = tt
 stops_later (Some all) None (Line n kind) kept stops = absurd kept
-stops_later (Some all) (Some left) (Line n kind) kept stops = subst (λ l. IsToldOfFirst l kind) (sym kept) stops
+stops_later (Some all) (Some left) (Line n kind) kept stops = subst (λ l. IsReportedOfFirst l kind) (sym kept) stops
 
 pub took_later : (old mid new : Option (List (List ℕ))) (lines : List (List ℕ)) → Took old mid [] → Took mid new lines
     → Took old new lines
@@ -175,14 +175,14 @@ none_left {reads = reads} lines ended none =
     (none_from (reader_capacity lines.source == 0) (reads.remaining (reader_inner lines.source)))))
 
 -- a line was given, or none is left
-pub goes_told : {R : Type 0} {reads : Ghosts R} (old new : Lines R reads) (given : Bool)
+pub goes_reported : {R : Type 0} {reads : Ghosts R} (old new : Lines R reads) (given : Bool)
     → IsUnasked old.source new.source → new.is_at_end ≡ old.is_at_end
     → (given ≡ true → IsFirst old.is_at_end (bytes_read old) new.line.items (bytes_read new))
     → (not given ≡ true → IsLacking old.is_at_end (bytes_read old))
     → (given ≡ false → bytes_read new ≡ bytes_read old) → new.is_awaited ≡ (not given && not old.is_at_end)
     → new.is_awaited ≡ false
     → new.given ≡ old.given + cond given 1 0 → (given ≡ true → new.is_begun ≡ false) → GoesOn old (Ok given) new
-goes_told old new true unasked ended is lacking kept awaited told count closed = record {
+goes_reported old new true unasked ended is lacking kept awaited reported count closed = record {
   taken = λ _. taken_line old new unasked ended (is refl);
   none = λ no. absurd (cc);
   kept = λ no. absurd (cc);
@@ -195,7 +195,7 @@ goes_told old new true unasked ended is lacking kept awaited told count closed =
   reached = tt;
   numbered = tt;
 }
-goes_told old new false unasked ended is lacking kept awaited told count closed = record {
+goes_reported old new false unasked ended is lacking kept awaited reported count closed = record {
   taken = λ no. absurd (cc);
   none = λ _. none_left new over (kept refl ∙ (lacking refl).ended (sym ended ∙ over));
   kept = λ _. kept_lines old new unasked ended (kept refl);
@@ -210,7 +210,7 @@ goes_told old new false unasked ended is lacking kept awaited told count closed 
 }
   where
     over : new.is_at_end ≡ true
-    over = ended ∙ at old.is_at_end (sym awaited ∙ told)
+    over = ended ∙ at old.is_at_end (sym awaited ∙ reported)
       where
         at : (b : Bool) → not b ≡ false → b ≡ true
         at true none = refl
@@ -234,16 +234,16 @@ own_fault read kind is =
     ]
 
 -- how a refusal is numbered
-told_at : (given n : ℕ) (begun : Bool) (kind : FaultKind) → given + cond begun 1 0 ≤ 1000000 → n ≡ given + 1
+reported_at : (given n : ℕ) (begun : Bool) (kind : FaultKind) → given + cond begun 1 0 ≤ 1000000 → n ≡ given + 1
     → ((kind ≡ TooManyLines) × ((given ≡ 1000000) × (begun ≡ false))) ⊎ ((kind ≢ TooManyLines) × (begun ≡ true))
     → IsReached (given + cond begun 1 0) (Line n kind) × IsNumbered (Line n kind)
-told_at given n true kind few is (inl full) = absurd (let no = full.1.1 in cc)
-told_at given n true kind few is (inr wrong) =
+reported_at given n true kind few is (inl full) = absurd (let no = full.1.1 in cc)
+reported_at given n true kind few is (inr wrong) =
     (inl is, (omega arith, omega arith, λ many. absurd (wrong.0 many), λ over. absurd (omega arith)))
-told_at given n false kind few is (inl full) =
+reported_at given n false kind few is (inl full) =
     let many = full.1.0 in
     (inr (omega arith, inr (inl full.0)), (omega arith, omega arith, λ _. omega arith, λ _. inl full.0))
-told_at given n false kind few is (inr wrong) = absurd (let no = wrong.1 in cc)
+reported_at given n false kind few is (inr wrong) = absurd (let no = wrong.1 in cc)
 
 -- a line was refused
 pub goes_refused : {R : Type 0} {reads : Ghosts R} (old new : Lines R reads) (fault : Fault)
@@ -264,8 +264,8 @@ goes_refused old new (Line n kind) result is unasked ended same count refused =
       closed = λ no. absurd (cc);
       ended = λ no. absurd (cc);
       next = inl (apart.1, refused.0);
-      reached = told.0;
-      numbered = told.1;
+      reached = reported.0;
+      numbered = reported.1;
     })
   where
     apart : (kind ≢ ReadFault) × (kind ≢ WriteFault)
@@ -292,8 +292,8 @@ goes_refused old new (Line n kind) result is unasked ended same count refused =
       | inr wrong ↦ inr ((own_fault (bytes_read old) kind wrong.0).1.1, wrong.1)
     ]
 
-    told : IsReached (lines_begun new) (Line n kind) × IsNumbered (Line n kind)
-    told = told_at new.given n new.is_begun kind new.few (refused.0 ∙ ap (λ m. m + 1) (sym count)) cases
+    reported : IsReached (lines_begun new) (Line n kind) × IsNumbered (Line n kind)
+    reported = reported_at new.given n new.is_begun kind new.few (refused.0 ∙ ap (λ m. m + 1) (sym count)) cases
 
 -- lines that were kept meanwhile
 pub goes_later : {R : Type 0} {reads : Ghosts R} (old mid new : Lines R reads) (result : Result Bool Fault)
@@ -316,8 +316,8 @@ goes_later old mid new result kept count goes = record {
   where
     stops : (r : Result Bool Fault) → IfErr r (IsNextLineFault (lines_left mid))
         → IfErr r (IsNextLineFault (lines_left old))
-    stops (Ok more) told = tt
-    stops (Err fault) told = stops_later (lines_left old) (lines_left mid) fault kept told
+    stops (Ok more) reported = tt
+    stops (Err fault) reported = stops_later (lines_left old) (lines_left mid) fault kept reported
 
 -- what was taken of a line grows by what was read meanwhile
 pub grows : (front buffered later rest : List ℕ) (n : ℕ) → n ≤ length front → (length buffered == 0) ≡ false
@@ -366,10 +366,10 @@ no_fault_there (x ∷ xs) kind whole is =
     cc
 
 -- after a million lines nothing of one is read that isn't refused
-pub none_behind : {R : Type 0} {reads : Ghosts R} (old new : Lines R reads) → old.given ≡ 1000000 → bytes_read old ≢ []
+pub none_after : {R : Type 0} {reads : Ghosts R} (old new : Lines R reads) → old.given ≡ 1000000 → bytes_read old ≢ []
     → new.given ≡ old.given
     → bytes_read new ≡ bytes_read old → reader_buffer new.source ≡ [] → ⊥
-none_behind old new many some given same drained = at new.is_begun refl
+none_after old new many some given same drained = at new.is_begun refl
   where
     at : (b : Bool) → new.is_begun ≡ b → ⊥
     at true is = let few = subst (λ b. new.given + cond b 1 0 ≤ 1000000) is new.few in omega arith
@@ -384,7 +384,7 @@ not_settled old new whole given same drained more settled = at settled
     at : IsSettled old → ⊥
     at (inl end) = no_end_there (front_of old.is_begun old.line.items) (reader_buffer old.source) whole end
     at (inr (inl fault)) = no_fault_there (bytes_read old) fault.kind whole fault.is
-    at (inr (inr (inl many))) = none_behind old new many.0 many.1 given same drained
+    at (inr (inr (inl many))) = none_after old new many.0 many.1 given same drained
     at (inr (inr (inr ended))) = absurd (cc)
 
 -- ---- a line that was begun is there
@@ -413,9 +413,9 @@ begun_there lines begun = at lines.is_begun refl
     at false is = none_there (lines_left lines)
 
 -- after lines that were taken
-pub there_behind : (script left : Option (List (List ℕ))) (lines : List (List ℕ)) (n : ℕ) → Took script left lines
+pub there_after : (script left : Option (List (List ℕ))) (lines : List (List ℕ)) (n : ℕ) → Took script left lines
     → AreThere left n → AreThere script (length lines + n)
-there_behind None left lines n took there = tt
-there_behind (Some all) None lines n took there = absurd took
-there_behind (Some all) (Some left) lines n took there = let len =
+there_after None left lines n took there = tt
+there_after (Some all) None lines n took there = absurd took
+there_after (Some all) (Some left) lines n took there = let len =
     ap (λ (l : List (List ℕ)). length l) took ∙ length-append lines left in omega arith

@@ -141,21 +141,21 @@ bad_part room part (Some next) shown hidden bad = known (eqb next 10) bad
     all : List ℕ
     all = part ++ next ∷ []
 
-    told : (short : Bool) → ltb (length part) room ≡ short
+    reported : (short : Bool) → ltb (length part) room ≡ short
         → part_fault room all ≡ Some (cond short BadCharacter LineTooLong)
-    told true is =
+    reported true is =
         let fits = ltb-true _ _ is in
         let whole : take room all ≡ all = take_all room all (omega (arith, length-append part (next ∷ []))) in
         ap (λ b. cond b (cond (ltb room (length all)) (Some LineTooLong) None) (Some BadCharacter))
         (ap (list_all is_printable) whole ∙ not_shown part next hidden)
-    told false is =
+    reported false is =
         let full = ltb-false _ _ is in
         long_part room part (next ∷ []) shown full (omega (arith, length-append part (next ∷ [])))
 
     known : (ends : Bool) → not ends ≡ true → part_fault room (cond ends part all)
         ≡ Some (cond (ltb (length part) room) BadCharacter LineTooLong)
     known true h = absurd (cc)
-    known false h = told (ltb (length part) room) refl
+    known false h = reported (ltb (length part) room) refl
 
 -- where there is none, the length is reported
 pub too_long : (room : ℕ) (part : List ℕ) (next : Option ℕ) → list_all is_printable part ≡ true

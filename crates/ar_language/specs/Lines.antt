@@ -149,19 +149,19 @@ abbrev pub IsOfStream : FaultKind → Type 0
 IsOfStream kind = (kind ≡ ReadFault) ⊎ (kind ≡ WriteFault)
 
 -- why the first of these lines isn't taken: a stream faulted, or it has a fault, or is one too many
-abbrev pub IsToldOfFirst : List (List ℕ) → FaultKind → Type 0
-IsToldOfFirst lines kind =
+abbrev pub IsReportedOfFirst : List (List ℕ) → FaultKind → Type 0
+IsReportedOfFirst lines kind =
     IsOfStream kind ⊎ (line_fault (first_of lines) ≡ Some kind) ⊎ ((kind ≡ TooManyLines) × (lines ≢ []))
 
 -- the same for the lines that are left, if they are known
-abbrev pub IsToldOfNext : Option (List (List ℕ)) → FaultKind → Type 0
-IsToldOfNext None kind = ⊤
-IsToldOfNext (Some lines) kind = IsToldOfFirst lines kind
+abbrev pub IsReportedOfNext : Option (List (List ℕ)) → FaultKind → Type 0
+IsReportedOfNext None kind = ⊤
+IsReportedOfNext (Some lines) kind = IsReportedOfFirst lines kind
 
 -- the same for a fault with the number of its line
 abbrev pub IsNextLineFault : Option (List (List ℕ)) → Fault → Type 0
 IsNextLineFault left Start = ⊥
-IsNextLineFault left (Line n kind) = IsToldOfNext left kind
+IsNextLineFault left (Line n kind) = IsReportedOfNext left kind
 
 -- a line by its number, which counts from 1
 abbrev pub line_at : List (List ℕ) → ℕ → List ℕ

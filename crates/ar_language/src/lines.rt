@@ -176,7 +176,7 @@ impl<R: Read + Drop> Lines<R> {
     pub fn line(&self) -> &str
         ensures { result.now ≡ self.now.line.items }
     {
-        // ASCII is valid UTF-8.
+        // SAFETY: ASCII is valid UTF-8.
         unsafe { str::from_utf8_unchecked(self.line.as_slice()) }
     }
 }

@@ -15,7 +15,7 @@ ghost use Rattle.ar_language.specs.Forms.{IsDisk};
 
 use crate::order::{Action, Data, Notation, Order, Question};
 use crate::{FaultKind, blocks, words};
-use ar_disks::{Addr, Host};
+use ar_disks::{Addr, Host, SECTOR_LEN};
 
 const NO_DATA: Data = Data { len: 0, byte: 0 };
 
@@ -380,7 +380,7 @@ fn writing(span: Span, cdb: [u8; 16], byte: u8) -> Order
         addr: span.addr,
         cdb,
         data: Data {
-            len: u32::from(span.count) * 512,
+            len: u32::from(span.count) * SECTOR_LEN as u32,
             byte,
         },
         notation: Notation::Runs,

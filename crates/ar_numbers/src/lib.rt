@@ -6,6 +6,8 @@ ghost use Rattle.std.specs.Option.{SomeIff};
 ghost use Rattle.std.specs.Str.Parse.{digits_value};
 ghost use Rattle.ar_numbers.specs.Numbers.{IsDecimal, IsSize, digits_of, size_sectors, suffix_at, suffix_unit};
 
+use ar_disks::SECTOR_LEN;
+
 /// Parses a number: 1 to 10 decimal digits.
 pub fn number(word: &str) -> Option<u64>
     ensures { SomeIff result (IsDecimal word.now) (digits_value 10 word.now) }
@@ -21,7 +23,7 @@ pub fn sectors(word: &str) -> Option<u32>
     let bytes = word.as_bytes();
     let unit = unit(bytes.last().copied());
     let number = digits(before_unit(bytes, unit))?;
-    u32::try_from(number * unit / 512).ok()
+    u32::try_from(number * unit / SECTOR_LEN as u64).ok()
 }
 
 // The bytes that a size's last letter stands for.
@@ -33,7 +35,7 @@ fn unit(letter: Option<u8>) -> u64
         Some(b'K') => 1 << 10,
         Some(b'M') => 1 << 20,
         Some(b'G') => 1 << 30,
-        _ => 512,
+        _ => SECTOR_LEN as u64,
     }
 }
 
@@ -42,7 +44,7 @@ fn before_unit(bytes: &[u8], unit: u64) -> &[u8]
     requires unit { unit ≡ suffix_unit bytes.now }
     ensures { result.now ≡ digits_of bytes.now }
 {
-    if unit == 512 {
+    if unit == SECTOR_LEN as u64 {
         bytes
     } else {
         &bytes[..bytes.len().saturating_sub(1)]

@@ -18,7 +18,7 @@ use Rattle.ar_operator.specs.Lines.{EndsInLine, KeepsLine, LineIsRead, seen_behi
 use Rattle.ar_operator.proofs.Coming.{piece_empty}
 use Rattle.ar_operator.specs.Talk.{ClosesTalk, OperatorTalk, Converses, HasTalked, ReadsBytes, Replies, LineIsAnswered}
 use Rattle.ar_operator.specs.Talk.{line_result_by, ConversationState, LeavesOpen, RespondsToLine, Talks, NextIsAnswered}
-use Rattle.ar_operator.specs.Talk.{CutIsAnswered, SendsCut, cut_end, is_unreadable, line_result_behind}
+use Rattle.ar_operator.specs.Talk.{CutIsAnswered, SendsCut, cut_end, is_unreadable, line_result_after}
 
 -- what is kept of a line's bytes says what they are read as
 kept : (line text : List ℕ) (fault : Option FaultKind) (read : Result (Option OperatorOrder) LineFault)
@@ -49,10 +49,10 @@ module _ {C : Type 0} (answers : OperatorAnswers C) where
       (fault : Option FaultKind) (result : LineResult)
       → LineIsRead source text fault source' → LineIsAnswered answers fault text old sink result new sink'
       → NextIsAnswered answers (record { source = source; sink = sink; controller = old })
-      (line_result_behind (is_unreadable fault) result)
+      (line_result_after (is_unreadable fault) result)
       (record { source = source'; sink = sink'; controller = new })
   next_is_answered source source' sink sink' old new text fault result comes answered =
-      subst (λ t. NextIsAnswered answers before (line_result_behind (is_unreadable fault) t) after)
+      subst (λ t. NextIsAnswered answers before (line_result_after (is_unreadable fault) t) after)
       (sym answered.result_is)
       (at (is_unreadable fault) (ap is_unreadable comes.tells.fault_is) answered.stop answered.sent
       (line_is answered.stop answered.sent answered.replies))
@@ -72,7 +72,7 @@ module _ {C : Type 0} (answers : OperatorAnswers C) where
 
       at : (unreadable : Bool) → is_unreadable (line_fault comes.line) ≡ unreadable → (stop : Bool) (sent : Sent)
           → RespondsToLine answers before comes.line stop sent after
-          → NextIsAnswered answers before (line_result_behind unreadable (line_result_by stop sent)) after
+          → NextIsAnswered answers before (line_result_after unreadable (line_result_by stop sent)) after
       at true is true Whole responds = record { line = comes.line; responds = responds }
       at false is true Whole responds = record { line = comes.line; responds = responds }
       at true is false Whole responds = record { line = comes.line; unreadable = is; responds = responds }
@@ -87,13 +87,13 @@ module _ {C : Type 0} (answers : OperatorAnswers C) where
           inl (record { line = comes.line; stop = false; count = n; responds = responds })
 
   -- the same, with the result by its equation
-  pub next_behind : (source source' : SourceState) (sink sink' : SinkState) (old new : C) (text : List ℕ)
+  pub next_after : (source source' : SourceState) (sink sink' : SinkState) (old new : C) (text : List ℕ)
       (fault : Option FaultKind) (result ended : LineResult)
       → LineIsRead source text fault source' → LineIsAnswered answers fault text old sink result new sink'
-      → ended ≡ line_result_behind (is_unreadable fault) result
+      → ended ≡ line_result_after (is_unreadable fault) result
       → NextIsAnswered answers (record { source = source; sink = sink; controller = old }) ended
       (record { source = source'; sink = sink'; controller = new })
-  next_behind source source' sink sink' old new text fault result ended comes answered is =
+  next_after source source' sink sink' old new text fault result ended comes answered is =
       let before : ConversationState C = record { source = source; sink = sink; controller = old } in
       let after : ConversationState C = record { source = source'; sink = sink'; controller = new } in
       subst (λ r. NextIsAnswered answers before r after) (sym is)

@@ -84,9 +84,9 @@ is_unreadable None = false
 is_unreadable (Some kind) = true
 
 -- after a line that isn't text, the conversation doesn't go on
-abbrev pub line_result_behind : Bool → LineResult → LineResult
-line_result_behind true Answered = Ended ends.BadLine
-line_result_behind unreadable result = result
+abbrev pub line_result_after : Bool → LineResult → LineResult
+line_result_after true Answered = Ended ends.BadLine
+line_result_after unreadable result = result
 
 -- what becomes of the conversation after a line
 abbrev pub line_result_by : Bool → Sent → LineResult

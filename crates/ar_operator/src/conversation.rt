@@ -4,7 +4,7 @@ ghost use Rattle.ar_operator.specs.Lines.{seen_behind};
 ghost use Rattle.ar_operator.specs.Orders.{IsOperatorOrder};
 ghost use Rattle.ar_operator.specs.Talk.{OperatorTalk, Converses, ExecutesOrder, ReadsBytes, RespondsToBytes};
 ghost use Rattle.ar_operator.specs.Talk.{RespondsToRead, LineIsAnswered, NextIsAnswered, fault_answer, is_stop};
-ghost use Rattle.ar_operator.specs.Talk.{is_unreadable, ends_service, line_result_behind, response_bytes};
+ghost use Rattle.ar_operator.specs.Talk.{is_unreadable, ends_service, line_result_after, response_bytes};
 ghost use Rattle.ar_operator.specs.Talk.{CutIsAnswered, cut_end, line_result_by, no_memory};
 
 use crate::input::{Line, LineRead, Piece, read_line};
@@ -176,7 +176,7 @@ fn answer_next<R: Source, W: Sink, C: Controller>(
 
 // What becomes of the conversation after a line with this result: it ends after one that isn't text.
 fn result_behind(line: &Line, answered: LineResult) -> LineResult
-    ensures { result ≡ line_result_behind (is_unreadable line.now.fault) answered }
+    ensures { result ≡ line_result_after (is_unreadable line.now.fault) answered }
 {
     match answered {
         LineResult::Answered if line.is_unreadable() => LineResult::Ended(OperatorEnd::BadLine),

@@ -1,12 +1,12 @@
 -- What a picture shows of an extent.
-use Rattle.std.specs.Prelude.{◌≡◌, ℕ, ◌*◌, ◌/◌, ◌<◌, Bool, false, ◌==◌, ◌&&◌, nat_le, if◌then◌else◌, List, Option, None}
+use Rattle.std.specs.Prelude.{◌≡◌, ℕ, ◌*◌, ◌/◌, ◌<◌, Bool, false, ◌==◌, ◌&&◌, ◌||◌, nat_le, if◌then◌else◌, List, Option, None}
 use Rattle.std.specs.Prelude.{Some, position, find, slice_get}
 use Rattle.ar_disks.specs.Members.{stands_on}
 use Rattle.ar_disks.specs.declared.address.Place.{Place}
 use Rattle.ar_picture.specs.declared.picture.Class.{Class}
 use Rattle.ar_picture.specs.declared.picture.Class.TheVariants as classes
 use Rattle.ar_picture.specs.declared.picture.Health.{Health}
-use Rattle.ar_picture.specs.declared.picture.Health.TheVariants.{Whole, Out, Rebuilding, Broken}
+use Rattle.ar_picture.specs.declared.picture.Health.TheVariants.{Whole, Out, Rebuilding, Broken, Lost}
 use Rattle.ar_picture.specs.declared.picture.Group.{Group}
 use Rattle.ar_picture.specs.declared.picture.Picture.{Picture}
 use Rattle.ar_picture.specs.declared.cell.Cell.{Cell}
@@ -23,6 +23,7 @@ is_missing_place Whole p = false
 is_missing_place (Out disk) p = p.disk == disk
 is_missing_place (Rebuilding disk done) p = (p.disk == disk) && nat_le done p.extent
 is_missing_place Broken p = false
+is_missing_place (Lost one other) p = (p.disk == one) || (p.disk == other)
 
 -- the lowest group that has an extent
 abbrev pub group_at : List Group → Place → Option ℕ

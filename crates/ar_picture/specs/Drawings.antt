@@ -1,5 +1,5 @@
 -- The text of an SVG: for each disk a column of its extents, from top to bottom, and the legend on the right.
-use Rattle.std.specs.Prelude.{ℕ, ◌+◌, ◌/◌, ◌%◌, ◌*◌, Bool, true, false, ◌==◌, nat_lt, if◌then◌else◌, List, [], ◌∷◌}
+use Rattle.std.specs.Prelude.{ℕ, ◌+◌, ◌/◌, ◌%◌, ◌*◌, Bool, true, false, ◌==◌, ◌||◌, nat_lt, if◌then◌else◌, List, [], ◌∷◌}
 use Rattle.std.specs.Prelude.{◌++◌, Option, None, Some, codes, length, slice_get, slice_index, sum, take}
 use Rattle.std.specs.Fmt.{decimal}
 use Rattle.std.specs.List.{flat_map, range_with_len}
@@ -15,7 +15,7 @@ use Rattle.ar_picture.specs.declared.picture.Class.{Class}
 use Rattle.ar_picture.specs.declared.picture.Class.TheVariants as classes
 use Rattle.ar_picture.specs.declared.picture.Group.{Group}
 use Rattle.ar_picture.specs.declared.picture.Health.{Health}
-use Rattle.ar_picture.specs.declared.picture.Health.TheVariants.{Whole, Out, Rebuilding, Broken}
+use Rattle.ar_picture.specs.declared.picture.Health.TheVariants.{Whole, Out, Rebuilding, Broken, Lost}
 use Rattle.ar_picture.specs.declared.picture.Held.{Held}
 use Rattle.ar_picture.specs.declared.picture.Picture.{Picture}
 use Rattle.ar_picture.specs.declared.picture.Unit.{Unit as PictureUnit}
@@ -58,6 +58,8 @@ health_svg extents (Rebuilding disk done) = codes "<text x='24' y='56'>Disk " ++
     ++ (decimal done ++ (codes " of its " ++ (decimal extents ++ codes " extents are rebuilt.</text>\n")))))
 health_svg extents Broken =
     codes "<text x='24' y='56'>Two disks were lost at one moment, and the data with them.</text>\n"
+health_svg extents (Lost one other) = codes "<text x='24' y='56'>Disks " ++ (decimal one ++ (codes " and "
+    ++ (decimal other ++ codes " were lost at one moment, and the data with them.</text>\n")))
 
 -- what comes before the disks
 abbrev pub frame_svg : Scale → Picture → List ℕ
@@ -82,20 +84,22 @@ abbrev pub name_svg : ℕ → List ℕ
 name_svg disk = codes "<text class='disk' x='" ++ (decimal (left_at disk + 40) ++ (codes "' y='" ++ (decimal 98
     ++ (codes "'>disk " ++ (decimal disk ++ codes "</text>\n")))))
 
+-- below the name of a disk that has failed, that it is out
+abbrev pub out_svg : ℕ → List ℕ
+out_svg disk = codes "<text class='down' x='" ++ (decimal (left_at disk + 40) ++ (codes "' y='" ++ (decimal 114
+    ++ codes "'>out</text>\n")))
+
 -- what is below the name: that the disk has failed, or how many of its extents are rebuilt
 abbrev pub state_svg : ℕ → Health → List ℕ
 state_svg disk Whole = []
-state_svg disk (Out down) =
-    if down == disk
-    then codes "<text class='down' x='" ++ (decimal (left_at disk + 40) ++ (codes "' y='" ++ (decimal 114
-    ++ codes "'>out</text>\n")))
-    else []
+state_svg disk (Out down) = if down == disk then out_svg disk else []
 state_svg disk (Rebuilding down done) =
     if down == disk
     then codes "<text class='down' x='" ++ (decimal (left_at disk + 40) ++ (codes "' y='" ++ (decimal 114 ++ (codes "'>"
     ++ (decimal done ++ codes " rebuilt</text>\n")))))
     else []
 state_svg disk Broken = []
+state_svg disk (Lost one other) = if (one == disk) || (other == disk) then out_svg disk else []
 
 -- the name of the style of extents with this use
 abbrev pub style_of : Content → List ℕ

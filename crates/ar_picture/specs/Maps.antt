@@ -8,7 +8,7 @@ use Rattle.ar_picture.specs.declared.cell.Content.{Content}
 use Rattle.ar_picture.specs.declared.cell.Content.TheVariants.{Loose, Free, Mirrored, Parity}
 use Rattle.ar_picture.specs.declared.folds.Fold.{Fold}
 use Rattle.ar_picture.specs.declared.picture.Health.{Health}
-use Rattle.ar_picture.specs.declared.picture.Health.TheVariants.{Whole, Out, Rebuilding, Broken}
+use Rattle.ar_picture.specs.declared.picture.Health.TheVariants.{Whole, Out, Rebuilding, Broken, Lost}
 use Rattle.ar_picture.specs.declared.picture.Picture.{Picture}
 use Rattle.ar_picture.specs.declared.picture.Unit.{Unit as PictureUnit}
 use Rattle.ar_picture.specs.Cells.{cell_of}
@@ -65,6 +65,7 @@ down_text Whole = []
 down_text (Out disk) = below_text disk (codes "  out")
 down_text (Rebuilding disk done) = below_text disk (codes "  new")
 down_text Broken = []
+down_text (Lost one other) = below_text one (codes "  out") ++ below_text other (codes "  out")
 
 -- the numbers of disks and of extents
 abbrev pub sizes_text : Picture → List ℕ
@@ -89,6 +90,8 @@ disks_text extents (Out disk) = codes "disk " ++ (decimal disk ++ codes " is out
 disks_text extents (Rebuilding disk done) = codes "disk " ++ (decimal disk ++ (codes " is new: " ++ (decimal done
     ++ (codes " of its " ++ (decimal extents ++ codes " extents are rebuilt\n")))))
 disks_text extents Broken = codes "the data are lost\n"
+disks_text extents (Lost one other) =
+    codes "disks " ++ (decimal one ++ (codes " and " ++ (decimal other ++ codes " are out: the data are lost\n")))
 
 -- the line of a unit: how many of its blocks are on the disks
 abbrev pub unit_text : PictureUnit → List ℕ

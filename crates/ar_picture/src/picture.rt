@@ -2,6 +2,7 @@
 ghost use Rattle.std.specs.Prelude.{◌≡◌, ◌≢◌, ℕ, ◌+◌, ◌^◌, ◌<◌, ◌≤◌, slice_index};
 ghost use Rattle.ar_disks.specs.Members.{stands_on};
 ghost use Rattle.ar_picture.specs.Cells.{fullness_of, is_missing_place, group_at};
+ghost use Rattle.ar_picture.specs.Losses.{health_naming};
 
 use ar_disks::{Members, Place};
 
@@ -69,10 +70,13 @@ pub enum Health {
     Rebuilding(u8, u16),
     /// The array has failed: two disks were missing at once, and the data are lost.
     Broken,
+    /// The same, and these are the two disks.
+    Lost(u8, u8),
 }
 
 impl Health {
-    /// Whether an extent is missing: its disk has failed, or isn't rebuilt up to it. On a failed array none is.
+    /// Whether an extent is missing: its disk has failed, or isn't rebuilt up to it. On a failed array whose lost disks
+    /// aren't known none is.
     pub fn is_missing(self, place: Place) -> bool
         ensures { result ≡ is_missing_place self place }
     {
@@ -80,6 +84,20 @@ impl Health {
             Health::Whole | Health::Broken => false,
             Health::Out(disk) => place.disk == disk,
             Health::Rebuilding(disk, done) => place.disk == disk && place.extent >= done,
+            Health::Lost(one, other) => place.disk == one || place.disk == other,
+        }
+    }
+
+    // The health that names the two disks that a failed array has lost, where they are known.
+    fn naming(self, lost: Option<[u8; 2]>) -> Health
+        ensures { result ≡ health_naming lost self }
+    {
+        match lost {
+            Some(disks) => match self {
+                Health::Broken => Health::Lost(disks[0], disks[1]),
+                _ => self,
+            },
+            None => self,
         }
     }
 }
@@ -138,5 +156,12 @@ impl Picture {
         ensures { result ≡ group_at self.now.groups.items place }
     {
         self.groups.iter().position(|group| group.stands_on(place))
+    }
+
+    /// Names the two disks that the array has lost, if it has failed and they are known. No other picture changes.
+    pub fn name_lost(&mut self, lost: Option<[u8; 2]>)
+        ensures { self.new ≡ record self.old { health = health_naming lost self.old.health } }
+    {
+        self.health = self.health.naming(lost);
     }
 }

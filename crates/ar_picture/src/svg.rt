@@ -3,7 +3,8 @@ ghost use Rattle.std.specs.Prelude.{◌≡◌, OnOk, codes};
 ghost use Rattle.std.specs.Io.KnownBytes.{Appends};
 ghost use Rattle.std.specs.List.{flat_map, range_with_len};
 ghost use Rattle.ar_picture.specs.Drawings.{disk_svg, disks_svg, frame_svg, ground_svg, health_svg, name_svg};
-ghost use Rattle.ar_picture.specs.Drawings.{number_svg, opening_svg, picture_svg, state_svg, styles_svg, svg_text};
+ghost use Rattle.ar_picture.specs.Drawings.{number_svg, opening_svg, out_svg, picture_svg, state_svg, styles_svg};
+ghost use Rattle.ar_picture.specs.Drawings.{svg_text};
 ghost use Rattle.ar_picture.specs.Layouts.{height_of, width_of};
 
 use crate::column::write_extents;
@@ -127,6 +128,10 @@ fn write_health<W: Write>(out: &mut W, picture: &Picture) -> io::Result<()>
             out,
             "<text x='24' y='56'>Two disks were lost at one moment, and the data with them.</text>"
         ),
+        Health::Lost(one, other) => writeln!(
+            out,
+            "<text x='24' y='56'>Disks {one} and {other} were lost at one moment, and the data with them.</text>"
+        ),
     }
 }
 
@@ -218,9 +223,8 @@ fn write_state<W: Write>(out: &mut W, health: Health, disk: u8) -> io::Result<()
 {
     let (middle, base) = (left_of(disk) + WIDTH / 2, TOP - 10);
     match health {
-        Health::Out(down) if down == disk => {
-            writeln!(out, "<text class='down' x='{middle}' y='{base}'>out</text>")
-        }
+        Health::Out(down) if down == disk => write_out(out, disk),
+        Health::Lost(one, other) if one == disk || other == disk => write_out(out, disk),
         Health::Rebuilding(down, done) if down == disk => {
             writeln!(
                 out,
@@ -229,4 +233,12 @@ fn write_state<W: Write>(out: &mut W, health: Health, disk: u8) -> io::Result<()
         }
         _ => Ok(()),
     }
+}
+
+// Writes below a disk's name that it has failed.
+fn write_out<W: Write>(out: &mut W, disk: u8) -> io::Result<()>
+    ensures text { OnOk result (Appends (W.contents out.old) (W.contents out.new) (out_svg disk)) }
+{
+    let (middle, base) = (left_of(disk) + WIDTH / 2, TOP - 10);
+    writeln!(out, "<text class='down' x='{middle}' y='{base}'>out</text>")
 }

@@ -21,7 +21,7 @@ use std::io::Write;
 /// The columns before the disks.
 const MARGIN: &str = "          ";
 
-/// Writes the text map: the number of disks and of extents; the disks' numbers, the failed or replaced one marked
+/// Writes the text map: the number of disks and of extents; the disks' numbers, the failed or replaced ones marked
 /// below; a line for each of `folds`; a legend of two lines; the health; and a line for each unit. It is exactly the
 /// text that specs/Maps.antt gives.
 pub fn write_map<W: Write>(out: &mut W, picture: &Picture, folds: &[Fold]) -> io::Result<()>
@@ -61,7 +61,7 @@ fn write_heads<W: Write>(out: &mut W, picture: &Picture) -> io::Result<()>
     write_down(out, picture.health)
 }
 
-// Marks the failed disk as out, or the replaced one as new, below its number.
+// Marks each failed disk as out, or the replaced one as new, below its number.
 fn write_down<W: Write>(out: &mut W, health: Health) -> io::Result<()>
     ensures text { OnOk result (Appends (W.contents out.old) (W.contents out.new) (down_text health)) }
 {
@@ -69,7 +69,16 @@ fn write_down<W: Write>(out: &mut W, health: Health) -> io::Result<()>
         Health::Whole | Health::Broken => Ok(()),
         Health::Out(disk) => write_below(out, disk, "  out"),
         Health::Rebuilding(disk, _) => write_below(out, disk, "  new"),
+        Health::Lost(one, other) => write_both(out, one, other),
     }
+}
+
+// Marks two failed disks, each in a line of its own.
+fn write_both<W: Write>(out: &mut W, one: u8, other: u8) -> io::Result<()>
+    ensures text { OnOk result (Appends (W.contents out.old) (W.contents out.new) (down_text (Health.Lost one other))) }
+{
+    write_below(out, one, "  out")?;
+    write_below(out, other, "  out")
 }
 
 // Writes a word of five characters below the number of a disk.
@@ -142,6 +151,10 @@ fn write_health<W: Write>(out: &mut W, picture: &Picture) -> io::Result<()>
             "disk {disk} is new: {done} of its {extents} extents are rebuilt"
         ),
         Health::Broken => writeln!(out, "the data are lost"),
+        Health::Lost(one, other) => writeln!(
+            out,
+            "disks {one} and {other} are out: the data are lost"
+        ),
     }
 }
 

@@ -198,21 +198,21 @@ slot_shown : (at : Option Slot) → slot_in (home_shown at) ≡ at
 slot_shown None = refl
 slot_shown (Some slot) = refl
 
-told_absent : (has past : Bool) (at : Option Slot) → kind (shown_by has past at) ≡ 0 → has ≡ false
-told_absent false past at e = refl
-told_absent true true at e = absurd (let k : 1 ≡ 0 = e in omega arith)
-told_absent true false at e = absurd (let k = kind_shown at in let n : kind (home_shown at) ≡ 0 = e in omega arith)
+reported_absent : (has past : Bool) (at : Option Slot) → kind (shown_by has past at) ≡ 0 → has ≡ false
+reported_absent false past at e = refl
+reported_absent true true at e = absurd (let k : 1 ≡ 0 = e in omega arith)
+reported_absent true false at e = absurd (let k = kind_shown at in let n : kind (home_shown at) ≡ 0 = e in omega arith)
 
-told_outside : (has past : Bool) (at : Option Slot) → kind (shown_by has past at) ≡ 1 → (has ≡ true) × (past ≡ true)
-told_outside false past at e = absurd (let k : 0 ≡ 1 = e in omega arith)
-told_outside true true at e = (refl, refl)
-told_outside true false at e = absurd (let k = kind_shown at in let n : kind (home_shown at) ≡ 1 = e in omega arith)
+reported_outside : (has past : Bool) (at : Option Slot) → kind (shown_by has past at) ≡ 1 → (has ≡ true) × (past ≡ true)
+reported_outside false past at e = absurd (let k : 0 ≡ 1 = e in omega arith)
+reported_outside true true at e = (refl, refl)
+reported_outside true false at e = absurd (let k = kind_shown at in let n : kind (home_shown at) ≡ 1 = e in omega arith)
 
-told_inside : (has past : Bool) (at : Option Slot) → 2 ≤ kind (shown_by has past at)
+reported_inside : (has past : Bool) (at : Option Slot) → 2 ≤ kind (shown_by has past at)
     → (past ≡ false) × (slot_in (shown_by has past at) ≡ at)
-told_inside false past at e = absurd (let k : 2 ≤ 0 = e in omega arith)
-told_inside true true at e = absurd (let k : 2 ≤ 1 = e in omega arith)
-told_inside true false at e = (refl, slot_shown at)
+reported_inside false past at e = absurd (let k : 2 ≤ 0 = e in omega arith)
+reported_inside true true at e = absurd (let k : 2 ≤ 1 = e in omega arith)
+reported_inside true false at e = (refl, slot_shown at)
 
 no_homes : (o : Option UnitTableState) → is_some o ≡ false → length (unwrap_or o no_unit).homes ≡ 0
 no_homes None e = refl
@@ -222,30 +222,30 @@ no_homes (Some u) e = absurd (true≢false e)
 pub absent_empty : (t : Tables) (a : Addr) (rb : ℕ) → Absent ≡ home_of t a rb
     → (has_unit t a ≡ false) × (length (unit_in t.units a).homes ≡ 0)
 absent_empty t a rb e =
-    let none = told_absent (has_unit t a) (leb (length (unit_in t.units a).homes) rb) (home t (key_of a rb))
+    let none = reported_absent (has_unit t a) (leb (length (unit_in t.units a).homes) rb) (home t (key_of a rb))
     (sym (ap kind e)) in
     (none, no_homes (lookup (same_addr a) t.units) none)
 
 pub outside_over : (t : Tables) (a : Addr) (rb : ℕ) → Outside ≡ home_of t a rb
     → (has_unit t a ≡ true) × (length (unit_in t.units a).homes ≤ rb)
 outside_over t a rb e =
-    let told = told_outside (has_unit t a) (leb (length (unit_in t.units a).homes) rb) (home t (key_of a rb))
+    let reported = reported_outside (has_unit t a) (leb (length (unit_in t.units a).homes) rb) (home t (key_of a rb))
     (sym (ap kind e)) in
-    (told.0, leb-true (length (unit_in t.units a).homes) rb told.1)
+    (reported.0, leb-true (length (unit_in t.units a).homes) rb reported.1)
 
 pub unplaced_inside : (t : Tables) (a : Addr) (rb : ℕ) → Unplaced ≡ home_of t a rb
     → (rb < length (unit_in t.units a).homes) × (get_or (unit_in t.units a).homes rb None ≡ None)
 unplaced_inside t a rb e =
-    let told = told_inside (has_unit t a) (leb (length (unit_in t.units a).homes) rb) (home t (key_of a rb))
+    let reported = reported_inside (has_unit t a) (leb (length (unit_in t.units a).homes) rb) (home t (key_of a rb))
     (subst (λ x. 2 ≤ kind x) e (omega arith)) in
-    (leb-false (length (unit_in t.units a).homes) rb told.0, sym told.1 ∙ sym (ap slot_in e))
+    (leb-false (length (unit_in t.units a).homes) rb reported.0, sym reported.1 ∙ sym (ap slot_in e))
 
 pub placed_inside : (t : Tables) (a : Addr) (rb : ℕ) (slot : Slot) → At slot ≡ home_of t a rb
     → (rb < length (unit_in t.units a).homes) × (get_or (unit_in t.units a).homes rb None ≡ Some slot)
 placed_inside t a rb slot e =
-    let told = told_inside (has_unit t a) (leb (length (unit_in t.units a).homes) rb) (home t (key_of a rb))
+    let reported = reported_inside (has_unit t a) (leb (length (unit_in t.units a).homes) rb) (home t (key_of a rb))
     (subst (λ x. 2 ≤ kind x) e (omega arith)) in
-    (leb-false (length (unit_in t.units a).homes) rb told.0, sym told.1 ∙ sym (ap slot_in e))
+    (leb-false (length (unit_in t.units a).homes) rb reported.0, sym reported.1 ∙ sym (ap slot_in e))
 
 picked : {X : Type 0} (b : Bool) → b ≡ true → (x : Option X) → (if b then x else None) ≡ x
 picked true e x = refl

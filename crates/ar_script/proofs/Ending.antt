@@ -11,16 +11,16 @@ use Rattle.ar_language.specs.declared.fault.Fault.TheVariants.{Start, Line}
 use Rattle.ar_language.specs.declared.fault.FaultKind.{FaultKind}
 use Rattle.ar_language.specs.declared.fault.FaultKind.TheVariants.{TooManyLines, NoMemory, ReadFault, WriteFault}
 use Rattle.ar_language.specs.Lines.{Took, AreThere, IsOfStream, IsReached, IsAllTaken, first_of, line_at, line_fault}
-use Rattle.ar_language.specs.Lines.{IsToldOfNext, IsNextLineFault, IsNumbered, IsOfNext, is_write_fault}
+use Rattle.ar_language.specs.Lines.{IsReportedOfNext, IsNextLineFault, IsNumbered, IsOfNext, is_write_fault}
 use Rattle.std.specs.Io.KnownBytes.{Appends, Keeps}
 use Rattle.ar_script.specs.Answers.{AnswersLine}
 use Rattle.ar_script.specs.Orders.{MeetsLine}
-use Rattle.ar_language.proofs.Going.{none_there, there_behind}
+use Rattle.ar_language.proofs.Going.{none_there, there_after}
 use Rattle.ar_script.specs.Ends.{Ends}
 use Rattle.std.specs.declared.io.traits.Read.{Ghosts}
 use Rattle.ar_language.specs.declared.lines.Lines.{Lines}
 use Rattle.ar_language.specs.Left.{lines_begun, EndsReading}
-use Rattle.ar_script.specs.Plays.{IsToldAt, IsToldOf, IsLineThere, IsLostAt, IsUnanswered, NeedsMemory, AreFirst}
+use Rattle.ar_script.specs.Plays.{IsReportedAt, IsReportedOf, IsLineThere, IsLostAt, IsUnanswered, NeedsMemory, AreFirst}
 use Rattle.ar_script.specs.Plays.{AreAll, SaysWrong, IsSo, IsAtNext, Plays, PlaysScript, PlaysAll, PlaysTo}
 use Rattle.ar_script.specs.Plays.{AnswersScript, WritesBefore, WritesScript}
 use Rattle.ar_script.proofs.Appending.{appends_kept, appends_none, appends_then, keeps_same}
@@ -85,11 +85,11 @@ so_before (Some lines) = inl (inr (refl, inl refl))
 -- a line that couldn't be taken
 so_next : (script left : Option (List (List ℕ))) (lines : List (List ℕ)) (n : ℕ) (kind : FaultKind)
     → Took script left lines → length lines ≡ n
-    → (kind ≡ TooManyLines → n + 1 ≡ 1000001) → IsToldOfNext left kind → IsSo script (n + 1) kind
-so_next None left lines n kind took count many told = tt
-so_next (Some all) None lines n kind took count many told = absurd took
-so_next (Some all) (Some left) lines n kind took count many told =
-    elim told [
+    → (kind ≡ TooManyLines → n + 1 ≡ 1000001) → IsReportedOfNext left kind → IsSo script (n + 1) kind
+so_next None left lines n kind took count many reported = tt
+so_next (Some all) None lines n kind took count many reported = absurd took
+so_next (Some all) (Some left) lines n kind took count many reported =
+    elim reported [
       | inl stream ↦ inl (inl stream)
       | inr other ↦ elim other [
         | inl fault ↦ inr (inl (ap line_fault (next_at all lines left n took count) ∙ fault))
@@ -105,12 +105,12 @@ so_next (Some all) (Some left) lines n kind took count many told =
 so_taken : (script left rest : Option (List (List ℕ))) (lines : List (List ℕ)) (line : List ℕ) (n : ℕ)
     (kind : FaultKind) → Took script left lines → length lines ≡ n
     → Took left rest (line ∷ []) → NeedsMemory line × (kind ≡ NoMemory) ⊎ SaysWrong line kind → IsSo script (n + 1) kind
-so_taken None left rest lines line n kind took count next told = tt
-so_taken (Some all) None rest lines line n kind took count next told = absurd took
-so_taken (Some all) (Some left) None lines line n kind took count next told = absurd next
-so_taken (Some all) (Some left) (Some rest) lines line n kind took count next told =
+so_taken None left rest lines line n kind took count next reported = tt
+so_taken (Some all) None rest lines line n kind took count next reported = absurd took
+so_taken (Some all) (Some left) None lines line n kind took count next reported = absurd next
+so_taken (Some all) (Some left) (Some rest) lines line n kind took count next reported =
     let same : line ≡ line_at all (n + 1) = sym (next_at all lines left n took count ∙ ap first_of next) in
-    elim told [
+    elim reported [
       | inl needs ↦ inl (inr (needs.1, inr (subst NeedsMemory same needs.0)))
       | inr says ↦ inr (inr (inl (subst (λ (l : List ℕ). SaysWrong l kind) same says)))
     ]
@@ -118,8 +118,8 @@ so_taken (Some all) (Some left) (Some rest) lines line n kind took count next to
 so_answered : (script left rest : Option (List (List ℕ))) (lines : List (List ℕ)) (line : List ℕ) (n : ℕ)
     (kind : FaultKind) → Took script left lines → length lines ≡ n
     → Took left rest (line ∷ []) → IsUnanswered line kind ⊎ SaysWrong line kind → IsSo script (n + 1) kind
-so_answered script left rest lines line n kind took count next told =
-    elim told [
+so_answered script left rest lines line n kind took count next reported =
+    elim reported [
       | inl lost ↦ elim lost [
         | inl write ↦ so_stream script (n + 1) kind (inr write.0)
         | inr memory ↦ so_taken script left rest lines line n kind took count next (inl (memory.1, memory.0))
@@ -191,7 +191,7 @@ writes_ended script left rest old new n before far after written kept next none 
 -- where no write fault is reported, none was met
 not_output : (kind : FaultKind) (n : ℕ) (fault : Fault) → fault ≡ Line n kind
     → is_write_fault {T = Unit {0}} (Err fault) ≡ false → kind ≢ WriteFault
-not_output kind n fault is told write =
+not_output kind n fault is reported write =
     let also : fault ≡ Line n WriteFault = is ∙ ap (Line n) write in
     let yes : is_write_fault {T = Unit {0}} (Err fault) ≡ true =
     ap (λ (f : Fault). is_write_fault {T = Unit {0}} (Err f)) also in
@@ -221,9 +221,9 @@ pub answered_unread : (script left : Option (List (List ℕ))) (old new : ArrayS
 answered_unread script left old new n begun (Ok done) before far after written kept is next = absurd (cc)
 answered_unread script left old new n begun (Err Start) before far after written kept is next = absurd next
 answered_unread script left old new n begun (Err (Line m kind)) before far after written kept is (inl next) =
-    λ told. written_before script left old new new n m kind (Line m kind) before far after written refl kept refl next.1
+    λ reported. written_before script left old new new n m kind (Line m kind) before far after written refl kept refl next.1
 answered_unread script left old new n begun (Err (Line m kind)) before far after written kept is (inr write) =
-    λ told. let yes : is_write_fault {T = Unit {0}} (Err (Line m kind)) ≡ true =
+    λ reported. let yes : is_write_fault {T = Unit {0}} (Err (Line m kind)) ≡ true =
     ap (λ (k : FaultKind). is_write_fault {T = Unit {0}} (Err (Line m k))) write.0 in
     absurd (cc)
 
@@ -234,7 +234,7 @@ pub answered_fault : (script left : Option (List (List ℕ))) (old mid new : Arr
     → MeetsLine line mid (Err kind) new
     → fault ≡ Line (max (suc n) 1) kind → AnswersScript script (Err fault) old new before after
 answered_fault script left old mid new n line kind fault before far flushed after written kept same met is =
-    λ told. let quiet : kind ≢ WriteFault = not_output kind (max (suc n) 1) fault is told in
+    λ reported. let quiet : kind ≢ WriteFault = not_output kind (max (suc n) 1) fault is reported in
     let next : max (suc n) 1 ≡ n + 1 = omega arith in
     written_before script left old mid new n (max (suc n) 1) kind fault before far after written
     (unmet mid new met.read kind met.meets quiet)
@@ -257,15 +257,15 @@ answered_finished script old new begun (Err fault) (Ok done) before far after an
 answered_finished script old new begun (Err fault) (Ok done) before far after answered (inr same) kept = let no =
     same.0 in absurd (cc)
 answered_finished script old new begun done (Err fault) before far after answered (inl write) kept =
-    λ told. let is : fault ≡ Line (max begun 1) WriteFault = (let same = write in cc) in
+    λ reported. let is : fault ≡ Line (max begun 1) WriteFault = (let same = write in cc) in
     let yes : is_write_fault {T = Unit {0}} (Err fault) ≡ true =
     ap (λ (f : Fault). is_write_fault {T = Unit {0}} (Err f)) is in
     absurd (cc)
 answered_finished script old new begun (Ok end) (Err fault) before far after answered (inr same) kept = let no =
     same.0 in absurd (cc)
-answered_finished script old new begun (Err told) (Err fault) before far after answered (inr same) kept =
-    λ quiet. let is : told ≡ fault = (let one = same.0 in cc) in
-    let also : is_write_fault {T = Unit {0}} (Err told) ≡ false =
+answered_finished script old new begun (Err reported) (Err fault) before far after answered (inr same) kept =
+    λ quiet. let is : reported ≡ fault = (let one = same.0 in cc) in
+    let also : is_write_fault {T = Unit {0}} (Err reported) ≡ false =
     ap (λ (f : Fault). is_write_fault {T = Unit {0}} (Err f)) is ∙ quiet in
     let w = answered also in
     record {
@@ -286,16 +286,16 @@ answered_as script old new (Ok done) before start after left first last answered
     let now = subst (λ (o : Option (List ℕ)). WritesScript script old new o after) first answered in
     subst (λ (o : Option (List ℕ)). WritesScript script old new start o) (last refl) now
 answered_as script old new (Err fault) before start after left first last answered =
-    λ told. let now =
-    subst (λ (o : Option (List ℕ)). WritesBefore script fault old new o after) first (answered told) in
-    subst (λ (o : Option (List ℕ)). WritesBefore script fault old new start o) (last told) now
+    λ reported. let now =
+    subst (λ (o : Option (List ℕ)). WritesBefore script fault old new o after) first (answered reported) in
+    subst (λ (o : Option (List ℕ)). WritesBefore script fault old new start o) (last reported) now
 
 -- no line, where memory was refused before the first
 pub none_answered : (script : Option (List (List ℕ))) (s : ArrayState) (fault : Fault) (before : Option (List ℕ))
     → fault ≡ Line (max 1 1) NoMemory
     → AnswersScript script (Err fault) s s before before
 none_answered script s fault before is =
-    λ told. written_before script script s s s 0 (max 1 1) NoMemory fault before before before
+    λ reported. written_before script script s s s 0 (max 1 1) NoMemory fault before before before
     (writes_none script s before) refl (keeps_same before) is refl
 
 -- ---- how a script ends
@@ -316,7 +316,7 @@ plays_ended script left rest old new n begun done next none few most within =
         few = (let all = done.all in omega arith);
         first = taken_first script rest done.lines took_all;
         whole = taken_all script rest done.lines took_all none;
-        told = tt;
+        reported = tt;
       };
       few = (let all = done.all in omega arith);
       most = (let all = done.all in omega arith);
@@ -341,7 +341,7 @@ plays_stopped script left old new n begun m kind fault done is after so few most
         few = (let all = done.all in omega arith);
         first = taken_first script left done.lines done.took;
         whole = tt;
-        told = (after, so);
+        reported = (after, so);
       };
       few = (let all = done.all in omega arith);
       most = (let all = done.all in omega arith);
@@ -394,9 +394,9 @@ pub plays_fault : (script left rest : Option (List (List ℕ))) (old mid new : A
     → PlaysAll script left old mid n → Took left rest (line ∷ []) → MeetsLine line mid (Err kind) new
     → IsUnanswered line kind ⊎ SaysWrong line kind
     → fault ≡ Line (max (suc n) 1) kind → suc n ≤ 1000000 → PlaysTo script (Err fault) old new (suc n)
-plays_fault script left rest old mid new n line kind fault before next line_met told is within =
+plays_fault script left rest old mid new n line kind fault before next line_met reported is within =
     let same : max (suc n) 1 ≡ n + 1 = omega arith in
-    let so = so_answered script left rest before.lines line n kind before.took before.all next told in
+    let so = so_answered script left rest before.lines line n kind before.took before.all next reported in
     let is_next = is ∙ ap (λ m. Line m kind) same in
     let lines = before.lines ++ line ∷ [] in
     let taken : length lines ≡ suc n = one_taken before.lines line n before.all in
@@ -438,7 +438,7 @@ plays_finished script old new begun done result played (inl write) =
       few = played.plays.few;
       first = played.plays.first;
       whole = tt;
-      told = (
+      reported = (
         near_begun met (length met) begun (max begun 1) WriteFault refl played.few played.most refl refl,
         so_stream script (max begun 1) WriteFault (inr refl),
       );
@@ -479,11 +479,11 @@ there_reached lines begun n kind there (inr next) =
           elim others [ inl many ↦ inr (inl many) | inr write ↦ inr (inr (let none = write.1 in omega arith)) ]
     ]
 
-there_told : (script : Option (List (List ℕ))) (begun : ℕ) (fault : Fault) → AreThere script begun
+there_reported : (script : Option (List (List ℕ))) (begun : ℕ) (fault : Fault) → AreThere script begun
     → IsReached begun fault → IsLineThere script fault
-there_told script begun Start there reached = tt
-there_told None begun (Line n kind) there reached = tt
-there_told (Some lines) begun (Line n kind) there reached = there_reached lines begun n kind there reached
+there_reported script begun Start there reached = tt
+there_reported None begun (Line n kind) there reached = tt
+there_reported (Some lines) begun (Line n kind) there reached = there_reached lines begun n kind there reached
 
 there_first : (script : Option (List (List ℕ))) (begun : ℕ) (kind : FaultKind) → AreThere script begun
     → IsLineThere script (Line (max begun 1) kind)
@@ -499,9 +499,9 @@ there_ended script begun done (Err fault) there reached (inl write) =
     let is : fault ≡ Line (max begun 1) WriteFault = (let same = write in cc) in
     subst (λ (f : Fault). IsLineThere script f) (sym is) (there_first script begun WriteFault there)
 there_ended script begun (Ok end) (Err fault) there reached (inr same) = let no = same.0 in absurd (cc)
-there_ended script begun (Err told) (Err fault) there reached (inr same) =
-    let is : told ≡ fault = (let one = same.0 in cc) in
-    subst (λ (f : Fault). IsLineThere script f) is (there_told script begun told there reached)
+there_ended script begun (Err reported) (Err fault) there reached (inr same) =
+    let is : reported ≡ fault = (let one = same.0 in cc) in
+    subst (λ (f : Fault). IsLineThere script f) is (there_reported script begun reported there reached)
 
 -- before the first line
 pub there_none : (script : Option (List (List ℕ))) (fault : Fault) → fault ≡ Line (max 1 1) NoMemory
@@ -518,7 +518,7 @@ there_begun script left new old mid n given begun done kept same there =
     let took_same : Took script new done.lines =
     subst (λ (l : List (List ℕ)). Took script new l) (append-nil done.lines) took in
     subst (λ k. AreThere script (k + cond begun 1 0)) (done.all ∙ sym same)
-    (there_behind script new done.lines (cond begun 1 0) took_same there)
+    (there_after script new done.lines (cond begun 1 0) took_same there)
 
 pub there_given : (script left new : Option (List (List ℕ))) (old mid : ArrayState) (n : ℕ) (line : List ℕ)
     → PlaysAll script left old mid n → Took left new (line ∷ [])
@@ -528,43 +528,43 @@ there_given (Some all) left new old mid n line done took =
     let taken = took_more (Some all) left new done.lines (line ∷ []) done.took took in
     let len = one_taken done.lines line n done.all in
     subst (λ k. AreThere (Some all) k) (add-zero (length (done.lines ++ line ∷ [])) ∙ len)
-    (there_behind (Some all) new (done.lines ++ line ∷ []) 0 taken (none_there new))
+    (there_after (Some all) new (done.lines ++ line ∷ []) 0 taken (none_there new))
 
 -- ---- why it is reported
 
 -- the next line couldn't be gone on to
-pub told_next : {R : Type 0} {reads : Ghosts R} (lines : Lines R reads) (result : Result (Unit {0}) Fault)
-    → IfErr result (EndsReading lines) → IfErr result (IsToldAt lines)
-told_next lines (Ok done) is = tt
-told_next lines (Err Start) is = absurd is
-told_next lines (Err (Line n kind)) is = inl is
+pub reported_next : {R : Type 0} {reads : Ghosts R} (lines : Lines R reads) (result : Result (Unit {0}) Fault)
+    → IfErr result (EndsReading lines) → IfErr result (IsReportedAt lines)
+reported_next lines (Ok done) is = tt
+reported_next lines (Err Start) is = absurd is
+reported_next lines (Err (Line n kind)) is = inl is
 
 last_is : (given : ℕ) (begun : Bool) → begun ≡ false → 1 ≤ given → max (given + cond begun 1 0) 1 ≡ given
 last_is given true closed some = absurd (cc)
 last_is given false closed some = omega arith
 
 -- the last line that was given has no answer
-pub told_last : {R : Type 0} {reads : Ghosts R} (lines : Lines R reads) (kind : FaultKind) (fault : Fault)
+pub reported_last : {R : Type 0} {reads : Ghosts R} (lines : Lines R reads) (kind : FaultKind) (fault : Fault)
     → lines.is_begun ≡ false → 1 ≤ lines.given
     → fault ≡ Line (max (lines_begun lines) 1) kind
-    → IsUnanswered lines.line.items kind ⊎ SaysWrong lines.line.items kind → IsToldAt lines fault
-told_last lines kind fault closed some is told =
-    subst (λ (f : Fault). IsToldAt lines f) (sym is) (inr (last_is lines.given lines.is_begun closed some, told))
+    → IsUnanswered lines.line.items kind ⊎ SaysWrong lines.line.items kind → IsReportedAt lines fault
+reported_last lines kind fault closed some is reported =
+    subst (λ (f : Fault). IsReportedAt lines f) (sym is) (inr (last_is lines.given lines.is_begun closed some, reported))
 
-told_then : {R : Type 0} {reads : Ghosts R} (lines : Lines R reads) (fault : Fault) → IsToldAt lines fault
-    → IsToldOf lines fault
-told_then lines Start told = absurd told
-told_then lines (Line n kind) told = inr told
+reported_then : {R : Type 0} {reads : Ghosts R} (lines : Lines R reads) (fault : Fault) → IsReportedAt lines fault
+    → IsReportedOf lines fault
+reported_then lines Start reported = absurd reported
+reported_then lines (Line n kind) reported = inr reported
 
 -- once what was left of the answers is written, or can't be
-pub told_ended : {R : Type 0} {reads : Ghosts R} (lines : Lines R reads) (begun : ℕ)
-    (done result : Result (Unit {0}) Fault) → IfErr done (IsToldAt lines) → Ends begun done result
-    → IfErr result (IsToldOf lines)
-told_ended lines begun done (Ok end) told ends = tt
-told_ended lines begun done (Err fault) told (inl write) =
+pub reported_ended : {R : Type 0} {reads : Ghosts R} (lines : Lines R reads) (begun : ℕ)
+    (done result : Result (Unit {0}) Fault) → IfErr done (IsReportedAt lines) → Ends begun done result
+    → IfErr result (IsReportedOf lines)
+reported_ended lines begun done (Ok end) reported ends = tt
+reported_ended lines begun done (Err fault) reported (inl write) =
     let is : fault ≡ Line (max begun 1) WriteFault = (let same = write in cc) in
-    subst (λ (f : Fault). IsToldOf lines f) (sym is) (inl refl)
-told_ended lines begun (Ok end) (Err fault) told (inr same) = let no = same.0 in absurd (cc)
-told_ended lines begun (Err before) (Err fault) told (inr same) =
+    subst (λ (f : Fault). IsReportedOf lines f) (sym is) (inl refl)
+reported_ended lines begun (Ok end) (Err fault) reported (inr same) = let no = same.0 in absurd (cc)
+reported_ended lines begun (Err before) (Err fault) reported (inr same) =
     let is : before ≡ fault = (let one = same.0 in cc) in
-    subst (λ (f : Fault). IsToldOf lines f) is (told_then lines before told)
+    subst (λ (f : Fault). IsReportedOf lines f) is (reported_then lines before reported)

@@ -121,21 +121,21 @@ IsUnanswered line kind = ((kind ≡ WriteFault) × AsksSomething line) ⊎ ((kin
 
 -- The fault that ends the loop over the lines: of the next line, which wasn't returned (`EndsReading`), or of the last
 -- one that was, which has no answer or whose words have a fault.
-abbrev pub IsToldAt : {R : Type 0} {reads : Ghosts R} → Lines R reads → Fault → Type 0
-IsToldAt lines Start = ⊥
-IsToldAt lines (Line n kind) =
+abbrev pub IsReportedAt : {R : Type 0} {reads : Ghosts R} → Lines R reads → Fault → Type 0
+IsReportedAt lines Start = ⊥
+IsReportedAt lines (Line n kind) =
     EndsReading lines (Line n kind)
     ⊎ ((n ≡ lines.given) × (IsUnanswered lines.line.items kind ⊎ SaysWrong lines.line.items kind))
 
 -- the same for the end of a run, which may also be a write fault
-abbrev pub IsToldOf : {R : Type 0} {reads : Ghosts R} → Lines R reads → Fault → Type 0
-IsToldOf lines Start = ⊥
-IsToldOf lines (Line n kind) = (kind ≡ WriteFault) ⊎ IsToldAt lines (Line n kind)
+abbrev pub IsReportedOf : {R : Type 0} {reads : Ghosts R} → Lines R reads → Fault → Type 0
+IsReportedOf lines Start = ⊥
+IsReportedOf lines (Line n kind) = (kind ≡ WriteFault) ⊎ IsReportedAt lines (Line n kind)
 
 -- a fault is reported at the line after the last that was executed, or at that one if its answer is lost
-abbrev pub IsToldAfter : Option (List (List ℕ)) → List (List ℕ) → Fault → Type 0
-IsToldAfter script met Start = ⊥
-IsToldAfter script met (Line n kind) =
+abbrev pub IsReportedAfter : Option (List (List ℕ)) → List (List ℕ) → Fault → Type 0
+IsReportedAfter script met Start = ⊥
+IsReportedAfter script met (Line n kind) =
     ((n ≡ length met + 1) ⊎ ((n ≡ length met) × IsLostAt (line_at met n) kind)) × IsSo script n kind
 
 -- The line at which a fault is reported exists, or is the first. But `ReadFault` may be reported where no line is left,
@@ -156,7 +156,7 @@ pub record PlaysScript (script : Option (List (List ℕ))) (result : Result (Uni
   pub few : length lines ≤ 1000000
   pub first : AreFirst script lines
   pub whole : OnOk result (AreAll script lines)
-  pub told : IfErr result (IsToldAfter script lines)
+  pub reported : IfErr result (IsReportedAfter script lines)
 
 -- the array executed all lines of a script, and the text of their answers was appended
 pub record WritesScript (script : Option (List (List ℕ))) (old new : ArrayState) (before after : Option (List ℕ))

@@ -22,8 +22,8 @@ use Rattle.ar_language.specs.declared.order.Notation.{Notation}
 use Rattle.ar_language.specs.declared.order.Notation.TheVariants as notations
 use Rattle.ar_cache.specs.declared.answers.Flush.{Flush}
 use Rattle.ar_cache.specs.declared.answers.Flush.TheVariants as flushes
-use Rattle.ar_volume.specs.declared.flush.UnitFlush.{UnitFlush}
-use Rattle.ar_volume.specs.declared.flush.UnitFlush.TheVariants as unit_flushes
+use Rattle.ar_volume.specs.declared.flush.PartFlush.{PartFlush}
+use Rattle.ar_volume.specs.declared.flush.PartFlush.TheVariants as part_flushes
 use Rattle.ar_moves.specs.declared.step.Move.{Move}
 use Rattle.ar_moves.specs.declared.step.Move.TheVariants as moves
 use Rattle.ar_balance.specs.declared.step.Balance.{Balance}
@@ -109,11 +109,12 @@ flush_text (flushes.Flushed key) = line (codes "flushed" ∷ key_words key [])
 flush_text flushes.Idle = line (codes "idle" ∷ [])
 flush_text flushes.Broken = line (codes "broken" ∷ [])
 
--- whether the unit was flushed; the script has no word for this event
-abbrev pub unit_flush_text : UnitFlush → List ℕ
-unit_flush_text unit_flushes.Done = done_text (Ok tt)
-unit_flush_text unit_flushes.Absent = done_text (Err (refusals.Unit unit_refusals.Absent))
-unit_flush_text unit_flushes.Broken = line (codes "broken" ∷ [])
+-- whether a part of the unit was flushed; the script has no word for this event
+abbrev pub part_flush_text : PartFlush → List ℕ
+part_flush_text part_flushes.Done = done_text (Ok tt)
+part_flush_text (part_flushes.More next) = line (codes "more" ∷ decimal next ∷ [])
+part_flush_text part_flushes.Absent = done_text (Err (refusals.Unit unit_refusals.Absent))
+part_flush_text part_flushes.Broken = line (codes "broken" ∷ [])
 
 -- the block that was moved, and the slot that it moved to
 abbrev pub move_text : Move → List ℕ
@@ -148,7 +149,7 @@ outcome_text (outcomes.Remove done) notation = done_text done
 outcome_text (outcomes.Cmd reply) notation = reply_text reply notation
 outcome_text (outcomes.Unmap reply) notation = reply_text reply notation
 outcome_text (outcomes.Flush flush) notation = flush_text flush
-outcome_text (outcomes.FlushUnit flush) notation = unit_flush_text flush
+outcome_text (outcomes.FlushPart flush) notation = part_flush_text flush
 outcome_text (outcomes.Demote answer) notation = move_text answer
 outcome_text (outcomes.Clean answer) notation = move_text answer
 outcome_text (outcomes.Balance answer) notation = balance_text answer

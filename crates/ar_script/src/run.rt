@@ -12,7 +12,7 @@ ghost use Rattle.ar_language.specs.Lines.{IsReached};
 ghost use Rattle.ar_script.specs.Ends.{Ends};
 ghost use Rattle.ar_script.specs.Answers.{AnswersLine};
 ghost use Rattle.ar_script.specs.Orders.{MeetsLine};
-ghost use Rattle.ar_script.specs.Plays.{SaysWrong, IsUnanswered, IsLineThere, IsToldAt, IsToldOf, PlaysScript, PlaysTo};
+ghost use Rattle.ar_script.specs.Plays.{SaysWrong, IsUnanswered, IsLineThere, IsReportedAt, IsReportedOf, PlaysScript, PlaysTo};
 ghost use Rattle.ar_script.specs.Plays.{AnswersScript, HasPlayed, HasAnswered};
 ghost use Rattle.ar_script.specs.Setups.{disks_of};
 
@@ -131,8 +131,8 @@ fn write_answers<R: Read + Drop, W: Write + Drop>(
     ensures ended { OnOk result.end (lines.new.is_at_end ≡ true) }
     // After a fault nothing more is read. `NoMemory` is reported at line 1 with nothing read, or at a line that
     // allocates.
-    ensures told { IfErr result.end (λ fault. ((fault ≡ Fault.Line 1 FaultKind.NoMemory) × (lines.new ≡ lines.old))
-        ⊎ (IsReached (lines_begun lines.new) fault × IsToldOf lines.new fault)) }
+    ensures reported { IfErr result.end (λ fault. ((fault ≡ Fault.Line 1 FaultKind.NoMemory) × (lines.new ≡ lines.old))
+        ⊎ (IsReached (lines_begun lines.new) fault × IsReportedOf lines.new fault)) }
 {
     let Ok(mut out) = BufWriter::new(alloc, writer) else {
         return Ended {
@@ -161,7 +161,7 @@ fn answer_all<R: Read + Drop, W: Write + Drop>(
     ensures there { IfErr result (IsLineThere (lines_left lines.old)) }
     ensures ended { OnOk result (lines.new.is_at_end ≡ true) }
     ensures reached { IfErr result (IsReached (lines_begun lines.new)) }
-    ensures told { IfErr result (IsToldOf lines.new) }
+    ensures reported { IfErr result (IsReportedOf lines.new) }
     // Unless a write fault is reported, all answers are written, in order, after what the writer had: to all lines, or
     // to those before the fault.
     ensures written { tells_write_fault result ≡ false → writer_buffer out.new ≡ [] }
@@ -196,7 +196,7 @@ fn run_lines<R: Read + Drop, W: Write + Drop>(
     ensures ended { OnOk result (lines.new.is_at_end ≡ true) }
     ensures reached { IfErr result (IsReached (lines_begun lines.new)) }
     // `ReadFault` is reported only while a line is awaited, and a fault of a line only if the line has it.
-    ensures told { IfErr result (IsToldAt lines.new) }
+    ensures reported { IfErr result (IsReportedAt lines.new) }
     ensures numbered { IfErr result IsNumbered }
     // Each answer is appended to those before it: to all lines, or to those before a fault that isn't a write fault.
     ensures grows { AnswersScript (lines_left lines.old) result runner.old runner.new
@@ -221,7 +221,7 @@ fn answer_line<R: Read + Drop, W: Write + Drop>(
     out: &mut BufWriter<W>,
 ) -> Result<(), FaultKind>
     ensures meets { MeetsLine lines.now.line.items runner.old result runner.new }
-    ensures told { IfErr result (λ kind. IsUnanswered lines.now.line.items kind ⊎ SaysWrong lines.now.line.items kind) }
+    ensures reported { IfErr result (λ kind. IsUnanswered lines.now.line.items kind ⊎ SaysWrong lines.now.line.items kind) }
     ensures few { IfErr result (λ kind. kind ≢ FaultKind.TooManyLines) }
     ensures adds { OnOk result
         (AnswersLine lines.now.line.items runner.old runner.new (writer_contents W.contents out.old)

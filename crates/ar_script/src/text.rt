@@ -7,12 +7,12 @@ ghost use Rattle.ar_picture.specs.Writing.{AddsSome};
 ghost use Rattle.ar_script.specs.Texts.{balance_text, class_name, data_words, done_text, flush_text, gap, group_text};
 ghost use Rattle.ar_script.specs.Texts.{groups_text, health_text, hex_byte, home_text, level_mark, levels_text, line};
 ghost use Rattle.ar_script.specs.Texts.{marks_text, move_text, outcome_text, rebuild_text, reply_text, row_text};
-ghost use Rattle.ar_script.specs.Texts.{run_text, runs_of, sense_text, taken_text, unit_flush_text, words};
+ghost use Rattle.ar_script.specs.Texts.{run_text, runs_of, sense_text, taken_text, part_flush_text, words};
 
 use crate::runs::run_len;
 use ar_core::{
     Array, Balance, Class, DiskRefusal, Flush, GroupUse, Health, HomeOf, LevelOf, Move, OutcomeOf,
-    Rebuild, Refusal, Shown, UnitFlush, UnitRefusal,
+    PartFlush, Rebuild, Refusal, Shown, UnitRefusal,
 };
 use ar_disks::{Addr, Disk};
 use ar_language::Notation;
@@ -39,7 +39,7 @@ pub fn write_outcome<W: Write, N>(
         | OutcomeOf::DiskOut(done) => write_done(out, *done),
         OutcomeOf::Cmd(reply) | OutcomeOf::Unmap(reply) => write_reply(out, reply, notation),
         OutcomeOf::Flush(flush) => write_flush(out, *flush),
-        OutcomeOf::FlushUnit(flush) => write_unit_flush(out, *flush),
+        OutcomeOf::FlushPart(flush) => write_part_flush(out, *flush),
         OutcomeOf::Demote(answer) | OutcomeOf::Clean(answer) => write_move(out, *answer),
         OutcomeOf::Balance(answer) => write_balance(out, *answer),
         OutcomeOf::AddDisk(done) | OutcomeOf::Replace(done) => write_taken(out, done),
@@ -143,13 +143,14 @@ fn write_flush<W: Write>(out: &mut W, flush: Flush) -> io::Result<()>
 }
 
 // The script has no word for this event.
-fn write_unit_flush<W: Write>(out: &mut W, flush: UnitFlush) -> io::Result<()>
-    ensures text { OnOk result (Appends (W.contents out.old) (W.contents out.new) (unit_flush_text flush)) }
+fn write_part_flush<W: Write>(out: &mut W, flush: PartFlush) -> io::Result<()>
+    ensures text { OnOk result (Appends (W.contents out.old) (W.contents out.new) (part_flush_text flush)) }
 {
     match flush {
-        UnitFlush::Done => write_done(out, Ok(())),
-        UnitFlush::Absent => write_done(out, Err(NO_UNIT)),
-        UnitFlush::Broken => writeln!(out, "broken"),
+        PartFlush::Done => write_done(out, Ok(())),
+        PartFlush::More(next) => writeln!(out, "more {next}"),
+        PartFlush::Absent => write_done(out, Err(NO_UNIT)),
+        PartFlush::Broken => writeln!(out, "broken"),
     }
 }
 

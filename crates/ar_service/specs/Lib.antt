@@ -1,4 +1,5 @@
 pub mod Control
+pub mod Monitoring
 pub mod Service
 pub mod Watching
 -- definitions of lower crates that clauses of this crate cite

@@ -18,6 +18,7 @@ use Rattle.ar_history.specs.declared.store_status.StoreState.{StoreState}
 use Rattle.ar_history.specs.declared.store_status.StoreState.TheVariants as states
 use Rattle.ar_history.specs.declared.store_status.StoreStatus.{StoreStatus}
 use Rattle.ar_picture.specs.Drawings.{svg_text}
+use Rattle.ar_picture.specs.Losses.{health_naming}
 use Rattle.ar_picture.specs.declared.picture.Picture.{Picture}
 use Rattle.ar_script.specs.Pictures.{IsPicture}
 use Rattle.ar_status.specs.Changes.{between, events_in, listed_with}
@@ -141,16 +142,22 @@ pub record SeesArray (seconds : ℕ) (array : ArrayState) (old new : EventLog) :
       ++ map DiskAdded (range_with_len old.disks (length array.store.disks.disks - old.disks)))
       (events_in old.events)
 
--- the data of the picture, if it is to be drawn
-abbrev pub MayDraw : Bool → ArrayState → Option Picture → Type 0
-MayDraw false array None = Unit {0}
-MayDraw false array (Some picture) = ⊥
-MayDraw true array None = ⊥
-MayDraw true array (Some picture) = IsPicture array picture
+-- the array's picture, which names the disks that it has lost, if it has failed and they are known
+pub record IsDrawing (lost : Option (List ℕ)) (array : ArrayState) (drawing : Picture) : Type 0 where
+  pub picture : Picture
+  pub shows : IsPicture array picture
+  pub is : drawing ≡ record picture { health = health_naming lost picture.health }
 
--- The status of an array at one moment, and the data of its picture at the same one. One that doesn't persist has no
--- store. The time, the events, how many entries are stored, how the store is, and which disks were lost are not
--- specified.
+-- the data of the picture, if it is to be drawn
+abbrev pub MayDraw : Bool → Option (List ℕ) → ArrayState → Option Picture → Type 0
+MayDraw false lost array None = Unit {0}
+MayDraw false lost array (Some drawing) = ⊥
+MayDraw true lost array None = ⊥
+MayDraw true lost array (Some drawing) = IsDrawing lost array drawing
+
+-- The status of an array at one moment, and the data of its picture at the same one, both with the same lost disks. One
+-- that doesn't persist has no store. The time, the events, how many entries are stored, how the store is, and which
+-- disks were lost are not specified.
 pub record CopiesMoment (persists draws : Bool) (status : ArrayStatus) (drawing : Option Picture) : Type 0 where
   pub state : KeptState
   pub stored : ℕ
@@ -158,7 +165,7 @@ pub record CopiesMoment (persists draws : Bool) (status : ArrayStatus) (drawing 
   pub absent : persists ≡ false → store ≡ None
   pub lost : Option (List ℕ)
   pub is : IsStatusOf state.array state.counts stored store lost status.uptime_seconds status.events status
-  pub picture : MayDraw draws state.array drawing
+  pub picture : MayDraw draws lost state.array drawing
 
 -- the text of a picture; without one it is empty
 abbrev pub text_drawn : Option Picture → List ℕ

@@ -119,14 +119,14 @@ fn execute_listed<A: ControlledArray<L, M>, L: Ledger, M>(
 {
     let done = array.execute(alloc, disks, spare, order, out);
     list_done(log, seconds, order, out);
-    let lasts = lasts_behind::<A, L>(array, order);
+    let lasts = lasts_after::<A, L>(array, order);
     array.see(seconds, log);
     let line = line_added(order, array.store());
     answer_with(lasts, line, done, out)
 }
 
 // Commits what an action has done.
-fn lasts_behind<A: ServedArray<L>, L: Ledger>(array: &mut A, order: OperatorOrder) -> bool
+fn lasts_after<A: ServedArray<L>, L: Ledger>(array: &mut A, order: OperatorOrder) -> bool
     ensures same { A.state array.new ≡ A.state array.old }
     ensures lasts { result ≡ true → is_act order ≡ true → A.lasts array.new }
     ensures failed { result ≡ false → A.persists ≡ true }

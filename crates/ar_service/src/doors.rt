@@ -46,6 +46,8 @@ pub struct OperatedArray<'a, R: Wait, A: Drop, L: Ledger, M> {
     pub http_host: Option<&'a str>,
     /// When the service began, if the clock could be read.
     pub began: Option<Instant>,
+    /// Says how much memory there is; None: nothing is warned of.
+    pub system: Option<&'a HostRuntime>,
     /// Set once the service is to end. All doors look at it.
     pub stop: &'a AtomicBool,
 }

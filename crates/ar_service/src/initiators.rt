@@ -92,6 +92,8 @@ impl<'a, R: Wait + Clock, L: Ledger, P: Port + Drop> Port for PatientPort<'a, R,
 
     ghost commands = { λ old lun cdb payload reply new. P.commands old.port lun cdb payload reply new.port };
 
+    ghost refuses = { λ old cdb new. P.refuses old.port cdb new.port };
+
     fn login(&mut self, host: u8) -> Login {
         wait_for_seat(self.rt, self.desk, host);
         self.port.login(host)
@@ -99,6 +101,10 @@ impl<'a, R: Wait + Clock, L: Ledger, P: Port + Drop> Port for PatientPort<'a, R,
 
     fn command(&mut self, lun: u8, cdb: &[u8; 16], payload: Bytes) -> Reply {
         self.port.command(lun, cdb, payload)
+    }
+
+    fn refuse(&mut self, cdb: &[u8; 16]) -> Reply {
+        self.port.refuse(cdb)
     }
 }
 

@@ -1,9 +1,11 @@
 // A thread that looks at the array ten times a second: so each event is listed with its time, and the log has it, also
 // while nobody watches. A look costs hosts the lock for about a microsecond.
-ghost use Rattle.std.specs.Prelude.{◌≤◌, length};
+ghost use Rattle.std.specs.Prelude.{◌≡◌, ◌≤◌, length};
+ghost use Rattle.ar_service.specs.Monitoring.{last_warned};
 
 use crate::doors::OperatedArray;
 use crate::shown::ControlledArray;
+use ar_memory::{memory_left, share_reached};
 use ar_operator::{Fuse, lost_disks};
 use ar_status::{EventKind, RecentEvent, RecentEvents};
 use log::{Log, error, info, warn};
@@ -19,6 +21,18 @@ const PAUSE: u64 = 100;
 /// The memory of the history at which it is logged first, in bytes.
 const FIRST_BYTES: u64 = 1 << 20;
 
+// What the log has of the memory of the history.
+#[derive(Clone, Copy)]
+struct History {
+    // The bytes at which it is logged next.
+    next: u64,
+    // The bytes that it may take, as far as that is known. They are read when it is logged first: all threads have
+    // their stacks then, which count where addresses are limited.
+    memory: Option<u64>,
+    // The percentage of these of which there was the last warning.
+    warned: u8,
+}
+
 /// What looks at an array until the service ends.
 pub trait Monitor {
     /// Looks at it again and again, and once more when the service ends.
@@ -32,7 +46,7 @@ impl<'a, R: Wait + Clock + Log, A: ControlledArray<L, M> + Drop, L: Ledger, M> M
     for OperatedArray<'a, R, A, L, M> {
     fn monitor(&self) {
         let mut logged = RecentEvents::new();
-        let mut bytes = FIRST_BYTES;
+        let mut history = History::new();
         for _ in self.rt.forever() {
             // (what has happened before the end is logged, too)
             let is_last = self.stop.load(Ordering::SeqCst);
@@ -44,7 +58,7 @@ impl<'a, R: Wait + Clock + Log, A: ControlledArray<L, M> + Drop, L: Ledger, M> M
                 status.events.as_slice(),
             );
             logged = status.events;
-            bytes = log_bytes(self.rt, bytes, status.history_bytes);
+            history = history.logged(self.rt, self.system, status.history_bytes);
             if is_last {
                 break;
             }
@@ -109,6 +123,36 @@ fn log_array<R: Log>(rt: &R, fuses: &[Fuse; 12]) {
     }
 }
 
+impl History {
+    fn new() -> History {
+        History {
+            next: FIRST_BYTES,
+            memory: None,
+            warned: 0,
+        }
+    }
+
+    // Logs how many bytes it takes, where that is to be said.
+    fn logged<R: Log>(self, rt: &R, system: Option<&HostRuntime>, bytes: u64) -> History {
+        let next = log_bytes(rt, self.next, bytes);
+        let memory = if self.next == FIRST_BYTES && next > FIRST_BYTES {
+            memory_for(system, bytes)
+        } else {
+            self.memory
+        };
+        History {
+            next,
+            memory,
+            warned: log_share(rt, self.warned, bytes, memory),
+        }
+    }
+}
+
+// The bytes that a history may take which takes some already.
+fn memory_for(system: Option<&HostRuntime>, taken: u64) -> Option<u64> {
+    Some(memory_left(system?)?.saturating_add(taken))
+}
+
 // Logs the memory of the history where it has reached `limit`, and returns that at which it is logged next.
 fn log_bytes<R: Log>(rt: &R, limit: u64, bytes: u64) -> u64 {
     if bytes < limit {
@@ -116,4 +160,21 @@ fn log_bytes<R: Log>(rt: &R, limit: u64, bytes: u64) -> u64 {
     }
     info!(rt; "the history takes {bytes} bytes");
     bytes.saturating_mul(2)
+}
+
+// Warns where the history takes a greater part of the memory than the one that was warned of last, in percent, and
+// returns that of which there was the last warning.
+fn log_share<R: Log>(rt: &R, warned: u8, bytes: u64, memory: Option<u64>) -> u8
+    ensures { result ≡ last_warned warned bytes memory }
+{
+    let Some(memory) = memory else {
+        return warned;
+    };
+    let share = share_reached(bytes, memory);
+    if share <= warned {
+        return warned;
+    }
+    let (taken, whole) = (bytes >> 20, memory >> 20);
+    warn!(rt; "the history takes {share} % of the memory: {taken} of {whole} MiB");
+    share
 }

@@ -90,6 +90,8 @@ pub struct Plan<'a> {
     pub iscsi: Option<IscsiPort>,
     /// How long hosts may be silent.
     pub timeouts: Timeouts,
+    /// Says how much memory there is; None: nothing is warned of.
+    pub system: Option<&'a HostRuntime>,
 }
 
 /// Why a service failed.
@@ -285,6 +287,7 @@ fn serve_array<
         log: &log,
         http_host: plan.http_host,
         began: Instant::now(rt).ok(),
+        system: plan.system,
         stop,
     };
     let (stops, served) = match made {

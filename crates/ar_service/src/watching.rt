@@ -1,7 +1,7 @@
 // HTTP clients that watch the array. Its numbers, and the data of its picture, are copied under its lock; all else is
 // done outside.
 ghost use Rattle.std.specs.Prelude.{◌≡◌, IfOk};
-ghost use Rattle.ar_service.specs.Watching.{CopiesMoment, MayDraw, text_drawn};
+ghost use Rattle.ar_service.specs.Watching.{CopiesMoment, IsDrawing, MayDraw, text_drawn};
 
 use crate::doors::OperatedArray;
 use crate::shown::ControlledArray;
@@ -70,7 +70,7 @@ fn copy_moment<A: ControlledArray<L, M>, L: Ledger, M>(
 {
     array.see(seconds, log);
     let status = array.status(array.store(), lost, seconds, log.events());
-    let picture = picture_if::<A, L, M>(alloc, array, draws)?;
+    let picture = picture_if::<A, L, M>(alloc, array, lost, draws)?;
     Ok((status, picture))
 }
 
@@ -78,15 +78,29 @@ fn copy_moment<A: ControlledArray<L, M>, L: Ledger, M>(
 fn picture_if<A: ControlledArray<L, M>, L: Ledger, M>(
     alloc: Global,
     array: &A,
+    lost: Option<[u8; 2]>,
     draws: bool,
 ) -> Result<Option<Picture>, AllocError>
-    ensures { IfOk result (MayDraw draws (A.state array.now).array) }
+    ensures { IfOk result (MayDraw draws lost (A.state array.now).array) }
 {
     if draws {
-        Ok(Some(array.picture(alloc)?))
+        Ok(Some(drawing_of::<A, L, M>(alloc, array, lost)?))
     } else {
         Ok(None)
     }
+}
+
+// The data of the picture. That of a failed array names the disks that it has lost.
+fn drawing_of<A: ControlledArray<L, M>, L: Ledger, M>(
+    alloc: Global,
+    array: &A,
+    lost: Option<[u8; 2]>,
+) -> Result<Picture, AllocError>
+    ensures { IfOk result (IsDrawing lost (A.state array.now).array) }
+{
+    let mut picture = array.picture(alloc)?;
+    picture.name_lost(lost);
+    Ok(picture)
 }
 
 // The text of a picture; without one it is empty.

@@ -63,9 +63,9 @@ pause_after rotation false = if nat_lt (rotation.turns + 1) 5 then None else Som
 
 -- A step, and whether it returns that it did something: a task that is due is one step of the array, one that isn't
 -- changes nothing. The history and its capacity stay, and so do the contents of all units, unless the array has failed.
-pub record TakesTurn (old : KeptState) (task : Task) (told : Bool) (new : KeptState) : Type 0 where
-  pub due : is_due task (free_groups old.array.store.book) ≡ true → Works task old told new
-  pub idle : is_due task (free_groups old.array.store.book) ≡ false → (told ≡ false) × (new ≡ old)
+pub record TakesTurn (old : KeptState) (task : Task) (reported : Bool) (new : KeptState) : Type 0 where
+  pub due : is_due task (free_groups old.array.store.book) ≡ true → Works task old reported new
+  pub idle : is_due task (free_groups old.array.store.book) ≡ false → (reported ≡ false) × (new ≡ old)
   pub history : new.history ≡ old.history
   pub room : new.room ≡ old.room
   pub images : is_broken new.array ≡ false → (a : Address) → image new.array a ≡ image old.array a
@@ -73,10 +73,10 @@ pub record TakesTurn (old : KeptState) (task : Task) (told : Bool) (new : KeptSt
 -- The next task of the rotation was a step of the maintenance: the rotation after it, and the pause.
 pub record Performs (old : KeptState) (rotation : Rotation) (pause : Option ℕ) (new : KeptState)
     (next : Rotation) : Type 0 where
-  pub told : Bool
-  pub turn : TakesTurn old rotation.task told new
-  pub next_is : next ≡ stepped rotation told new.events
-  pub pause_is : pause ≡ pause_after rotation told
+  pub reported : Bool
+  pub turn : TakesTurn old rotation.task reported new
+  pub next_is : next ≡ stepped rotation reported new.events
+  pub pause_is : pause ≡ pause_after rotation reported
 
 -- One pass of the maintenance: which task was done, which comes next, and which pause follows, in milliseconds. While
 -- it rests, none is done: the array stays, and the next pass follows a pause.

@@ -5,6 +5,7 @@ pub mod Ends
 pub mod Flushing
 pub mod Limits
 pub mod Port
+pub mod Refusing
 -- definitions of lower crates that clauses of this crate cite
 pub use Rattle.ar_history.specs.Seat
 pub use Rattle.ar_history.specs.Counts

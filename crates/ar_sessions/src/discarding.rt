@@ -6,11 +6,10 @@ ghost use Rattle.ar_frames.specs.Frame.{IsReply};
 ghost use Rattle.ar_sessions.specs.Discarding.{DiscardedAtOneMoment, DiscardsLasting};
 ghost use Rattle.ar_sessions.specs.Discarding.{LookedUpAtOneMoment, LooksUp, LooksUpLun, run_of};
 
-use crate::flushing::LUNS;
 use crate::port::{Asked, lock_soon, settle_locked, settle_now};
 use crate::{LockPort, SeatDesk};
 use ar_core::Allocation;
-use ar_disks::{Addr, Host};
+use ar_disks::{Addr, Host, MAX_LUN};
 use ar_history::ServedArray;
 use ar_scsi::Reply;
 use ar_target::{BlockRun, DiscardPort};
@@ -105,7 +104,7 @@ fn run_locked<R: Wait, A: ServedArray<L> + Drop, L: Ledger>(
 ) -> BlockRun
     ensures { LooksUpLun host lun block most result }
 {
-    if lun >= LUNS {
+    if lun > MAX_LUN {
         return BlockRun {
             is_written: false,
             blocks: 0,

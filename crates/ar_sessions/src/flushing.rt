@@ -1,28 +1,45 @@
 // What a device server needs of a session's port beyond commands: that the cached blocks of a unit are written to the
 // disks.
 ghost use Rattle.std.specs.Prelude.{◌≡◌};
-ghost use Rattle.ar_sessions.specs.Flushing.{CommitsFlush, DestagedAtOneMoment, FlushesAs, FlushesLun};
-ghost use Rattle.ar_sessions.specs.Flushing.{FlushesThenCommits, flush_outcome, lasting_outcome};
+ghost use Rattle.ar_history.specs.Served.{DestagesPart};
+ghost use Rattle.ar_sessions.specs.Flushing.{CommitsFlush, DestagedInParts, DestagedPart, FlushesLun};
+ghost use Rattle.ar_sessions.specs.Flushing.{FlushesThenCommits, lasting_outcome};
 ghost use Rattle.ar_target.specs.declared.flush_port.FlushOutcome.TheVariants as outcomes;
 
 use crate::port::{lock_soon, wait_for_others};
 use crate::{LockPort, SeatDesk};
-use ar_core::UnitFlush;
-use ar_disks::{Addr, Host};
+use ar_core::PartFlush;
+use ar_disks::{Addr, Host, MAX_LUN};
 use ar_history::ServedArray;
 use ar_target::{FlushOutcome, FlushPort};
 use std::sync::ledger::Ledger;
 use std::sync::{Mutex, Wait};
 use std::time::Clock;
 
-/// The LUNs that a unit may have are below this one.
-pub(crate) const LUNS: u8 = 8;
-
 // A flush that is to be committed: its outcome, and for how many microseconds others are let in first.
 #[derive(Clone, Copy)]
 struct Flushed {
     outcome: FlushOutcome,
     pause: u64,
+}
+
+// A part of a unit that was flushed: what the array returned, and the pause before a commit if no part follows.
+#[derive(Clone, Copy)]
+struct Part {
+    answer: PartFlush,
+    pause: u64,
+}
+
+impl Part {
+    // The flush whose last part this is.
+    fn ended(self, outcome: FlushOutcome) -> Flushed
+        ensures { result.outcome ≡ outcome }
+    {
+        Flushed {
+            outcome,
+            pause: self.pause,
+        }
+    }
 }
 
 impl<'a, R: Wait + Clock, A: ServedArray<L> + Drop, K: SeatDesk<L> + Drop, L: Ledger> FlushPort
@@ -39,7 +56,7 @@ impl<'a, R: Wait + Clock, A: ServedArray<L> + Drop, K: SeatDesk<L> + Drop, L: Le
     }
 }
 
-// Destages a unit of a host under the lock.
+// Destages a unit of a host, and commits.
 fn flush_locked<R: Wait + Clock, A: ServedArray<L> + Drop, L: Ledger>(
     rt: &R,
     array: &Mutex<A>,
@@ -48,13 +65,13 @@ fn flush_locked<R: Wait + Clock, A: ServedArray<L> + Drop, L: Ledger>(
 ) -> FlushOutcome
     ensures { FlushesLun A.persists host lun result }
 {
-    if lun >= LUNS {
+    if lun > MAX_LUN {
         return FlushOutcome::NoUnit;
     }
     flush_at(rt, array, Addr { host, lun })
 }
 
-// Destages the unit at an address under the lock, and commits under it after a pause in which others flush theirs.
+// Destages the unit at an address, and commits under the lock after a pause in which others flush theirs.
 fn flush_at<R: Wait + Clock, A: ServedArray<L> + Drop, L: Ledger>(
     rt: &R,
     array: &Mutex<A>,
@@ -62,29 +79,52 @@ fn flush_at<R: Wait + Clock, A: ServedArray<L> + Drop, L: Ledger>(
 ) -> FlushOutcome
     ensures { FlushesThenCommits A.persists addr result }
 {
-    let flushed = flush_once(rt, array, addr);
+    let flushed = flush_parts(rt, array, addr);
     wait_for_others(rt, flushed.pause);
     commit_locked(rt, array, flushed.outcome)
 }
 
-// Destages the unit at an address under the lock.
-fn flush_once<R: Wait, A: ServedArray<L> + Drop, L: Ledger>(
+// Destages the unit at an address part by part, each under the lock, which is free in between: a unit may have 512 MiB
+// of cached blocks, and a part has 4 MiB at most. A thread that waits for the lock gets it after a few parts, since one
+// that has missed it twice has it left to those that wait.
+fn flush_parts<R: Wait, A: ServedArray<L> + Drop, L: Ledger>(
     rt: &R,
     array: &Mutex<A>,
     addr: Addr,
 ) -> Flushed
-    ensures { DestagedAtOneMoment addr result.outcome }
+    ensures { DestagedInParts addr result.outcome }
 {
-    flush_with::<A, L>(&mut array.lock(rt), addr)
+    let mut first = 0;
+    'parts: loop {
+        let part = flush_once(rt, array, addr, first);
+        match part.answer {
+            PartFlush::More(next) => first = next,
+            PartFlush::Done => return part.ended(FlushOutcome::Done),
+            PartFlush::Absent => return part.ended(FlushOutcome::NoUnit),
+            PartFlush::Broken => return part.ended(FlushOutcome::ArrayFailed),
+        }
+    }
 }
 
-// Destages the unit at an address. What was done is still to be committed.
-fn flush_with<A: ServedArray<L>, L: Ledger>(array: &mut A, addr: Addr) -> Flushed
-    ensures flushes { FlushesAs (A.state array.old) addr result.outcome (A.state array.new) }
+// Destages a part of the unit at an address under the lock.
+fn flush_once<R: Wait, A: ServedArray<L> + Drop, L: Ledger>(
+    rt: &R,
+    array: &Mutex<A>,
+    addr: Addr,
+    first: u32,
+) -> Part
+    ensures { DestagedPart addr first result.answer }
 {
-    let answer = array.flush_unit(addr);
-    Flushed {
-        outcome: outcome_of(answer),
+    flush_with::<A, L>(&mut array.lock(rt), addr, first)
+}
+
+// Destages a part of the unit at an address. What was done is still to be committed.
+fn flush_with<A: ServedArray<L>, L: Ledger>(array: &mut A, addr: Addr, first: u32) -> Part
+    ensures destages { DestagesPart (A.state array.old) addr first result.answer (A.state array.new) }
+{
+    let answer = array.flush_part(addr, first);
+    Part {
+        answer,
         pause: array.commit_pause(),
     }
 }
@@ -118,16 +158,5 @@ fn lasting_outcome(lasts: bool, outcome: FlushOutcome) -> FlushOutcome
         outcome
     } else {
         FlushOutcome::ArrayFailed
-    }
-}
-
-// How a flush is answered, by what the array returned.
-fn outcome_of(answer: UnitFlush) -> FlushOutcome
-    ensures { result ≡ flush_outcome answer }
-{
-    match answer {
-        UnitFlush::Done => FlushOutcome::Done,
-        UnitFlush::Absent => FlushOutcome::NoUnit,
-        UnitFlush::Broken => FlushOutcome::ArrayFailed,
     }
 }

@@ -16,6 +16,7 @@ mod notes;
 mod pool;
 mod port;
 mod refusals;
+mod refusing;
 mod sessions;
 mod socket;
 mod socket_file;

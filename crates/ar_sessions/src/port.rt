@@ -7,8 +7,9 @@ ghost use Rattle.ar_history.specs.Served.{acknowledges, asks_commit};
 ghost use Rattle.ar_sessions.specs.Desk.{receipt_for};
 ghost use Rattle.ar_sessions.specs.Port.{AnswersLasting, AsksArray, SettlesReply, lasting_reply};
 
+use crate::refusing::refuse_counted;
 use crate::{Desk, Receipt, SeatDesk, SeatSlot};
-use ar_disks::Host;
+use ar_disks::{Host, SECTOR_LEN};
 use ar_frames::{Login, Port};
 use ar_history::{Seat, ServedArray};
 use ar_scsi::{Command, Reply, Sense, decode};
@@ -95,6 +96,7 @@ impl<'a, R: Wait + Clock, A: ServedArray<L> + Drop, K: SeatDesk<L> + Drop, L: Le
     for LockPort<'a, R, A, K, L> {
     ghost use Rattle.std.specs.Prelude.{is_some};
     ghost use Rattle.ar_sessions.specs.Port.{TakesSeat, AsksArray, AsksSeat};
+    ghost use Rattle.ar_sessions.specs.Refusing.{RefusesSeat};
 
     ghost has_login = { λ port. is_some port };
 
@@ -102,6 +104,8 @@ impl<'a, R: Wait + Clock, A: ServedArray<L> + Drop, K: SeatDesk<L> + Drop, L: Le
 
     ghost commands = { λ old lun cdb payload reply new. AsksSeat (AsksArray A.stores A.persists) old lun cdb payload
         reply new };
+
+    ghost refuses = { λ old cdb new. RefusesSeat old cdb new };
 
     fn login(&mut self, host: u8) -> Login {
         let Some(host) = Host::new(host) else {
@@ -123,6 +127,13 @@ impl<'a, R: Wait + Clock, A: ServedArray<L> + Drop, K: SeatDesk<L> + Drop, L: Le
                     self.rt, self.array, self.desk, memory, seat, lun, cdb, payload,
                 )
             }
+            None => unreachable!(),
+        }
+    }
+
+    fn refuse(&mut self, cdb: &[u8; 16]) -> Reply {
+        match &self.seat {
+            Some(seat) => refuse_counted(self.rt, self.array, self.desk, seat.host(), cdb),
             None => unreachable!(),
         }
     }
@@ -340,7 +351,7 @@ fn lend<A: ServedArray<L>, L: Ledger>(array: &mut A, memory: Option<Vec<u8>>)
 fn memory_for(alloc: Global, cdb: &[u8; 16]) -> Option<Vec<u8>> {
     match decode(cdb) {
         Ok(Command::Read { count, .. }) if LEAST_LENT <= count && count <= MOST_LENT => {
-            vec![in alloc; 0; usize::from(count) * 512].ok()
+            vec![in alloc; 0; usize::from(count) * SECTOR_LEN].ok()
         }
         _ => None,
     }

@@ -12,7 +12,7 @@ use Rattle.ar_target.specs.DiscardPort.{ThinUnits}
 use Rattle.ar_target.specs.FlushPort.{UnitFlushes}
 use Rattle.ar_target.specs.Request.{request_of}
 use Rattle.ar_target.specs.Serving.{MeetsRequest}
-use Rattle.ar_target.specs.Told.{LooksFor, inquiry_cdb, presence_of}
+use Rattle.ar_target.specs.OwnCommands.{LooksFor, inquiry_cdb, presence_of}
 
 -- nothing is due
 pub serves_at_once :
@@ -70,11 +70,11 @@ serves_due {commands = commands} {flushes = flushes} {thin = thin} old {lun = lu
 
 -- what came of a report, where the port states that there is a unit
 pub attempted_at_unit :
-    {P : Type 0} (commands : Commands P) {old new : P} {lun : ℕ} {told : Reply} (request : Request) (report : Report)
-    → commands old lun inquiry_cdb [] told new → presence_of told ≡ Some true → IsReport request report
+    {P : Type 0} (commands : Commands P) {old new : P} {lun : ℕ} {own_reply : Reply} (request : Request) (report : Report)
+    → commands old lun inquiry_cdb [] own_reply new → presence_of own_reply ≡ Some true → IsReport request report
     → AttemptsReport commands old lun request report new
 attempted_at_unit commands request NoUnit asked stated is = absurd is
-attempted_at_unit commands {told = told} request (Made reply) asked stated is =
-    (record { told = told; asked = asked; stated = stated }, is)
-attempted_at_unit commands {new = new} {told = told} request (Due reply) asked stated is =
-    rw is.0 (unheld new (record { told = told; asked = asked; stated = stated }) is.1)
+attempted_at_unit commands {own_reply = own_reply} request (Made reply) asked stated is =
+    (record { own_reply = own_reply; asked = asked; stated = stated }, is)
+attempted_at_unit commands {new = new} {own_reply = own_reply} request (Due reply) asked stated is =
+    rw is.0 (unheld new (record { own_reply = own_reply; asked = asked; stated = stated }) is.1)

@@ -3,7 +3,7 @@ use Rattle.std.proofs.Common.{◌≡◌, ◌<◌, ◌+◌, ◌-◌, ◌∙◌, �
 use Rattle.ar_scsi.specs.declared.reply.Reply.{Reply}
 use Rattle.ar_scsi.specs.Reply.{good}
 use Rattle.ar_target.specs.Ranges.{DoesPiece, PiecesDone, DoesRange, one_piece, range_done, piece_stopped}
-use Rattle.ar_target.specs.Told.{is_good}
+use Rattle.ar_target.specs.OwnCommands.{is_good}
 
 -- a piece by its address and its length
 piece_is :
@@ -16,14 +16,14 @@ piece_is does size lba count done at len old reply new at_is len_is h =
 
 -- one more piece
 pub pieces_more :
-    {P : Type 0} (does : DoesPiece P) (size : ℕ → ℕ → ℕ) (lba count : ℕ) (old : P) (done at len : ℕ) (told : Reply)
+    {P : Type 0} (does : DoesPiece P) (size : ℕ → ℕ → ℕ) (lba count : ℕ) (old : P) (done at len : ℕ) (own_reply : Reply)
     (mid new : P)
     → PiecesDone does size lba count old done mid → at ≡ lba + done → len ≡ size at (count - done)
-    → does mid at len told new → is_good told.status ≡ true → PiecesDone does size lba count old (done + len) new
-pieces_more does size lba count old done at len told mid new before at_is len_is piece is_done =
+    → does mid at len own_reply new → is_good own_reply.status ≡ true → PiecesDone does size lba count old (done + len) new
+pieces_more does size lba count old done at len own_reply mid new before at_is len_is piece is_done =
     subst (λ (n : ℕ). PiecesDone does size lba count old (done + n) new)
     (sym (len_is ∙ ap (λ (a : ℕ). size a (count - done)) at_is))
-    (one_piece done told mid new before (piece_is does size lba count done at len mid told new at_is len_is piece)
+    (one_piece done own_reply mid new before (piece_is does size lba count done at len mid own_reply new at_is len_is piece)
     is_done)
 
 -- a piece that stops the range

@@ -7,19 +7,19 @@ use Rattle.ar_frames.specs.Conversation.{Commands}
 use Rattle.ar_target.specs.declared.flush_port.FlushOutcome.{FlushOutcome}
 use Rattle.ar_target.specs.declared.flush_port.FlushOutcome.TheVariants.{Done, NoUnit, ArrayFailed}
 use Rattle.ar_target.specs.FlushPort.{UnitFlushes}
-use Rattle.ar_target.specs.Serving.{Synchronizes, flush_reply, unit_unready, range_behind, unit_flushed}
-use Rattle.ar_target.specs.Told.{handed_on, handed_on_by}
+use Rattle.ar_target.specs.Serving.{Synchronizes, flush_reply, unit_unready, range_after, unit_flushed}
+use Rattle.ar_target.specs.OwnCommands.{handed_on, handed_on_by}
 
 -- a status that is handed on isn't GOOD
-handed_on_by-not_good : (s : Status) (told : Reply) → s ≡ told.status → (handed_on_by s told).status ≡ Good → ⊥
-handed_on_by-not_good Good told is e = cc
-handed_on_by-not_good CheckCondition told is e = cc
-handed_on_by-not_good Busy told is e = cc
+handed_on_by-not_good : (s : Status) (own_reply : Reply) → s ≡ own_reply.status → (handed_on_by s own_reply).status ≡ Good → ⊥
+handed_on_by-not_good Good own_reply is e = cc
+handed_on_by-not_good CheckCondition own_reply is e = cc
+handed_on_by-not_good Busy own_reply is e = cc
 
 -- nor is the reply
-handed_on-not_good : (told : Reply) → (handed_on told).status ≡ Good → ⊥
+handed_on-not_good : (own_reply : Reply) → (handed_on own_reply).status ≡ Good → ⊥
 unfolding handed_on
-handed_on-not_good told e = handed_on_by-not_good told.status told refl e
+handed_on-not_good own_reply e = handed_on_by-not_good own_reply.status own_reply refl e
 
 -- a reply that is GOOD says that the flush is done
 done_where_good : (outcome : FlushOutcome) → (flush_reply outcome).status ≡ Good → outcome ≡ Done
@@ -32,11 +32,11 @@ pub flushed_where_good :
     (new : P)
     → Synchronizes commands flushes lba count old lun reply new → reply.status ≡ Good
     → (mid : P) × flushes mid lun Done new
-flushed_where_good commands flushes lba count old lun _ _ (unit_unready told new asked none) e =
-    absurd (handed_on-not_good told e)
-flushed_where_good commands flushes lba count old lun _ _ (range_behind told last new asked some behind) e = cc
+flushed_where_good commands flushes lba count old lun _ _ (unit_unready own_reply new asked none) e =
+    absurd (handed_on-not_good own_reply e)
+flushed_where_good commands flushes lba count old lun _ _ (range_after own_reply last new asked some behind) e = cc
 flushed_where_good commands flushes lba count old lun _ _
-    (unit_flushed told last mid reply new asked some within flush) e =
+    (unit_flushed own_reply last mid reply new asked some within flush) e =
     let done : flush.outcome ≡ Done =
-    done_where_good flush.outcome (ap (λ (r : Reply). r.status) (sym flush.told) ∙ e) in
+    done_where_good flush.outcome (ap (λ (r : Reply). r.status) (sym flush.own_reply) ∙ e) in
     (mid, subst (λ (o : FlushOutcome). flushes mid lun o new) done flush.flushed)

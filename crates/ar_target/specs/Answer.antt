@@ -16,13 +16,13 @@ use Rattle.ar_target.specs.declared.request.TargetReport.TheVariants.{AllOperati
 use Rattle.ar_target.specs.declared.request.VpdPage.{VpdPage}
 use Rattle.ar_target.specs.declared.request.VpdPage.TheVariants.{SupportedPages}
 use Rattle.ar_target.specs.Mode.{mode_data}
-use Rattle.ar_target.specs.Told.{last_block, presence_of, handed_on, from_last_block}
+use Rattle.ar_target.specs.OwnCommands.{last_block, presence_of, handed_on, from_last_block}
 use Rattle.ar_target.specs.Operations.{all_commands, one_command, usage_of}
 use Rattle.ar_target.specs.Vpd.{absent_pages, port_groups, vpd_data}
 
 -- to a CDB that is refused with this sense: a unit that can't be asked for its capacity reports why first
 abbrev pub invalid_answer : Sense → Reply → Reply
-invalid_answer sense told = from_last_block (λ last. check sense) (last_block told) told
+invalid_answer sense own_reply = from_last_block (λ last. check sense) (last_block own_reply) own_reply
 
 -- to INQUIRY of a VPD page at a LUN without a unit: the list of the pages is the only page that is supported there
 -- (SPC-3, INQUIRY command)
@@ -32,18 +32,18 @@ absent_page_answer other len = check invalid_field_in_cdb
 
 -- to INQUIRY of a VPD page, by whether there is a unit
 abbrev pub vpd_answer_by : Option Bool → Attributes → ℕ → VpdPage → ℕ → Reply → Reply
-vpd_answer_by None attributes lun page len told = handed_on told
-vpd_answer_by (Some false) attributes lun page len told = absent_page_answer page len
-vpd_answer_by (Some true) attributes lun page len told = good (take len (vpd_data attributes lun page))
+vpd_answer_by None attributes lun page len own_reply = handed_on own_reply
+vpd_answer_by (Some false) attributes lun page len own_reply = absent_page_answer page len
+vpd_answer_by (Some true) attributes lun page len own_reply = good (take len (vpd_data attributes lun page))
 
 -- to INQUIRY of a VPD page (SPC-3, INQUIRY command)
 abbrev pub vpd_answer : Attributes → ℕ → VpdPage → ℕ → Reply → Reply
-vpd_answer attributes lun page len told = vpd_answer_by (presence_of told) attributes lun page len told
+vpd_answer attributes lun page len own_reply = vpd_answer_by (presence_of own_reply) attributes lun page len own_reply
 
 -- to MODE SENSE (SPC-3, MODE SENSE (6) command)
 abbrev pub mode_answer : Bool → ModeSense → Reply → Reply
-mode_answer write_back sense told =
-    from_last_block (λ last. good (take sense.len (mode_data write_back sense last))) (last_block told) told
+mode_answer write_back sense own_reply =
+    from_last_block (λ last. good (take sense.len (mode_data write_back sense last))) (last_block own_reply) own_reply
 
 -- LOGICAL BLOCKS PER PHYSICAL BLOCK EXPONENT: of the largest power of two that isn't above the array's block, and at
 -- least of 4 KiB (SBC-3, READ CAPACITY (16) command)
@@ -68,8 +68,8 @@ long_capacity_data sectors last =
 
 -- to READ CAPACITY (16)
 abbrev pub long_capacity_answer : ℕ → ℕ → Reply → Reply
-long_capacity_answer sectors len told =
-    from_last_block (λ last. good (take len (long_capacity_data sectors last))) (last_block told) told
+long_capacity_answer sectors len own_reply =
+    from_last_block (λ last. good (take len (long_capacity_data sectors last))) (last_block own_reply) own_reply
 
 -- the data of a report on the target
 abbrev pub report_data : TargetReport → List ℕ
@@ -79,7 +79,7 @@ report_data PortGroups = port_groups
 
 -- to a report on the target, at a unit
 abbrev pub report_answer : TargetReport → ℕ → Reply → Reply
-report_answer report len told = from_last_block (λ last. good (take len (report_data report))) (last_block told) told
+report_answer report len own_reply = from_last_block (λ last. good (take len (report_data report))) (last_block own_reply) own_reply
 
 -- bytes 36 to 73 of standard INQUIRY data: the first of eight VERSION DESCRIPTORS, at 58, are SAM-3 (0060h), iSCSI
 -- (0960h), SPC-3 (0300h) and SBC-3 (04C0h), each with no version claimed (SPC-4, Standard INQUIRY data)
@@ -94,13 +94,13 @@ over_target_port bytes = slice_set (slice_set (slice_set (bytes ++ version_descr
 
 -- to INQUIRY of the standard data, by whether there is a unit
 abbrev pub standard_answer_by : Option Bool → ℕ → Reply → Reply
-standard_answer_by None len told = told
-standard_answer_by (Some false) len told = told
-standard_answer_by (Some true) len told = good (take len (over_target_port told.payload))
+standard_answer_by None len own_reply = own_reply
+standard_answer_by (Some false) len own_reply = own_reply
+standard_answer_by (Some true) len own_reply = good (take len (over_target_port own_reply.payload))
 
 -- to INQUIRY of the standard data: the port's own but for three bytes, and what the device server adds
 abbrev pub standard_answer : ℕ → Reply → Reply
-standard_answer len told = standard_answer_by (presence_of told) len told
+standard_answer len own_reply = standard_answer_by (presence_of own_reply) len own_reply
 
 -- MISCOMPARE, MISCOMPARE DURING VERIFY OPERATION (SPC-4, ASC and ASCQ assignments)
 abbrev pub miscompare : Sense
@@ -115,13 +115,13 @@ verified true sent stored =
 
 -- to VERIFY by the status of the READ that reads its blocks
 abbrev pub verify_answer_by : Status → Bool → List ℕ → Reply → Reply
-verify_answer_by Good compares sent told = verified compares sent told.payload
-verify_answer_by CheckCondition compares sent told = told
-verify_answer_by Busy compares sent told = told
+verify_answer_by Good compares sent own_reply = verified compares sent own_reply.payload
+verify_answer_by CheckCondition compares sent own_reply = own_reply
+verify_answer_by Busy compares sent own_reply = own_reply
 
 -- to VERIFY (SBC-3, VERIFY (10) command)
 unfoldable pub verify_answer : Bool → List ℕ → Reply → Reply
-verify_answer compares sent told = verify_answer_by told.status compares sent told
+verify_answer compares sent own_reply = verify_answer_by own_reply.status compares sent own_reply
 
 -- NO SENSE (SPC-3, Sense key and sense code definitions)
 abbrev pub no_sense : Sense
@@ -129,15 +129,15 @@ no_sense = record { key = 0x00; asc = 0x00; ascq = 0x00 }
 
 -- to REQUEST SENSE, by the status of a TEST UNIT READY: what that reports is returned as data, and so is reported
 abbrev pub sense_answer_by : Status → ℕ → Reply → Reply
-sense_answer_by Good len told = good (take len (fixed_sense no_sense))
-sense_answer_by CheckCondition len told = good (take len (sense_bytes told.sense))
-sense_answer_by Busy len told = told
+sense_answer_by Good len own_reply = good (take len (fixed_sense no_sense))
+sense_answer_by CheckCondition len own_reply = good (take len (sense_bytes own_reply.sense))
+sense_answer_by Busy len own_reply = own_reply
 
 -- to REQUEST SENSE (SPC-3, REQUEST SENSE command)
 unfoldable pub sense_answer : ℕ → Reply → Reply
-sense_answer len told = sense_answer_by told.status len told
+sense_answer len own_reply = sense_answer_by own_reply.status len own_reply
 
 -- to START STOP UNIT and SEND DIAGNOSTIC: that of a TEST UNIT READY (SBC-2, START STOP UNIT command; SPC-4, SEND
 -- DIAGNOSTIC command)
 abbrev pub ready_answer : Reply → Reply
-ready_answer told = told
+ready_answer own_reply = own_reply

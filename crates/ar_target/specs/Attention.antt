@@ -13,7 +13,7 @@ use Rattle.ar_target.specs.declared.attention.Report.{Report}
 use Rattle.ar_target.specs.declared.attention.Report.TheVariants.{Made, Due, NoUnit}
 use Rattle.ar_target.specs.declared.request.Request.{Request}
 use Rattle.ar_target.specs.declared.request.Request.TheVariants as request
-use Rattle.ar_target.specs.Told.{inquiry_cdb, presence_of, handed_on, LooksFor}
+use Rattle.ar_target.specs.OwnCommands.{inquiry_cdb, presence_of, handed_on, LooksFor}
 
 -- UNIT ATTENTION, POWER ON, RESET, OR BUS DEVICE RESET OCCURRED (SPC-3, ASC and ASCQ assignments)
 abbrev pub reset_occurred : Sense
@@ -60,8 +60,8 @@ attention_reply other = check reset_occurred
 pub data KeepsReport {P : Type 0} (commands : Commands P) (old : P) (lun : ℕ) (request : Request) : Reply → P → Type 0
   where
     unstated :
-        (told : Reply) (new : P) → commands old lun inquiry_cdb [] told new → presence_of told ≡ None
-        → KeepsReport commands old lun request (handed_on told) new
+        (own_reply : Reply) (new : P) → commands old lun inquiry_cdb [] own_reply new → presence_of own_reply ≡ None
+        → KeepsReport commands old lun request (handed_on own_reply) new
     unheld :
         (new : P) → LooksFor commands old lun true new → (attention_reply request).payload ≢ []
         → KeepsReport commands old lun request busy new

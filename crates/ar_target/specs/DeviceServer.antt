@@ -12,7 +12,7 @@ use Rattle.ar_target.specs.DiscardPort.{ThinUnits}
 use Rattle.ar_target.specs.FlushPort.{UnitFlushes}
 use Rattle.ar_target.specs.Request.{request_of}
 use Rattle.ar_target.specs.Serving.{MeetsCommand}
-use Rattle.ar_target.specs.Told.{LooksFor, inquiry_cdb, presence_of}
+use Rattle.ar_target.specs.OwnCommands.{LooksFor, inquiry_cdb, presence_of}
 
 -- a device server's state: what it reports of the array and of the host, which units have yet to report that the
 -- session is new or that they were reset, and the port
@@ -60,9 +60,9 @@ reset_outcome None = Done
 -- a reset of the unit at a LUN: from then on it has to report that, if there is one
 pub record ResetsUnit {P : Type 0} (commands : Commands P) (old : ServerState P) (lun : ℕ) (outcome : ResetOutcome)
     (new : ServerState P) : Type 0 where
-  pub told : Reply
-  pub asked : commands old.port lun inquiry_cdb [] told new.port
-  pub outcome_is : outcome ≡ reset_outcome (presence_of told)
+  pub own_reply : Reply
+  pub asked : commands old.port lun inquiry_cdb [] own_reply new.port
+  pub outcome_is : outcome ≡ reset_outcome (presence_of own_reply)
   pub attributes : new.attributes ≡ old.attributes
   pub pending : new.pending ≡ due old.pending lun
 

@@ -10,7 +10,7 @@ use Rattle.ar_target.specs.declared.provisioning.WriteSame.{WriteSame}
 use Rattle.ar_target.specs.DiscardPort.{UnitDiscards}
 use Rattle.ar_target.specs.Provisioning.{are_zeros, descriptor_count, range_at, same_fault, unmap_fault}
 use Rattle.ar_target.specs.Ranges.{DoesRange, discards_at, discard_len, writes_at, write_len}
-use Rattle.ar_target.specs.Told.{capacity_cdb, last_block, handed_on, is_good}
+use Rattle.ar_target.specs.OwnCommands.{capacity_cdb, last_block, handed_on, is_good}
 
 -- a range is discarded, on an array with blocks of `block` sectors
 abbrev pub DiscardsRange : {P : Type 0} → UnitDiscards P → ℕ → ℕ → BlockRange → P → Reply → P → Type 0
@@ -22,8 +22,8 @@ pub data RangesDone {P : Type 0} (discards : UnitDiscards P) (block lun : ℕ) (
   where
     no_range : RangesDone discards block lun list old 0 old
     one_range :
-        (done : ℕ) (told : Reply) (mid new : P) → RangesDone discards block lun list old done mid
-        → DiscardsRange discards block lun (range_at list done) mid told new → is_good told.status ≡ true
+        (done : ℕ) (own_reply : Reply) (mid new : P) → RangesDone discards block lun list old done mid
+        → DiscardsRange discards block lun (range_at list done) mid own_reply new → is_good own_reply.status ≡ true
         → RangesDone discards block lun list old (done + 1) new
 
 -- the ranges of `count` descriptors are discarded, in order, or one wasn't GOOD and its reply is the answer
@@ -46,11 +46,11 @@ RefusesOr None executes old reply new = executes old reply new
 pub data AfterCapacity {P : Type 0} (commands : Commands P) (executes : ℕ → P → Reply → P → Type 0) (old : P)
     (lun : ℕ) : Reply → P → Type 0 where
   not_ready :
-      (told : Reply) (new : P) → commands old lun capacity_cdb [] told new → last_block told ≡ None
-      → AfterCapacity commands executes old lun (handed_on told) new
+      (own_reply : Reply) (new : P) → commands old lun capacity_cdb [] own_reply new → last_block own_reply ≡ None
+      → AfterCapacity commands executes old lun (handed_on own_reply) new
   ready :
-      (told : Reply) (last : ℕ) (mid : P) (reply : Reply) (new : P) → commands old lun capacity_cdb [] told mid
-      → last_block told ≡ Some last → executes last mid reply new
+      (own_reply : Reply) (last : ℕ) (mid : P) (reply : Reply) (new : P) → commands old lun capacity_cdb [] own_reply mid
+      → last_block own_reply ≡ Some last → executes last mid reply new
       → AfterCapacity commands executes old lun reply new
 
 -- UNMAP at a unit whose last block is `last`: unless the list is refused, the range of each descriptor is discarded

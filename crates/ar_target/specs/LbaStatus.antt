@@ -10,7 +10,7 @@ use Rattle.ar_frames.specs.Conversation.{Commands}
 use Rattle.ar_target.specs.declared.discard_port.BlockRun.{BlockRun}
 use Rattle.ar_target.specs.Discarding.{AfterCapacity, RefusesOr}
 use Rattle.ar_target.specs.DiscardPort.{UnitRuns}
-use Rattle.ar_target.specs.Told.{IsReturned}
+use Rattle.ar_target.specs.OwnCommands.{IsReturned}
 
 -- the most of the array's blocks that an answer tells of
 abbrev pub most_blocks : ℕ

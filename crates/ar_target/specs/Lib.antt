@@ -14,6 +14,6 @@ pub mod Ranges
 pub mod Request
 pub mod ResetPort
 pub mod Serving
-pub mod Told
+pub mod OwnCommands
 pub mod Translation
 pub mod Vpd

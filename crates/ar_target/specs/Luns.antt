@@ -6,7 +6,7 @@ use Rattle.std.specs.List.{flat_map}
 use Rattle.ar_scsi.specs.declared.reply.Reply.{Reply}
 use Rattle.ar_scsi.specs.Reply.{good, busy}
 use Rattle.ar_frames.specs.Conversation.{Commands}
-use Rattle.ar_target.specs.Told.{inquiry_cdb, presence_of, handed_on, IsReturned, LooksFor}
+use Rattle.ar_target.specs.OwnCommands.{inquiry_cdb, presence_of, handed_on, IsReturned, LooksFor}
 
 -- the number of LUNs that a host's units may have
 abbrev pub lun_count : ℕ
@@ -41,8 +41,8 @@ pub data FindsLuns {P : Type 0} (commands : Commands P) (old : P) : ℕ → List
 -- INQUIRY at a LUN didn't state whether there is a unit, and its reply is the answer; or memory for the LUN ran out
 pub data StopsLooking {P : Type 0} (commands : Commands P) (old : P) (lun : ℕ) : Reply → P → Type 0 where
   unstated :
-      (told : Reply) (new : P) → commands old lun inquiry_cdb [] told new → presence_of told ≡ None
-      → StopsLooking commands old lun (handed_on told) new
+      (own_reply : Reply) (new : P) → commands old lun inquiry_cdb [] own_reply new → presence_of own_reply ≡ None
+      → StopsLooking commands old lun (handed_on own_reply) new
   unheld : (new : P) → LooksFor commands old lun true new → StopsLooking commands old lun busy new
 
 -- the LUNs of all units were returned, or the search for them has stopped

@@ -7,7 +7,7 @@ use Rattle.ar_scsi.specs.declared.reply.Reply.{Reply}
 use Rattle.ar_scsi.specs.Reply.{good, busy}
 use Rattle.ar_frames.specs.Conversation.{Commands}
 use Rattle.ar_target.specs.DiscardPort.{UnitDiscards}
-use Rattle.ar_target.specs.Told.{is_good}
+use Rattle.ar_target.specs.OwnCommands.{is_good}
 
 -- what is done with a piece: the port before, the address of the first block, the number of blocks, the reply, the port
 -- after
@@ -20,8 +20,8 @@ pub data PiecesDone {P : Type 0} (does : DoesPiece P) (size : ℕ → ℕ → �
   where
     no_piece : PiecesDone does size lba count old 0 old
     one_piece :
-        (done : ℕ) (told : Reply) (mid new : P) → PiecesDone does size lba count old done mid
-        → does mid (lba + done) (size (lba + done) (count - done)) told new → is_good told.status ≡ true
+        (done : ℕ) (own_reply : Reply) (mid new : P) → PiecesDone does size lba count old done mid
+        → does mid (lba + done) (size (lba + done) (count - done)) own_reply new → is_good own_reply.status ≡ true
         → PiecesDone does size lba count old (done + size (lba + done) (count - done)) new
 
 -- the whole range is done, or a piece wasn't GOOD and its reply is the answer
@@ -51,7 +51,8 @@ abbrev pub repeated : ℕ → List ℕ → List ℕ
 repeated zero block = []
 repeated (suc count) block = repeated count block ++ block
 
--- a piece is written, each block the same, or there is no memory for its data, and nothing is done
+-- a piece is written, each block the same, or there is no memory for its data, and it gets BUSY from a port that stays
+-- as it is
 abbrev pub writes_at : {P : Type 0} → Commands P → ℕ → List ℕ → DoesPiece P
 writes_at commands lun block old lba count reply new =
     commands old lun (write_cdb lba count) (repeated count block) reply new ⊎ ((reply ≡ busy) × (new ≡ old))

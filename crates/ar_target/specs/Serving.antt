@@ -17,12 +17,12 @@ use Rattle.ar_target.specs.Discarding.{Unmaps, WritesSame}
 use Rattle.ar_target.specs.FlushPort.{UnitFlushes}
 use Rattle.ar_target.specs.Luns.{ReportsLuns, lun_list}
 use Rattle.ar_target.specs.Request.{request_of}
-use Rattle.ar_target.specs.Told.{ready_cdb, inquiry_cdb, capacity_cdb, last_block, handed_on, IsReturned, ReturnsBy}
+use Rattle.ar_target.specs.OwnCommands.{ready_cdb, inquiry_cdb, capacity_cdb, last_block, handed_on, IsReturned, ReturnsBy}
 
 -- `count` blocks from `lba` on, or all from `lba` on if `count` is 0, aren't on a unit whose last block is `last`
 -- (SBC-2, SYNCHRONIZE CACHE (10) command)
-abbrev pub is_behind : ℕ → ℕ → ℕ → Bool
-is_behind last lba count = nat_lt last (lba + (count - 1))
+abbrev pub is_after : ℕ → ℕ → ℕ → Bool
+is_after last lba count = nat_lt last (lba + (count - 1))
 
 -- the reply by the outcome of a flush
 abbrev pub flush_reply : FlushOutcome → Reply
@@ -35,31 +35,31 @@ pub record FlushesAtPort {P : Type 0} (flushes : UnitFlushes P) (old : P) (lun :
   where
     pub outcome : FlushOutcome
     pub flushed : flushes old lun outcome new
-    pub told : reply ≡ flush_reply outcome
+    pub own_reply : reply ≡ flush_reply outcome
 
 -- SYNCHRONIZE CACHE: READ CAPACITY (10) is asked for first. Where it doesn't state the last block, its reply is the
 -- answer; a range that isn't on the unit is refused; otherwise the whole unit is flushed.
 pub data Synchronizes {P : Type 0} (commands : Commands P) (flushes : UnitFlushes P) (lba count : ℕ) (old : P)
     (lun : ℕ) : Reply → P → Type 0 where
   unit_unready :
-      (told : Reply) (new : P) → commands old lun capacity_cdb [] told new → last_block told ≡ None
-      → Synchronizes commands flushes lba count old lun (handed_on told) new
-  range_behind :
-      (told : Reply) (last : ℕ) (new : P) → commands old lun capacity_cdb [] told new → last_block told ≡ Some last
-      → IsTrue (is_behind last lba count)
+      (own_reply : Reply) (new : P) → commands old lun capacity_cdb [] own_reply new → last_block own_reply ≡ None
+      → Synchronizes commands flushes lba count old lun (handed_on own_reply) new
+  range_after :
+      (own_reply : Reply) (last : ℕ) (new : P) → commands old lun capacity_cdb [] own_reply new → last_block own_reply ≡ Some last
+      → IsTrue (is_after last lba count)
       → Synchronizes commands flushes lba count old lun (check logical_block_address_out_of_range) new
   unit_flushed :
-      (told : Reply) (last : ℕ) (mid : P) (reply : Reply) (new : P) → commands old lun capacity_cdb [] told mid
-      → last_block told ≡ Some last → is_behind last lba count ≡ false → FlushesAtPort flushes mid lun reply new
+      (own_reply : Reply) (last : ℕ) (mid : P) (reply : Reply) (new : P) → commands old lun capacity_cdb [] own_reply mid
+      → last_block own_reply ≡ Some last → is_after last lba count ≡ false → FlushesAtPort flushes mid lun reply new
       → Synchronizes commands flushes lba count old lun reply new
 
 -- an INQUIRY of the standard data was given to the port as it came, and the reply is what is made of what the port
 -- returned
 pub record ReturnsStandard {P : Type 0} (commands : Commands P) (len : ℕ) (cdb payload : List ℕ) (old : P)
     (lun : ℕ) (reply : Reply) (new : P) : Type 0 where
-  pub told : Reply
-  pub given : commands old lun cdb payload told new
-  pub returned : IsReturned (standard_answer len told) reply
+  pub own_reply : Reply
+  pub given : commands old lun cdb payload own_reply new
+  pub returned : IsReturned (standard_answer len own_reply) reply
 
 -- What is done with each request at the port, and its reply.
 abbrev pub MeetsRequest : {P : Type 0} → Commands P → UnitFlushes P → ThinUnits P → Attributes → Request → P

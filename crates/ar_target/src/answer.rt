@@ -4,14 +4,14 @@ ghost use Rattle.ar_scsi.specs.Reply.{good, check};
 ghost use Rattle.ar_frames.specs.Frame.{IsReply, most_data};
 ghost use Rattle.ar_target.specs.Answer as answer;
 ghost use Rattle.ar_target.specs.Mode as mode;
-ghost use Rattle.ar_target.specs.Told.{IsReturned};
+ghost use Rattle.ar_target.specs.OwnCommands.{IsReturned};
 ghost use Rattle.ar_target.specs.Vpd as vpd;
 
 use crate::attributes::Attributes;
 use crate::mode::mode_data;
 use crate::operations::{all_commands, one_command};
+use crate::own_commands::{cut_reply, handed_on, last_block, presence};
 use crate::request::{ModeSense, TargetReport, VpdPage};
-use crate::told::{cut_reply, handed_on, last_block, presence};
 use crate::vpd::{
     LOGICAL_BLOCK_PROVISIONING, PORT_GROUPS, absent_pages, block_device_characteristics,
     block_limits, device_identification, supported_pages, unit_serial_number,
@@ -28,14 +28,14 @@ const NO_SENSE: Sense = Sense {
 };
 
 /// The answer to a CDB that a unit refuses with `sense`.
-pub(crate) fn refuse(sense: Sense, told: Reply) -> Reply
-    requires { IsReply told }
-    ensures answer { result ≡ answer.invalid_answer sense told }
+pub(crate) fn refuse(sense: Sense, own_reply: Reply) -> Reply
+    requires { IsReply own_reply }
+    ensures answer { result ≡ answer.invalid_answer sense own_reply }
     ensures reply { IsReply result }
 {
-    match last_block(&told) {
+    match last_block(&own_reply) {
         Some(_) => Reply::check(sense),
-        None => handed_on(told),
+        None => handed_on(own_reply),
     }
 }
 
@@ -46,16 +46,16 @@ pub(crate) fn answer_vpd(
     lun: u8,
     page: VpdPage,
     len: u16,
-    told: Reply,
+    own_reply: Reply,
 ) -> Reply
-    requires { IsReply told }
-    ensures answer { IsReturned (answer.vpd_answer attributes.now lun page len told) result }
+    requires { IsReply own_reply }
+    ensures answer { IsReturned (answer.vpd_answer attributes.now lun page len own_reply) result }
     ensures reply { IsReply result }
 {
-    match presence(&told) {
+    match presence(&own_reply) {
         Some(true) => page_reply(alloc, attributes, lun, page, usize::from(len)),
         Some(false) => absent_page_reply(alloc, page, usize::from(len)),
-        None => handed_on(told),
+        None => handed_on(own_reply),
     }
 }
 
@@ -95,14 +95,19 @@ fn page_reply(alloc: Global, attributes: &Attributes, lun: u8, page: VpdPage, le
 }
 
 /// The answer to MODE SENSE, on an array that has a cache if `write_back`.
-pub(crate) fn answer_mode(alloc: Global, write_back: bool, sense: ModeSense, told: Reply) -> Reply
-    requires { IsReply told }
-    ensures answer { IsReturned (answer.mode_answer write_back sense told) result }
+pub(crate) fn answer_mode(
+    alloc: Global,
+    write_back: bool,
+    sense: ModeSense,
+    own_reply: Reply,
+) -> Reply
+    requires { IsReply own_reply }
+    ensures answer { IsReturned (answer.mode_answer write_back sense own_reply) result }
     ensures reply { IsReply result }
 {
-    match last_block(&told) {
+    match last_block(&own_reply) {
         Some(last) => mode_reply(alloc, write_back, sense, last),
-        None => handed_on(told),
+        None => handed_on(own_reply),
     }
 }
 
@@ -121,17 +126,22 @@ fn mode_reply(alloc: Global, write_back: bool, sense: ModeSense, last: u32) -> R
 }
 
 /// The answer to READ CAPACITY (16), on an array with blocks of `block_sectors` sectors.
-pub(crate) fn answer_capacity(alloc: Global, block_sectors: u16, len: u32, told: Reply) -> Reply
-    requires { IsReply told }
-    ensures answer { IsReturned (answer.long_capacity_answer block_sectors len told) result }
+pub(crate) fn answer_capacity(
+    alloc: Global,
+    block_sectors: u16,
+    len: u32,
+    own_reply: Reply,
+) -> Reply
+    requires { IsReply own_reply }
+    ensures answer { IsReturned (answer.long_capacity_answer block_sectors len own_reply) result }
     ensures reply { IsReply result }
 {
-    match last_block(&told) {
+    match last_block(&own_reply) {
         Some(last) => {
             let bytes = long_capacity_data(block_sectors, last);
             cut_reply(alloc, &bytes, len as usize)
         }
-        None => handed_on(told),
+        None => handed_on(own_reply),
     }
 }
 
@@ -174,14 +184,19 @@ fn block_exponent(sectors: u16) -> u8
 }
 
 /// The answer to a report on the target, cut to `len` bytes.
-pub(crate) fn answer_report(alloc: Global, report: TargetReport, len: u32, told: Reply) -> Reply
-    requires { IsReply told }
-    ensures answer { IsReturned (answer.report_answer report len told) result }
+pub(crate) fn answer_report(
+    alloc: Global,
+    report: TargetReport,
+    len: u32,
+    own_reply: Reply,
+) -> Reply
+    requires { IsReply own_reply }
+    ensures answer { IsReturned (answer.report_answer report len own_reply) result }
     ensures reply { IsReply result }
 {
-    match last_block(&told) {
+    match last_block(&own_reply) {
         Some(_) => report_reply(alloc, report, len as usize),
-        None => handed_on(told),
+        None => handed_on(own_reply),
     }
 }
 
@@ -207,27 +222,27 @@ const VERSION_DESCRIPTORS: [u8; 38] = [
 ];
 
 /// The answer to INQUIRY of the standard data: the port's own, with target port groups, queues and versions.
-pub(crate) fn answer_standard(alloc: Global, len: u16, told: Reply) -> Reply
-    requires { IsReply told }
-    ensures answer { IsReturned (answer.standard_answer len told) result }
+pub(crate) fn answer_standard(alloc: Global, len: u16, own_reply: Reply) -> Reply
+    requires { IsReply own_reply }
+    ensures answer { IsReturned (answer.standard_answer len own_reply) result }
     ensures reply { IsReply result }
 {
-    match presence(&told) {
-        Some(true) => standard_reply(alloc, len, told.payload.as_slice()),
-        Some(false) | None => told,
+    match presence(&own_reply) {
+        Some(true) => standard_reply(alloc, len, own_reply.payload.as_slice()),
+        Some(false) | None => own_reply,
     }
 }
 
 // GOOD with standard INQUIRY data of a unit at a target port, or BUSY if out of memory. Without bytes to return nothing
 // is allocated.
-fn standard_reply(alloc: Global, len: u16, told: &[u8]) -> Reply
-    ensures answer { IsReturned (good (take len (answer.over_target_port told.now))) result }
+fn standard_reply(alloc: Global, len: u16, own_reply: &[u8]) -> Reply
+    ensures answer { IsReturned (good (take len (answer.over_target_port own_reply.now))) result }
     ensures reply { IsReply result }
 {
     if len == 0 {
         return Reply::good(Bytes::new());
     }
-    match over_target_port(alloc, told) {
+    match over_target_port(alloc, own_reply) {
         Ok(bytes) => cut_reply(alloc, &bytes, usize::from(len)),
         Err(_) => Reply::busy(),
     }
@@ -235,11 +250,11 @@ fn standard_reply(alloc: Global, len: u16, told: &[u8]) -> Reply
 
 // Standard INQUIRY data of a unit at a target port. Fails if out of memory.
 #[tactic(auto, unfolding(crate::specs::Answer::over_target_port))]
-fn over_target_port(alloc: Global, told: &[u8]) -> Result<Vec<u8>, AllocError>
-    ensures data { IfOk result (λ bytes. bytes.items ≡ answer.over_target_port told.now) }
+fn over_target_port(alloc: Global, own_reply: &[u8]) -> Result<Vec<u8>, AllocError>
+    ensures data { IfOk result (λ bytes. bytes.items ≡ answer.over_target_port own_reply.now) }
 {
     let mut bytes = Vec::new(alloc);
-    bytes.extend_from_slice(told)?;
+    bytes.extend_from_slice(own_reply)?;
     bytes.extend_from_slice(&VERSION_DESCRIPTORS)?;
     bytes[4] = 0x45;
     bytes[5] = 0x10;
@@ -256,14 +271,14 @@ pub const MISCOMPARE: Sense = Sense {
 
 /// The answer to VERIFY by what the READ of its blocks returned; it compares them with the data that came, or not.
 #[tactic(auto, unfolding(crate::specs::Answer::verify_answer))]
-pub(crate) fn answer_verify(compares: bool, sent: &[u8], told: Reply) -> Reply
-    requires { IsReply told }
-    ensures answer { result ≡ answer.verify_answer compares sent.now told }
+pub(crate) fn answer_verify(compares: bool, sent: &[u8], own_reply: Reply) -> Reply
+    requires { IsReply own_reply }
+    ensures answer { result ≡ answer.verify_answer compares sent.now own_reply }
     ensures reply { IsReply result }
 {
-    match told.status {
-        Status::Good => verified(compares, sent, told.payload.as_slice()),
-        Status::CheckCondition | Status::Busy => told,
+    match own_reply.status {
+        Status::Good => verified(compares, sent, own_reply.payload.as_slice()),
+        Status::CheckCondition | Status::Busy => own_reply,
     }
 }
 
@@ -287,17 +302,17 @@ fn verified(compares: bool, sent: &[u8], stored: &[u8]) -> Reply
 
 /// The answer to REQUEST SENSE.
 #[tactic(auto, unfolding(crate::specs::Answer::sense_answer))]
-pub(crate) fn answer_sense(alloc: Global, len: u8, told: Reply) -> Reply
-    requires { IsReply told }
-    ensures answer { IsReturned (answer.sense_answer len told) result }
+pub(crate) fn answer_sense(alloc: Global, len: u8, own_reply: Reply) -> Reply
+    requires { IsReply own_reply }
+    ensures answer { IsReturned (answer.sense_answer len own_reply) result }
     ensures reply { IsReply result }
 {
-    match told.status {
+    match own_reply.status {
         Status::Good => cut_reply(alloc, &sense18(NO_SENSE), usize::from(len)),
-        Status::CheckCondition => match &told.sense {
+        Status::CheckCondition => match &own_reply.sense {
             Some(sense) => cut_reply(alloc, sense, usize::from(len)),
             None => cut_reply(alloc, &[], usize::from(len)),
         },
-        Status::Busy => told,
+        Status::Busy => own_reply,
     }
 }

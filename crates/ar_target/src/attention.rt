@@ -4,8 +4,9 @@ ghost use Rattle.std.specs.Prelude.{◌≡◌, ◌<◌, false, true, slice_set};
 ghost use Rattle.ar_frames.specs.Frame.{IsReply};
 ghost use Rattle.ar_target.specs.Attention as attention;
 
+use crate::own_commands::{INQUIRY, ask, cut_reply, handed_on, presence};
 use crate::request::Request;
-use crate::told::{INQUIRY, ask, cut_reply, handed_on, presence};
+use ar_disks::MAX_LUN;
 use ar_frames::Port;
 use ar_scsi::{Reply, Sense, Status, sense18};
 use std::alloc::Global;
@@ -64,7 +65,7 @@ fn reports(request: Request, cdb: &[u8; 16]) -> bool
 pub(crate) fn make_due(pending: &mut [bool; 8], lun: u8)
     ensures { pending.new ≡ attention.due pending.old lun }
 {
-    if lun < 8 {
+    if lun <= MAX_LUN {
         pending[usize::from(lun)] = true;
     }
 }
@@ -80,7 +81,7 @@ pub(crate) fn make_all_due(pending: &mut [bool; 8])
 pub(crate) fn settle(pending: &mut [bool; 8], lun: u8)
     ensures { pending.new ≡ attention.settled pending.old lun }
 {
-    if lun < 8 {
+    if lun <= MAX_LUN {
         pending[usize::from(lun)] = false;
     }
 }
@@ -93,11 +94,11 @@ pub(crate) fn make_report<P: Port>(alloc: Global, port: &mut P, lun: u8, request
     ensures reply { attention.HasReply result }
     ensures stays { P.has_login port.new ≡ true }
 {
-    let told = ask(port, lun, &INQUIRY);
-    match presence(&told) {
+    let own_reply = ask(port, lun, &INQUIRY);
+    match presence(&own_reply) {
         Some(true) => report_of_unit(alloc, request),
         Some(false) => Report::NoUnit,
-        None => Report::Due(handed_on(told)),
+        None => Report::Due(handed_on(own_reply)),
     }
 }
 

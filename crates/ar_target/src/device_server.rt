@@ -5,10 +5,10 @@ ghost use Rattle.ar_target.specs.DeviceServer.{reset_outcome};
 use crate::attention::{Report, make_all_due, make_due, make_report, owes_report, settle};
 use crate::attributes::Attributes;
 use crate::discard_port::DiscardPort;
+use crate::own_commands::{INQUIRY, ask, presence};
 use crate::request::request_of;
 use crate::reset_port::{ResetOutcome, ResetPort};
 use crate::serve::serve;
-use crate::told::{INQUIRY, ask, presence};
 use ar_frames::{Login, Port};
 use ar_scsi::Reply;
 use bytes::Bytes;
@@ -63,6 +63,8 @@ impl<P: DiscardPort> Port for DeviceServer<P> {
         (record { attributes = old.attributes; pending = old.pending; port = old.port }) lun cdb payload reply
         (record { attributes = new.attributes; pending = new.pending; port = new.port }) };
 
+    ghost refuses = { λ old cdb new. P.refuses old.port cdb new.port };
+
     fn login(&mut self, host: u8) -> Login {
         self.attributes.host = host;
         self.pending = [true; 8];
@@ -91,6 +93,10 @@ impl<P: DiscardPort> Port for DeviceServer<P> {
             cdb,
             payload,
         )
+    }
+
+    fn refuse(&mut self, cdb: &[u8; 16]) -> Reply {
+        self.port.refuse(cdb)
     }
 }
 

@@ -6,12 +6,13 @@ ghost use Rattle.ar_target.specs.Provisioning as table;
 ghost use Rattle.ar_target.specs.Ranges.{is_past};
 
 use crate::discard_port::DiscardPort;
+use crate::own_commands::{CAPACITY, ask, handed_on, is_good, last_block};
 use crate::provisioning::{
     BlockRange, INVALID_FIELD_IN_PARAMETER_LIST, MOST_BLOCKS, MOST_DESCRIPTORS,
     PARAMETER_LIST_LENGTH_ERROR, WriteSame, descriptor_count, range_at,
 };
 use crate::ranges::{discard_range, write_range};
-use crate::told::{CAPACITY, ask, handed_on, is_good, last_block};
+use ar_disks::SECTOR_LEN;
 use ar_scsi::{Reply, Sense};
 use bytes::Bytes;
 use std::alloc::Global;
@@ -29,10 +30,10 @@ pub(crate) fn unmap<P: DiscardPort>(
     ensures reply { IsReply result }
     ensures stays { P.has_login port.new ≡ true }
 {
-    let told = ask(port, lun, &CAPACITY);
-    match last_block(&told) {
+    let own_reply = ask(port, lun, &CAPACITY);
+    match last_block(&own_reply) {
         Some(last) => unmap_unit(port, block_sectors, len, lun, list, last),
-        None => handed_on(told),
+        None => handed_on(own_reply),
     }
 }
 
@@ -162,10 +163,10 @@ pub(crate) fn write_same<P: DiscardPort>(
     ensures reply { IsReply result }
     ensures stays { P.has_login port.new ≡ true }
 {
-    let told = ask(port, lun, &CAPACITY);
-    match last_block(&told) {
+    let own_reply = ask(port, lun, &CAPACITY);
+    match last_block(&own_reply) {
         Some(last) => fill_unit(alloc, port, block_sectors, same, lun, sent, last),
-        None => handed_on(told),
+        None => handed_on(own_reply),
     }
 }
 
@@ -212,7 +213,7 @@ fn fill<P: DiscardPort>(
     } else if same.has_block {
         write_range(alloc, port, lun, same.lba, same.count, sent)
     } else {
-        write_range(alloc, port, lun, same.lba, same.count, &[0; 512])
+        write_range(alloc, port, lun, same.lba, same.count, &[0; SECTOR_LEN])
     }
 }
 
@@ -225,7 +226,7 @@ fn same_fault(last: u32, same: WriteSame, sent: usize) -> Option<Sense>
     if is_past(last, same.lba, same.count) {
         return Some(Sense::LOGICAL_BLOCK_ADDRESS_OUT_OF_RANGE);
     }
-    if same.has_block && sent != 512 {
+    if same.has_block && sent != SECTOR_LEN {
         return Some(Sense::DATA_PHASE_ERROR);
     }
     None

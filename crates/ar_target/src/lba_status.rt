@@ -5,7 +5,7 @@ ghost use Rattle.ar_frames.specs.Frame.{IsReply};
 ghost use Rattle.ar_target.specs.LbaStatus as spec;
 
 use crate::discard_port::{BlockRun, DiscardPort};
-use crate::told::{CAPACITY, ask, cut_reply, handed_on, last_block};
+use crate::own_commands::{CAPACITY, ask, cut_reply, handed_on, last_block};
 use ar_scsi::{Reply, Sense};
 use byteorder::{BigEndian, ByteOrder};
 use std::alloc::Global;
@@ -27,10 +27,10 @@ pub(crate) fn lba_status<P: DiscardPort>(
     ensures reply { IsReply result }
     ensures stays { P.has_login port.new ≡ true }
 {
-    let told = ask(port, lun, &CAPACITY);
-    match last_block(&told) {
+    let own_reply = ask(port, lun, &CAPACITY);
+    match last_block(&own_reply) {
         Some(last) => status_of_unit(alloc, port, block_sectors, lba, len, lun, last),
-        None => handed_on(told),
+        None => handed_on(own_reply),
     }
 }
 

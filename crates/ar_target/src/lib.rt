@@ -17,12 +17,12 @@ mod lba_status;
 mod luns;
 mod mode;
 mod operations;
+mod own_commands;
 mod provisioning;
 mod ranges;
 mod request;
 mod reset_port;
 mod serve;
-mod told;
 mod translation;
 mod vpd;
 

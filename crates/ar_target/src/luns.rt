@@ -4,15 +4,13 @@ ghost use Rattle.std.specs.Prelude.{take, vec_len};
 ghost use Rattle.ar_scsi.specs.Reply.{good};
 ghost use Rattle.ar_frames.specs.Frame.{IsReply};
 ghost use Rattle.ar_target.specs.Luns as luns;
-ghost use Rattle.ar_target.specs.Told.{IsReturned};
+ghost use Rattle.ar_target.specs.OwnCommands.{IsReturned};
 
-use crate::told::{INQUIRY, ask, cut_reply, handed_on, presence};
+use crate::own_commands::{INQUIRY, ask, cut_reply, handed_on, presence};
+use ar_disks::MAX_LUN;
 use ar_frames::Port;
 use ar_scsi::Reply;
 use std::alloc::{AllocError, Global};
-
-// The LUNs of a host's units are 0 to 7.
-const LUN_COUNT: u8 = 8;
 
 /// Asks the port for the host's units, and returns their LUNs, cut to `len` bytes.
 pub(crate) fn report_luns<P: Port>(alloc: Global, port: &mut P, len: u32) -> Reply
@@ -23,7 +21,7 @@ pub(crate) fn report_luns<P: Port>(alloc: Global, port: &mut P, len: u32) -> Rep
     ensures stays { P.has_login port.new ≡ true }
 {
     let mut found = Vec::new(alloc);
-    for lun in 0..LUN_COUNT {
+    for lun in 0..MAX_LUN + 1 {
         if let Some(reply) = look_for(port, lun, &mut found) {
             return reply;
         }
@@ -39,8 +37,8 @@ fn look_for<P: Port>(port: &mut P, lun: u8, found: &mut Vec<u8>) -> Option<Reply
     ensures reply { IfSome result IsReply }
     ensures stays { P.has_login port.new ≡ true }
 {
-    let told = ask(port, lun, &INQUIRY);
-    match presence(&told) {
+    let own_reply = ask(port, lun, &INQUIRY);
+    match presence(&own_reply) {
         Some(true) => {
             if hold(found, lun) {
                 None
@@ -49,7 +47,7 @@ fn look_for<P: Port>(port: &mut P, lun: u8, found: &mut Vec<u8>) -> Option<Reply
             }
         }
         Some(false) => None,
-        None => Some(handed_on(told)),
+        None => Some(handed_on(own_reply)),
     }
 }
 

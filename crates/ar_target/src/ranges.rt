@@ -4,7 +4,7 @@ ghost use Rattle.ar_frames.specs.Frame.{IsReply};
 ghost use Rattle.ar_target.specs.Ranges as spec;
 
 use crate::discard_port::DiscardPort;
-use crate::told::is_good;
+use crate::own_commands::is_good;
 use ar_frames::Port;
 use ar_scsi::Reply;
 use byteorder::{BigEndian, ByteOrder};
@@ -88,7 +88,8 @@ pub(crate) fn write_range<P: Port>(
     Reply::good(Bytes::new())
 }
 
-// Writes a block to each of `count` blocks from `lba` on, by one WRITE. BUSY if out of memory for its data.
+// Writes a block to each of `count` blocks from `lba` on, by one WRITE. The port refuses it if out of memory for its
+// data.
 fn write_piece<P: Port>(
     alloc: Global,
     port: &mut P,
@@ -102,9 +103,10 @@ fn write_piece<P: Port>(
     ensures reply { IsReply result }
     ensures stays { P.has_login port.new ≡ true }
 {
+    let cdb = write_cdb(lba, count);
     match repeated(alloc, count, block) {
-        Ok(payload) => port.command(lun, &write_cdb(lba, count), payload),
-        Err(_) => Reply::busy(),
+        Ok(payload) => port.command(lun, &cdb, payload),
+        Err(_) => port.refuse(&cdb),
     }
 }
 

@@ -14,8 +14,8 @@ use crate::discarding::{unmap, write_same};
 use crate::flush_port::{FlushOutcome, FlushPort};
 use crate::lba_status::lba_status;
 use crate::luns::{list_reply, report_luns};
+use crate::own_commands::{CAPACITY, INQUIRY, READY, ask, handed_on, last_block};
 use crate::request::Request;
-use crate::told::{CAPACITY, INQUIRY, READY, ask, handed_on, last_block};
 use ar_scsi::{Reply, Sense};
 use bytes::Bytes;
 use std::alloc::Global;
@@ -92,16 +92,16 @@ fn synchronize<P: FlushPort>(port: &mut P, lun: u8, lba: u64, count: u32) -> Rep
     ensures reply { IsReply result }
     ensures stays { P.has_login port.new ≡ true }
 {
-    let told = ask(port, lun, &CAPACITY);
-    match last_block(&told) {
+    let own_reply = ask(port, lun, &CAPACITY);
+    match last_block(&own_reply) {
         Some(last) => {
-            if is_behind(last, lba, count) {
+            if is_after(last, lba, count) {
                 Reply::check(Sense::LOGICAL_BLOCK_ADDRESS_OUT_OF_RANGE)
             } else {
                 flush_unit(port, lun)
             }
         }
-        None => handed_on(told),
+        None => handed_on(own_reply),
     }
 }
 
@@ -117,8 +117,8 @@ fn flush_unit<P: FlushPort>(port: &mut P, lun: u8) -> Reply
 
 // Whether `count` blocks from `lba` on, or all from there on if it is 0, aren't on a unit whose last block is `last`.
 // The sum, in 128 bits, doesn't overflow.
-fn is_behind(last: u32, lba: u64, count: u32) -> bool
-    ensures { result ≡ serving.is_behind last lba count }
+fn is_after(last: u32, lba: u64, count: u32) -> bool
+    ensures { result ≡ serving.is_after last lba count }
 {
     u128::from(last) < u128::from(lba) + u128::from(count.saturating_sub(1))
 }

@@ -6,6 +6,7 @@ ghost use Rattle.ar_target.specs.Request.{SuitsRequest, request_of};
 ghost use Rattle.ar_target.specs.Translation as table;
 
 use crate::request::{Request, request_of};
+use ar_disks::SECTOR_LEN;
 use ar_scsi::{Command, Sense, decode};
 
 // The low bits of byte 1 with FUA alone.
@@ -166,7 +167,7 @@ pub fn data_out_len(cdb: &[u8; 16]) -> u32
             compares: true,
         } => returned_by(&read),
         Request::Unmap { len } => u32::from(len),
-        Request::WriteSame(same) if same.has_block => 512,
+        Request::WriteSame(same) if same.has_block => SECTOR_LEN as u32,
         _ => 0,
     }
 }
@@ -177,7 +178,7 @@ fn taken_by(cdb: &[u8; 16]) -> u32
     ensures short { result < 2 ^ 25 }
 {
     match decode(cdb) {
-        Ok(Command::Write { count, .. }) => 512 * u32::from(count),
+        Ok(Command::Write { count, .. }) => SECTOR_LEN as u32 * u32::from(count),
         _ => 0,
     }
 }
@@ -188,7 +189,7 @@ fn returned_by(cdb: &[u8; 16]) -> u32
     ensures short { result < 2 ^ 25 }
 {
     match decode(cdb) {
-        Ok(Command::Read { count, .. }) => 512 * u32::from(count),
+        Ok(Command::Read { count, .. }) => SECTOR_LEN as u32 * u32::from(count),
         _ => 0,
     }
 }

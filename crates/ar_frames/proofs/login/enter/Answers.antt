@@ -1,10 +1,10 @@
 use Rattle.std.proofs.Common.{take, length-take-le, arith}
-use Rattle.ar_frames.proofs.Entering.{told, session_cut, session_read}
+use Rattle.ar_frames.proofs.Entering.{reported_as, session_cut, session_read}
 use Rattle.ar_frames.proofs.login.enter.Goals as goal
 
 pub returns-in-Full-clause-enters : goal.returns-in-Full-clause-enters
 returns-in-Full-clause-enters g c =
-    told _ _ _ _ _ _ _ _ _ c.admit.result c.tell.result c.in-Full.ensures.read c.admit.ensures.opening
+    reported_as _ _ _ _ _ _ _ _ _ c.admit.result c.tell.result c.in-Full.ensures.read c.admit.ensures.opening
     c.admit.ensures.named c.tell.ensures
 
 pub returns-in-Ended-clause-enters : goal.returns-in-Ended-clause-enters

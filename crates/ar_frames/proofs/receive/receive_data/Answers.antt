@@ -29,6 +29,7 @@ returns-in-Lost g c = λ count count_len count_is.
     record {
       request = request;
       tag_is = refl;
+      cdb_is = refl;
       some = omega (arith, c.in-Lost.ensures.0, came.len);
       reads = record {
         body = came.bytes;

@@ -7,7 +7,7 @@ abbrev pub invariant-loop-frames : goal.invariant-loop-frames
 invariant-loop-frames g l = record {
   served : Served g.P.Port.commands (g.R.Source.state l.initial.reader) (g.R.Source.state l.reader)
       (g.W.Sink.state l.initial.writer) (g.W.Sink.state l.writer) l.initial.port l.port l.frames;
-  stepped : HasStepped g.P.Port.commands g.O.Observer.announces g.O.Observer.reports l.host l.frames
+  stepped : HasStepped g.P.Port.commands g.P.Port.refuses g.O.Observer.announces g.O.Observer.reports l.host l.frames
       (record {
         source = g.R.Source.state l.initial.reader;
         sink = g.W.Sink.state l.initial.writer;

@@ -15,29 +15,29 @@ returns-in-Pdu-clause-next g c =
     c.in-Pdu.header c.receive_pdu.new.buffer) room c.in-Pdu.ensures in
     let answers =
     subst (λ (n : ℕ). AnswersPdu
-    (ArrivalTurn g.P.Port.commands g.P.ResetPort.resets c.args.address.now c.args.work.now.limits)
+    (ArrivalTurn g.P.Port.commands g.P.Port.refuses g.P.ResetPort.resets c.args.address.now c.args.work.now.limits)
     (MayUse g.P.Port.commands g.P.ResetPort.resets) c.in-Pdu.header (take n c.receive_pdu.new.buffer)
     (g.W.Sink.state c.args.writer.now)
     (record {
-      spot = record { flow = c.args.work.now.flow; bytes = c.args.work.now.collected.items };
+      session = record { flow = c.args.work.now.flow; bytes = c.args.work.now.collected.items };
       waiting = c.args.waiting.now.items;
     })
     c.args.port.now c.answer_arrival-answered.result (g.W.Sink.state c.answer_arrival-answered.new.writer)
     (record {
-      spot = record {
+      session = record {
         flow = c.answer_arrival-answered.new.work.flow;
         bytes = c.answer_arrival-answered.new.work.collected.items;
       };
       waiting = c.answer_arrival-answered.new.waiting.items;
     })
     c.answer_arrival-answered.new.port) c.segment_len-len.ensures c.answer_arrival-answered.ensures.answers in
-    subst (λ (r : PduResult). NextIsServed g.P.Port.commands g.P.ResetPort.resets c.args.address.now
+    subst (λ (r : PduResult). NextIsServed g.P.Port.commands g.P.Port.refuses g.P.ResetPort.resets c.args.address.now
     c.args.work.now.limits
     (record {
       source = g.R.Source.state c.args.reader.now;
       sink = g.W.Sink.state c.args.writer.now;
       spot = record {
-        spot = record { flow = c.args.work.now.flow; bytes = c.args.work.now.collected.items };
+        session = record { flow = c.args.work.now.flow; bytes = c.args.work.now.collected.items };
         waiting = c.args.waiting.now.items;
       };
       port = c.args.port.now;
@@ -47,7 +47,7 @@ returns-in-Pdu-clause-next g c =
       source = g.R.Source.state c.receive_pdu.new.reader;
       sink = g.W.Sink.state c.answer_arrival-answered.new.writer;
       spot = record {
-        spot = record {
+        session = record {
           flow = c.answer_arrival-answered.new.work.flow;
           bytes = c.answer_arrival-answered.new.work.collected.items;
         };
@@ -55,10 +55,11 @@ returns-in-Pdu-clause-next g c =
       };
       port = c.answer_arrival-answered.new.port;
     })) (sym c.result_of_answer.ensures)
-    (arrival_served g.P.Port.commands g.P.ResetPort.resets c.args.address.now c.args.work.now.limits _ _
-    c.answer_arrival-answered.result
+    (arrival_served g.P.Port.commands g.P.Port.refuses g.P.ResetPort.resets c.args.address.now c.args.work.now.limits _
+    _ c.answer_arrival-answered.result
     c.requires.none_next
-    (handled (ArrivalTurn g.P.Port.commands g.P.ResetPort.resets c.args.address.now c.args.work.now.limits)
+    (handled (ArrivalTurn g.P.Port.commands g.P.Port.refuses g.P.ResetPort.resets c.args.address.now
+    c.args.work.now.limits)
     (MayUse g.P.Port.commands g.P.ResetPort.resets) _ _ _
     _
     _ _ _ _ c.in-Pdu.header c.receive_pdu.new.buffer c.answer_arrival-answered.result reads answers))

@@ -8,16 +8,16 @@ use Rattle.ar_iscsi.proofs.session.serve_feature.Goals as goal
 
 pub returns-in-Ended : goal.returns-in-Ended
 returns-in-Ended g c =
-    feature_ended g.P.Port.commands g.P.ResetPort.resets c.args.address.now c.args.work.now.limits c.loop.counter _ _ _
-    c.in-Ended.reason
+    feature_ended g.P.Port.commands g.P.Port.refuses g.P.ResetPort.resets c.args.address.now c.args.work.now.limits
+    c.loop.counter _ _ _ c.in-Ended.reason
     c.loop.invariant.served
-    (subst (λ (limits : Limits). EndsFeature g.P.Port.commands g.P.ResetPort.resets c.args.address.now limits
-    c.loop.counter
+    (subst (λ (limits : Limits). EndsFeature g.P.Port.commands g.P.Port.refuses g.P.ResetPort.resets c.args.address.now
+    limits c.loop.counter
     (record {
       source = g.R.Source.state c.loop.reader;
       sink = g.W.Sink.state c.loop.writer;
       spot = record {
-        spot = record { flow = c.loop.work.flow; bytes = c.loop.work.collected.items };
+        session = record { flow = c.loop.work.flow; bytes = c.loop.work.collected.items };
         waiting = c.loop.waiting.items;
       };
       port = c.loop.port;
@@ -27,7 +27,7 @@ returns-in-Ended g c =
       source = g.R.Source.state c.serve_pdu.new.reader;
       sink = g.W.Sink.state c.serve_pdu.new.writer;
       spot = record {
-        spot = record { flow = c.serve_pdu.new.work.flow; bytes = c.serve_pdu.new.work.collected.items };
+        session = record { flow = c.serve_pdu.new.work.flow; bytes = c.serve_pdu.new.work.collected.items };
         waiting = c.serve_pdu.new.waiting.items;
       };
       port = c.serve_pdu.new.port;
@@ -35,16 +35,18 @@ returns-in-Ended g c =
 
 pub loop-preserved : goal.loop-preserved
 loop-preserved g c = record {
-  served = served_more (FeatureStep g.P.Port.commands g.P.ResetPort.resets c.args.address.now c.args.work.now.limits)
+  served = served_more (FeatureStep g.P.Port.commands g.P.Port.refuses g.P.ResetPort.resets c.args.address.now
+      c.args.work.now.limits)
       Next c.loop.counter _ _
       _
       c.loop.invariant.served
-      (subst (λ (limits : Limits). FeatureStep g.P.Port.commands g.P.ResetPort.resets c.args.address.now limits
+      (subst (λ (limits : Limits). FeatureStep g.P.Port.commands g.P.Port.refuses g.P.ResetPort.resets
+      c.args.address.now limits
       (record {
         source = g.R.Source.state c.loop.reader;
         sink = g.W.Sink.state c.loop.writer;
         spot = record {
-          spot = record { flow = c.loop.work.flow; bytes = c.loop.work.collected.items };
+          session = record { flow = c.loop.work.flow; bytes = c.loop.work.collected.items };
           waiting = c.loop.waiting.items;
         };
         port = c.loop.port;
@@ -53,7 +55,7 @@ loop-preserved g c = record {
         source = g.R.Source.state c.serve_pdu.new.reader;
         sink = g.W.Sink.state c.serve_pdu.new.writer;
         spot = record {
-          spot = record { flow = c.serve_pdu.new.work.flow; bytes = c.serve_pdu.new.work.collected.items };
+          session = record { flow = c.serve_pdu.new.work.flow; bytes = c.serve_pdu.new.work.collected.items };
           waiting = c.serve_pdu.new.waiting.items;
         };
         port = c.serve_pdu.new.port;
@@ -67,7 +69,7 @@ loop-preserved g c = record {
 
 pub returns : goal.returns
 returns g c =
-    feature_ended g.P.Port.commands g.P.ResetPort.resets c.args.address.now c.args.work.now.limits c.loop.counter _ _ _
-    _
+    feature_ended g.P.Port.commands g.P.Port.refuses g.P.ResetPort.resets c.args.address.now c.args.work.now.limits
+    c.loop.counter _ _ _ _
     c.loop.invariant.served
     (omega arith, refl)

@@ -7,13 +7,14 @@ use Rattle.ar_iscsi.proofs.session.serve_feature.Given as goal
 
 abbrev pub invariant-loop : goal.invariant-loop
 invariant-loop g l = record {
-  served : ServesPdus (FeatureStep g.P.Port.commands g.P.ResetPort.resets l.address l.initial.work.limits) Next
+  served : ServesPdus (FeatureStep g.P.Port.commands g.P.Port.refuses g.P.ResetPort.resets l.address
+      l.initial.work.limits) Next
       l.counter
       (record {
         source = g.R.Source.state l.initial.reader;
         sink = g.W.Sink.state l.initial.writer;
         spot = record {
-          spot = record { flow = l.initial.work.flow; bytes = l.initial.work.collected.items };
+          session = record { flow = l.initial.work.flow; bytes = l.initial.work.collected.items };
           waiting = l.initial.waiting.items;
         };
         port = l.initial.port;
@@ -22,7 +23,7 @@ invariant-loop g l = record {
         source = g.R.Source.state l.reader;
         sink = g.W.Sink.state l.writer;
         spot = record {
-          spot = record { flow = l.work.flow; bytes = l.work.collected.items };
+          session = record { flow = l.work.flow; bytes = l.work.collected.items };
           waiting = l.waiting.items;
         };
         port = l.port;

@@ -5,10 +5,10 @@ use Rattle.ar_language.proofs.lines.add_part.Goals as goal
 
 pub returns-then-is_bad-clause-refused : goal.returns-then-is_bad-clause-refused
 returns-then-is_bad-clause-refused c =
-    let told = bad_part (4096 - vec_len c.args.line.now) c.args.part.now c.args.next c.requires.printable
+    let reported = bad_part (4096 - vec_len c.args.line.now) c.args.part.now c.args.next c.requires.printable
     c.requires.stop (search rules) in
     let same = ap (λ n. cond (ltb (length c.args.part.now) (4096 - n)) BadCharacter LineTooLong) c.len-room.ensures in
-    told ∙ ap Some (sym (c.bad_fault.ensures ∙ same))
+    reported ∙ ap Some (sym (c.bad_fault.ensures ∙ same))
 
 pub returns-then-part-room-clause-refused : goal.returns-then-part-room-clause-refused
 returns-then-part-room-clause-refused c =

@@ -2,7 +2,7 @@ use Rattle.std.proofs.Common.{rules, ◌≡◌, ◌∙◌, [], Err, true, false}
 use Rattle.std.specs.Io.Buffered.{reader_buffer}
 use Rattle.ar_language.specs.Lines.{front_of, is_given, is_lacking}
 use Rattle.ar_language.specs.Left.{lines_left}
-use Rattle.ar_language.proofs.Going.{goes_told, goes_refused, goes_later, grows, kept_lines, took_later}
+use Rattle.ar_language.proofs.Going.{goes_reported, goes_refused, goes_later, grows, kept_lines, took_later}
 use Rattle.ar_language.proofs.next.await_line.Goals as goal
 
 pub returns-in_err-is_given-clause-goes_on : goal.returns-in_err-is_given-clause-goes_on
@@ -13,11 +13,11 @@ returns-in_err-is_given-clause-goes_on g c =
     let fault = c.in_err-is_given.field-0.0 in
     let result = c.from_residual-in_err-is_given.result in
     let none : is_given c.advance.result ≡ false = search rules in
-    let told : result ≡ Err fault = search rules in
+    let reported : result ≡ Err fault = search rules in
     let kept = took_later (lines_left old) (lines_left c.loop.lines) (lines_left mid) [] c.loop.invariant.kept
     c.wait.ensures.kept in
     goes_later old mid new result kept (c.wait.ensures.same.2 ∙ c.loop.invariant.count)
-    (goes_refused mid new fault result told c.advance.ensures.unasked c.advance.ensures.counts.ended
+    (goes_refused mid new fault result reported c.advance.ensures.unasked c.advance.ensures.counts.ended
     (c.advance.ensures.counts.kept none) (search rules) c.in_err-is_given.ensures.refused)
 
 pub returns-then-not-is_awaited-clause-goes_on : goal.returns-then-not-is_awaited-clause-goes_on
@@ -28,7 +28,7 @@ returns-then-not-is_awaited-clause-goes_on g c =
     let kept = took_later (lines_left old) (lines_left c.loop.lines) (lines_left mid) [] c.loop.invariant.kept
     c.wait.ensures.kept in
     goes_later old mid new _ kept (c.wait.ensures.same.2 ∙ c.loop.invariant.count)
-    (goes_told mid new _ c.advance.ensures.unasked c.advance.ensures.counts.ended (search rules) (search rules)
+    (goes_reported mid new _ c.advance.ensures.unasked c.advance.ensures.counts.ended (search rules) (search rules)
     (search rules) (search rules) (search rules) (search rules) (search rules))
 
 pub loop-preserved : goal.loop-preserved

@@ -2,7 +2,7 @@ use Rattle.std.proofs.Common.{rules, ◌≡◌, Err, false}
 use Rattle.std.specs.Io.Buffered.{reader_buffer}
 use Rattle.ar_language.specs.Lines.{front_of, is_given}
 use Rattle.ar_language.specs.Left.{bytes_read}
-use Rattle.ar_language.proofs.Going.{goes_told, goes_refused, goes_later, kept_lines, no_end_there, not_settled}
+use Rattle.ar_language.proofs.Going.{goes_reported, goes_refused, goes_later, kept_lines, no_end_there, not_settled}
 use Rattle.ar_language.proofs.next.next_line.Goals as goal
 
 pub returns-in_err-is_given-clause-goes_on : goal.returns-in_err-is_given-clause-goes_on
@@ -11,14 +11,14 @@ returns-in_err-is_given-clause-goes_on g c =
     let new = c.advance.new.self in
     let fault = c.in_err-is_given.field-0.0 in
     let none : is_given c.advance.result ≡ false = search rules in
-    let told : c.from_residual.result ≡ Err fault = search rules in
-    goes_refused old new fault c.from_residual.result told c.advance.ensures.unasked c.advance.ensures.counts.ended
+    let reported : c.from_residual.result ≡ Err fault = search rules in
+    goes_refused old new fault c.from_residual.result reported c.advance.ensures.unasked c.advance.ensures.counts.ended
     (c.advance.ensures.counts.kept none) (search rules)
     c.in_err-is_given.ensures.refused
 
 pub returns-then-not-is_awaited-clause-goes_on : goal.returns-then-not-is_awaited-clause-goes_on
 returns-then-not-is_awaited-clause-goes_on g c =
-    goes_told c.args.lines.now c.advance.new.self _ c.advance.ensures.unasked c.advance.ensures.counts.ended
+    goes_reported c.args.lines.now c.advance.new.self _ c.advance.ensures.unasked c.advance.ensures.counts.ended
     (search rules) (search rules) (search rules) (search rules) (search rules)
     (search rules) (search rules)
 

@@ -1,9 +1,9 @@
-use Rattle.ar_operator.proofs.Talking.{next_behind, next_cut}
+use Rattle.ar_operator.proofs.Talking.{next_after, next_cut}
 use Rattle.ar_operator.proofs.conversation.answer_next.Goals as goal
 
 pub returns-in-Line : goal.returns-in-Line
 returns-in-Line g c =
-    next_behind g.C.Controller.answers _ _ _ _ _ _ _ _ _ _ c.in-Line.ensures c.answer_line-result.ensures
+    next_after g.C.Controller.answers _ _ _ _ _ _ _ _ _ _ c.in-Line.ensures c.answer_line-result.ensures
     c.result_behind.ensures
 
 pub returns-in-Cut : goal.returns-in-Cut

@@ -11,7 +11,7 @@ returns g c =
     let framed = g.W.Write.contents c.write_frame.new.out in
     let numbered = g.W.Write.contents c.write_numbers.new.out in
     let drawn = g.W.Write.contents c.write_disks.new.out in
-    let told = g.W.Write.contents c.write_legend.new.out in
+    let reported = g.W.Write.contents c.write_legend.new.out in
     let new = g.W.Write.contents c.writeln.new.self in
     let picture = c.args.picture.now in
     let scale = c.args.scale in
@@ -19,10 +19,10 @@ returns g c =
     let numbered_text : Adds framed numbered (flat_map (number_svg scale) (range_with_len 0 picture.extents)) =
     record { it = c.in_ok-write_numbers.ensures.text } in
     let drawn_text : Adds numbered drawn (disks_svg scale picture) = record { it = c.in_ok-write_disks.ensures.text } in
-    let told_text : Adds drawn told (legend_svg (legend_at picture.disks) picture.units.items) =
+    let reported_text : Adds drawn reported (legend_svg (legend_at picture.disks) picture.units.items) =
     record { it = c.in_ok-write_legend.ensures.text } in
     record {
       text =
           adds_last c.writeln.result new (codes "</svg>\n")
-          (adds_then (adds_then (adds_then framed_text numbered_text) drawn_text) told_text) c.writeln.ensures.bytes;
+          (adds_then (adds_then (adds_then framed_text numbered_text) drawn_text) reported_text) c.writeln.ensures.bytes;
     }

@@ -16,3 +16,10 @@ returns-in-Broken g c =
     let new = g.W.Write.contents c.writeln-in-Broken.new.self in
     let same = sym (ap (health_svg c.args.picture.now.extents) c.in-Broken.is) in
     record { text = said_as c.writeln-in-Broken.result old new same c.writeln-in-Broken.ensures.bytes }
+
+pub returns-in-Lost : goal.returns-in-Lost
+returns-in-Lost g c =
+    let old = g.W.Write.contents c.args.out.now in
+    let new = g.W.Write.contents c.writeln-in-Lost.new.self in
+    let same = sym (ap (health_svg c.args.picture.now.extents) c.in-Lost.is) in
+    record { text = said_as c.writeln-in-Lost.result old new same c.writeln-in-Lost.ensures.bytes }

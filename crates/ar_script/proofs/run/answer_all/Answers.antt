@@ -1,7 +1,7 @@
 use Rattle.std.proofs.Common.{rules}
 use Rattle.std.specs.Io.Buffered.{writer_contents}
 use Rattle.ar_language.specs.Left.{lines_left}
-use Rattle.ar_script.proofs.Ending.{answered_finished, plays_finished, there_ended, told_ended}
+use Rattle.ar_script.proofs.Ending.{answered_finished, plays_finished, there_ended, reported_ended}
 use Rattle.ar_script.proofs.run.answer_all.Goals as goal
 
 pub returns-clause-plays : goal.returns-clause-plays
@@ -14,10 +14,10 @@ returns-clause-there g c =
     there_ended (lines_left c.args.lines.now) c.number.result c.run_lines-done.result c.finish.result (search rules)
     (search rules) c.finish.ensures.ends
 
-pub returns-clause-told : goal.returns-clause-told
-returns-clause-told g c =
-    told_ended c.run_lines-done.new.lines c.number.result c.run_lines-done.result c.finish.result
-    c.run_lines-done.ensures.told c.finish.ensures.ends
+pub returns-clause-reported : goal.returns-clause-reported
+returns-clause-reported g c =
+    reported_ended c.run_lines-done.new.lines c.number.result c.run_lines-done.result c.finish.result
+    c.run_lines-done.ensures.reported c.finish.ensures.ends
 
 pub returns-clause-grows : goal.returns-clause-grows
 returns-clause-grows g c =

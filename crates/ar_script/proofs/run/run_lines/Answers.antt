@@ -11,7 +11,7 @@ use Rattle.ar_script.specs.Answers.{AnswersLine}
 use Rattle.ar_script.specs.Plays.{PlaysTo}
 use Rattle.ar_script.proofs.Ending.{WritesAll, answered_fault, answered_unread, writes_ended, writes_line, writes_none}
 use Rattle.ar_script.proofs.Ending.{plays_fault, plays_ended, plays_unread, begun_as, begun_within, there_begun}
-use Rattle.ar_script.proofs.Ending.{there_given, told_next, told_last}
+use Rattle.ar_script.proofs.Ending.{there_given, reported_next, reported_last}
 use Rattle.ar_script.proofs.run.run_lines.Goals as goal
 
 pub loop-init : goal.loop-init
@@ -65,7 +65,7 @@ returns-in-Err-clause-plays g c =
     subst (λ n. PlaysTo script (Err c.fault_at.result) c.args.runner.now c.answer_line.new.runner n) (sym begun)
     (plays_fault script (lines_left c.loop.lines) (lines_left new) c.args.runner.now c.loop.runner
     c.answer_line.new.runner c.loop.lines.given line c.in-Err.kind c.fault_at.result
-    c.loop.invariant.1.all (goes.taken one) c.in-Err.ensures.meets c.in-Err.ensures.told is
+    c.loop.invariant.1.all (goes.taken one) c.in-Err.ensures.meets c.in-Err.ensures.reported is
     (subst (λ n. n ≤ 1000000) begun new.few))
 
 pub loop-preserved : goal.loop-preserved
@@ -126,20 +126,20 @@ returns-in-Err-clause-there g c =
     (there_given script (lines_left c.loop.lines) (lines_left new) c.args.runner.now c.loop.runner c.loop.lines.given
     new.line.items c.loop.invariant.1.all (goes.taken one))
 
-pub returns-in_err-next_line-clause-told : goal.returns-in_err-next_line-clause-told
-returns-in_err-next_line-clause-told g c =
+pub returns-in_err-next_line-clause-reported : goal.returns-in_err-next_line-clause-reported
+returns-in_err-next_line-clause-reported g c =
     let new = c.next_line.new.lines in
     let stopped : IfErr c.from_residual.result (EndsReading new) = search rules in
-    told_next new c.from_residual.result stopped
+    reported_next new c.from_residual.result stopped
 
-pub returns-in-Err-clause-told : goal.returns-in-Err-clause-told
-returns-in-Err-clause-told g c =
+pub returns-in-Err-clause-reported : goal.returns-in-Err-clause-reported
+returns-in-Err-clause-reported g c =
     let new = c.next_line.new.lines in
     let goes = c.next_line.ensures.goes_on in
     let one : is_given c.next_line.result ≡ true = search rules in
     let count : new.given ≡ c.loop.lines.given + 1 = search rules in
     let is = c.fault_at.ensures.same ∙ ap (λ m. Line (max m 1) c.in-Err.kind) c.number.ensures.number in
-    told_last new c.in-Err.kind c.fault_at.result (goes.closed one) (omega arith) is c.in-Err.ensures.told
+    reported_last new c.in-Err.kind c.fault_at.result (goes.closed one) (omega arith) is c.in-Err.ensures.reported
 
 pub returns-in_err-next_line-clause-grows : goal.returns-in_err-next_line-clause-grows
 returns-in_err-next_line-clause-grows g c =

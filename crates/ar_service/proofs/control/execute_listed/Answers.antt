@@ -25,9 +25,9 @@ under P X (Err fault) holds = tt
 pub returns-clause-lasts : goal.returns-clause-lasts
 returns-clause-lasts g c =
     under (is_act c.args.order ≡ true) _ c.answer_with.result (λ act.
-    lasting c.lasts_behind-lasts.result _ c.execute-done.result c.answer_with.result c.execute-done.new.out.items
-    c.answer_with.new.out.items (g.A.ServedArray.lasts c.lasts_behind-lasts.new.array) c.answer_with.ensures
-    (λ is. c.lasts_behind-lasts.ensures.lasts is act))
+    lasting c.lasts_after-lasts.result _ c.execute-done.result c.answer_with.result c.execute-done.new.out.items
+    c.answer_with.new.out.items (g.A.ServedArray.lasts c.lasts_after-lasts.new.array) c.answer_with.ensures
+    (λ is. c.lasts_after-lasts.ensures.lasts is act))
 
 pub returns-clause-executes : goal.returns-clause-executes
 returns-clause-executes g c =
@@ -39,14 +39,14 @@ returns-clause-executes g c =
       own = own;
       written = written;
       executes =
-          subst (λ (k : KeptState). Executes c.args.order old [] own written k) (sym c.lasts_behind-lasts.ensures.same)
+          subst (λ (k : KeptState). Executes c.args.order old [] own written k) (sym c.lasts_after-lasts.ensures.same)
           (subst (λ (l : List ℕ). Executes c.args.order old l own written (state c.execute-done.new.self))
           c.requires.empty c.execute-done.ensures);
-      lasts = c.lasts_behind-lasts.result;
+      lasts = c.lasts_after-lasts.result;
       store = c.store.result;
       answers =
-          subst (λ (l : Option (List ℕ)). AnswersWith c.lasts_behind-lasts.result l own written c.answer_with.result
+          subst (λ (l : Option (List ℕ)). AnswersWith c.lasts_after-lasts.result l own written c.answer_with.result
           c.answer_with.new.out.items) c.line_added-line.ensures c.answer_with.ensures;
-      failed = c.lasts_behind-lasts.ensures.failed;
+      failed = c.lasts_after-lasts.ensures.failed;
       absent = c.store.ensures;
     }

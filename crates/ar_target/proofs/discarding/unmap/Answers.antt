@@ -4,10 +4,10 @@ use Rattle.ar_target.proofs.discarding.unmap.Goals as goal
 
 pub returns-in-Some-clause-unmaps : goal.returns-in-Some-clause-unmaps
 returns-in-Some-clause-unmaps g c =
-    ready _ c.in-Some.last _ _ _ c.ask-told.ensures.asked (sym c.last_block.ensures ∙ c.in-Some.is)
+    ready _ c.in-Some.last _ _ _ c.ask-own_reply.ensures.asked (sym c.last_block.ensures ∙ c.in-Some.is)
     c.unmap_unit.ensures.unmaps
 
 pub returns-in-None-clause-unmaps : goal.returns-in-None-clause-unmaps
 returns-in-None-clause-unmaps g c =
     rw c.handed_on.ensures.answer
-    (not_ready _ _ c.ask-told.ensures.asked (sym c.last_block.ensures ∙ c.in-None.is))
+    (not_ready _ _ c.ask-own_reply.ensures.asked (sym c.last_block.ensures ∙ c.in-None.is))

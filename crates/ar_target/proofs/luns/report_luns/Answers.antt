@@ -1,7 +1,7 @@
 use Rattle.std.proofs.Common.{◌≡◌, ℕ, List, take, subst, arith}
 use Rattle.ar_scsi.specs.Reply.{good}
 use Rattle.ar_target.specs.Luns.{lun_list, FindsLuns, none_sought, one_sought, all_reported, search_stopped}
-use Rattle.ar_target.specs.Told.{IsReturned}
+use Rattle.ar_target.specs.OwnCommands.{IsReturned}
 use Rattle.ar_target.proofs.Finding.{one_more}
 use Rattle.ar_target.proofs.luns.report_luns.Goals as goal
 

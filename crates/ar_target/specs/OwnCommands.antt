@@ -36,7 +36,7 @@ last_block_by Busy payload = None
 
 -- the address of the last block that a reply to READ CAPACITY (10) states (SBC-2, READ CAPACITY (10) command)
 unfoldable pub last_block : Reply → Option ℕ
-last_block told = last_block_by told.status told.payload
+last_block own_reply = last_block_by own_reply.status own_reply.payload
 
 -- PERIPHERAL QUALIFIER, bits 7 to 5 of the first byte, isn't 011b: there may be a unit (SPC-3, Standard INQUIRY data)
 abbrev pub shows_unit : List ℕ → Option Bool
@@ -50,22 +50,22 @@ presence_by Busy payload = None
 
 -- whether a reply to INQUIRY states that there is a unit
 unfoldable pub presence_of : Reply → Option Bool
-presence_of told = presence_by told.status told.payload
+presence_of own_reply = presence_by own_reply.status own_reply.payload
 
 -- the answer where a reply doesn't tell what was asked: that reply or, if it is GOOD, a failure of the target
 abbrev pub handed_on_by : Status → Reply → Reply
-handed_on_by Good told = check internal_target_failure
-handed_on_by CheckCondition told = told
-handed_on_by Busy told = told
+handed_on_by Good own_reply = check internal_target_failure
+handed_on_by CheckCondition own_reply = own_reply
+handed_on_by Busy own_reply = own_reply
 
 -- the same by the reply alone
 unfoldable pub handed_on : Reply → Reply
-handed_on told = handed_on_by told.status told
+handed_on own_reply = handed_on_by own_reply.status own_reply
 
 -- `answer` from the last block, or the reply itself where it doesn't state one
 abbrev pub from_last_block : (ℕ → Reply) → Option ℕ → Reply → Reply
-from_last_block answer None told = handed_on told
-from_last_block answer (Some last) told = answer last
+from_last_block answer None own_reply = handed_on own_reply
+from_last_block answer (Some last) own_reply = answer last
 
 -- the status is GOOD
 abbrev pub is_good : Status → Bool
@@ -81,12 +81,12 @@ IsReturned table reply = (reply ≡ table) ⊎ ((reply ≡ busy) × (table.paylo
 -- what the port returned.
 pub record ReturnsBy {P : Type 0} (commands : Commands P) (cdb : List ℕ) (answer : Reply → Reply) (old : P) (lun : ℕ)
     (reply : Reply) (new : P) : Type 0 where
-  pub told : Reply
-  pub asked : commands old lun cdb [] told new
-  pub returned : IsReturned (answer told) reply
+  pub own_reply : Reply
+  pub asked : commands old lun cdb [] own_reply new
+  pub returned : IsReturned (answer own_reply) reply
 
 -- INQUIRY at a LUN stated whether there is a unit
 pub record LooksFor {P : Type 0} (commands : Commands P) (old : P) (lun : ℕ) (there : Bool) (new : P) : Type 0 where
-  pub told : Reply
-  pub asked : commands old lun inquiry_cdb [] told new
-  pub stated : presence_of told ≡ Some there
+  pub own_reply : Reply
+  pub asked : commands old lun inquiry_cdb [] own_reply new
+  pub stated : presence_of own_reply ≡ Some there

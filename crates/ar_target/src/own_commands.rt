@@ -2,7 +2,7 @@
 ghost use Rattle.std.specs.Prelude.{◌≡◌, ◌≤◌, ◌⊎◌, ◌≢◌, [], true, length, take, min};
 ghost use Rattle.ar_scsi.specs.Reply.{good};
 ghost use Rattle.ar_frames.specs.Frame.{IsReply, most_data};
-ghost use Rattle.ar_target.specs.Told as spec;
+ghost use Rattle.ar_target.specs.OwnCommands as spec;
 
 use ar_frames::Port;
 use ar_scsi::{Reply, Sense, Status};
@@ -41,12 +41,12 @@ fn first_number(bytes: &[u8]) -> Option<u32>
 
 /// The address of the last block that a reply to READ CAPACITY (10) states. Units have at most 2^20 blocks: four bytes
 /// hold it.
-#[tactic(auto, unfolding(crate::specs::Told::last_block))]
-pub(crate) fn last_block(told: &Reply) -> Option<u32>
-    ensures { result ≡ spec.last_block told.now }
+#[tactic(auto, unfolding(crate::specs::OwnCommands::last_block))]
+pub(crate) fn last_block(own_reply: &Reply) -> Option<u32>
+    ensures { result ≡ spec.last_block own_reply.now }
 {
-    match told.status {
-        Status::Good => first_number(told.payload.as_slice()),
+    match own_reply.status {
+        Status::Good => first_number(own_reply.payload.as_slice()),
         Status::CheckCondition | Status::Busy => None,
     }
 }
@@ -62,26 +62,26 @@ fn shows_unit(bytes: &[u8]) -> Option<bool>
 }
 
 /// Whether a reply to INQUIRY states that there is a unit; None where it states neither.
-#[tactic(auto, unfolding(crate::specs::Told::presence_of))]
-pub(crate) fn presence(told: &Reply) -> Option<bool>
-    ensures { result ≡ spec.presence_of told.now }
+#[tactic(auto, unfolding(crate::specs::OwnCommands::presence_of))]
+pub(crate) fn presence(own_reply: &Reply) -> Option<bool>
+    ensures { result ≡ spec.presence_of own_reply.now }
 {
-    match told.status {
-        Status::Good => shows_unit(told.payload.as_slice()),
+    match own_reply.status {
+        Status::Good => shows_unit(own_reply.payload.as_slice()),
         Status::CheckCondition | Status::Busy => None,
     }
 }
 
 /// The answer where a reply doesn't tell what was asked: that reply or, if it is GOOD, a failure of the target.
-#[tactic(auto, unfolding(crate::specs::Told::handed_on))]
-pub(crate) fn handed_on(told: Reply) -> Reply
-    requires { IsReply told }
-    ensures answer { result ≡ spec.handed_on told }
+#[tactic(auto, unfolding(crate::specs::OwnCommands::handed_on))]
+pub(crate) fn handed_on(own_reply: Reply) -> Reply
+    requires { IsReply own_reply }
+    ensures answer { result ≡ spec.handed_on own_reply }
     ensures reply { IsReply result }
 {
-    match told.status {
+    match own_reply.status {
         Status::Good => Reply::check(Sense::INTERNAL_TARGET_FAILURE),
-        Status::CheckCondition | Status::Busy => told,
+        Status::CheckCondition | Status::Busy => own_reply,
     }
 }
 
