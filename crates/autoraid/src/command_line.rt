@@ -36,13 +36,14 @@ impl Service {
     }
 
     /// The plan of the service, with these random numbers and this door for operators. `setup` is that of the array
-    /// that is served.
-    pub fn plan(
-        &self,
+    /// that is served; `system` says how much memory there is, where that is to be warned of.
+    pub fn plan<'a>(
+        &'a self,
         setup: Setup,
         random: RandomNumbers,
         operator: Option<OperatorListener>,
-    ) -> Plan<'_> {
+        system: Option<&'a HostRuntime>,
+    ) -> Plan<'a> {
         Plan {
             units: self.units.as_slice(),
             port: self.options.port,
@@ -56,6 +57,7 @@ impl Service {
                 idle: self.options.idle_timeout,
                 ..Timeouts::NONE
             },
+            system,
         }
     }
 }

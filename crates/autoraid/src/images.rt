@@ -6,7 +6,7 @@ ghost use Rattle.ar_durable.specs.Durable.{AreRecords};
 use crate::stored::{FusedSource, StoreCause, StoreFault, compact, fault, setup_in};
 use ar_command_line::StoredUnit;
 use ar_core::OutcomeOf;
-use ar_disks::{Addr, Disk};
+use ar_disks::{Addr, Disk, SECTOR_LEN};
 use ar_durable::{CommitPolicy, DurableArray, Store, open_in, replay, restart};
 use ar_history::{LiveArray, Seat};
 use ar_media::{Media, RegularFile};
@@ -25,9 +25,6 @@ const PIECE: u32 = 2_048;
 
 /// The sectors of the largest unit, 512 MiB.
 const MOST_SECTORS: u32 = 1_048_576;
-
-/// Bytes of a sector.
-const SECTOR: usize = 512;
 
 /// Bytes that one read of standard input takes.
 const INPUT: usize = 65_536;
@@ -165,7 +162,7 @@ fn read_image<S: Read>(alloc: Global, input: &mut S, sectors: u32) -> Result<Vec
             Err(_) => return Err(StoreCause::Input),
         }
     }
-    if image.len() % SECTOR == 0 {
+    if image.len() % SECTOR_LEN == 0 {
         Ok(image)
     } else {
         Err(StoreCause::PartSector)
@@ -177,7 +174,7 @@ fn take_piece(image: &mut Vec<u8>, piece: Option<&[u8]>, sectors: u32) -> Result
     let Some(piece) = piece else {
         return Err(StoreCause::Input);
     };
-    let most = u64::from(sectors) * SECTOR as u64;
+    let most = u64::from(sectors) * SECTOR_LEN as u64;
     if piece.len() as u64 > most.saturating_sub(image.len() as u64) {
         return Err(StoreCause::LongImage(sectors));
     }
@@ -228,7 +225,7 @@ fn fill_unit<'a, D: Disk + Drop, L: Ledger, M: Media, R: Clock + Log>(
     image: &[u8],
 ) -> Result<(), StoreCause> {
     if durable.array().sectors(addr).is_none() {
-        let sectors = u32::try_from(image.len() / SECTOR).unwrap_or(u32::MAX);
+        let sectors = u32::try_from(image.len() / SECTOR_LEN).unwrap_or(u32::MAX);
         let outcome = durable.make(addr, sectors);
         if let OutcomeOf::Make(Err(refusal)) = &outcome {
             return Err(StoreCause::Refused(*refusal));
@@ -247,8 +244,8 @@ fn write_pieces<'a, D: Disk + Drop, L: Ledger, M: Media, R: Clock + Log>(
 ) -> Result<(), StoreCause> {
     make_ready(durable, seat, lun)?;
     let mut lba: u32 = 0;
-    for piece in image.chunks(PIECE as usize * SECTOR) {
-        let count = u32::try_from(piece.len() / SECTOR).unwrap_or(u32::MAX);
+    for piece in image.chunks(PIECE as usize * SECTOR_LEN) {
+        let count = u32::try_from(piece.len() / SECTOR_LEN).unwrap_or(u32::MAX);
         let block = command_block(WRITE_10, lba, count);
         let data = Bytes::copy_from_slice(alloc, piece).map_err(|_| StoreCause::NoMemory)?;
         write_piece(durable, seat, lun, block, data)?;

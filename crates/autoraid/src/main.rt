@@ -3,6 +3,11 @@
 //! units hold, and `autoraid serve` serves an array to hosts over TCP.
 #![tactic(auto)]
 
+ghost use Rattle.std.specs.Prelude.{◌≡◌};
+ghost use Rattle.std.specs.Process.{exit_status};
+ghost use Rattle.ar_cli.specs.Exit.{status_after};
+ghost use Rattle.autoraid.specs.Failures.{status_of_failure};
+
 mod command_line;
 mod drawing;
 mod failure;
@@ -11,14 +16,14 @@ mod operators;
 mod serve;
 mod stored;
 
-use ar_cli::{end_with, fail, words_of};
+use ar_cli::{ExitStatus, end_with, fail, words_of};
 use ar_command_line::{CreateOptions, Order, ServeOptions, StoredUnit, UsageFault, order_in};
+use ar_logging::{LogThread, TimedConsole};
 use ar_script::{Runner, Setup, run_on, run_script};
 use ar_service::ServiceRuntime;
 use command_line::{RandomNumbers, Service, setup_of};
 use drawing::draw;
 use failure::Failure;
-use log::sink::Console;
 use log::{Level, Log, Logged};
 use serve::{ServeFault, run_server};
 use std::alloc::Global;
@@ -30,6 +35,9 @@ use std::sync::Wait;
 use std::thread::Threads;
 use std::time::Clock;
 
+/// What a line of the log comes from.
+const TARGET: &str = "autoraid";
+
 fn main(rt: HostRuntime) -> ExitCode {
     let alloc = rt.alloc();
     let done = match order(&rt) {
@@ -39,7 +47,13 @@ fn main(rt: HostRuntime) -> ExitCode {
         Ok(Order::Check(folder)) => check(&rt, alloc, folder.as_str()),
         Ok(Order::Export(unit)) => images::export(&rt, alloc, &unit).map_err(Failure::Store),
         Ok(Order::Import(unit)) => import(&rt, alloc, &unit),
-        Ok(Order::Serve(options)) => serve_hosts(&rt, &rt, alloc, options),
+        Ok(Order::Serve(options)) => {
+            let (done, is_read) = serve_hosts(rt, &rt, alloc, options);
+            if !is_read {
+                return end_unread(done);
+            }
+            done
+        }
         Err(fault) => return fail(&rt, &fault),
     };
     end_with(&rt, done)
@@ -62,12 +76,13 @@ fn check(rt: &HostRuntime, alloc: Global, folder: &str) -> Result<(), Failure> {
 
 // Writes standard input to a unit. The log has what failed.
 fn import(rt: &HostRuntime, alloc: Global, unit: &StoredUnit) -> Result<(), Failure> {
-    let logged = Logged::new(rt, Level::Warn, Console(rt));
-    images::import(&logged.with_target("autoraid"), rt, alloc, unit).map_err(Failure::Store)
+    let logged = Logged::new(rt, Level::Warn, TimedConsole(rt));
+    images::import(&logged.with_target(TARGET), rt, alloc, unit).map_err(Failure::Store)
 }
 
-// Serves hosts. `files` is `rt` once more: a store's files and an operators' socket are opened by the runtime's own
-// type, which starts no threads outside of `main`.
+// Serves hosts, beside the thread that writes the log, and returns also whether standard error has taken all of it.
+// `files` is `rt` once more: a store's files and an operators' socket are opened by the runtime's own type, which
+// starts no threads outside of `main`.
 fn serve_hosts<
     R: Threads
         + Wait
@@ -76,25 +91,49 @@ fn serve_hosts<
         + Print
         + Eprint
         + RandomSource
-        + Sync,
->(rt: &R, files: &HostRuntime, alloc: Global, options: ServeOptions) -> Result<(), Failure> {
-    let Ok(service) = Service::new(alloc, options) else {
-        return Err(Failure::Serve(ServeFault::NoMemory));
+        + Copy
+        + Send
+        + Sync
+        + 'static,
+>(rt: R, files: &HostRuntime, alloc: Global, options: ServeOptions) -> (Result<(), Failure>, bool) {
+    let (service, random) = match prepared(&rt, alloc, options) {
+        Ok(prepared) => prepared,
+        Err(fault) => return (Err(Failure::Serve(fault)), true),
     };
-    let random = random_for(rt, &service).map_err(Failure::Serve)?;
+    let Ok(log) = LogThread::start(rt, alloc, TARGET) else {
+        return (Err(Failure::Serve(ServeFault::NoMemory)), true);
+    };
     let level = if service.options.log {
         Level::Info
     } else {
         Level::Warn
     };
-    let logged = Logged::new(rt, level, Console(rt));
-    serve_array(
-        &logged.with_target("autoraid"),
-        files,
-        alloc,
-        &service,
-        random,
-    )
+    let logged = Logged::new(&rt, level, log.sink());
+    let done = serve_array(&logged.with_target(TARGET), files, alloc, &service, random);
+    (done, log.end())
+}
+
+// The service that these options ask for, and its random numbers.
+fn prepared(
+    rt: &impl RandomSource,
+    alloc: Global,
+    options: ServeOptions,
+) -> Result<(Service, RandomNumbers), ServeFault> {
+    let Ok(service) = Service::new(alloc, options) else {
+        return Err(ServeFault::NoMemory);
+    };
+    let random = random_for(rt, &service)?;
+    Ok((service, random))
+}
+
+// Exits without a message, which nobody would read, either.
+fn end_unread(done: Result<(), Failure>) -> ExitCode
+    ensures { exit_status result ≡ status_after status_of_failure done }
+{
+    match done {
+        Ok(()) => ExitCode::SUCCESS,
+        Err(failure) => ExitCode::from(failure.status()),
+    }
 }
 
 // Serves the array of a store, or a new one. The log has what failed and, if that is asked for, the start and the end

@@ -50,7 +50,7 @@ pub enum ServeFault {
 
 /// Creates the array and its units, listens, and serves hosts, operators, initiators and HTTP clients. Then it compares
 /// the hosts' transcripts with the history, unless none is stored. Operators that have asked for the end are answered
-/// last. `files` is the runtime that makes the file of an operators' socket.
+/// last. `files` is the runtime that makes the file of an operators' socket, and says how much memory there is.
 pub fn run_server<R: ServiceRuntime + Sync>(
     rt: &R,
     files: &HostRuntime,
@@ -76,7 +76,7 @@ pub fn run_server<R: ServiceRuntime + Sync>(
         array,
         (&fuses, FusedMaker::new(&fuses)),
         &stop,
-        service.plan(setup, random, listener),
+        service.plan(setup, random, listener, Some(files)),
         service.options.audit == Audit::Full,
     );
     remove_file(files, file);

@@ -212,9 +212,9 @@ fn check_store(rt: &HostRuntime, alloc: Global, folder: &str) -> Result<(), Stor
     let array = start_fused(alloc, setup_in(&head, 0), &fuses).map_err(|_| StoreCause::Start)?;
     let mut source = FusedSource::new(FusedMaker::new(&fuses));
     let (live, records) = replay(alloc, &mut reader, array, &mut source)?;
-    let told = tell_contents(rt, &head, live.array(), records);
+    let reported = tell_contents(rt, &head, live.array(), records);
     drop(live);
-    told.map_err(|_| StoreCause::Write)
+    reported.map_err(|_| StoreCause::Write)
 }
 
 // Prints the units of an array, and how many records made them.
@@ -426,7 +426,7 @@ fn plan_of<'s>(
         ..random
     };
     let setup = setup_in(head, service.options.array.cache);
-    let mut plan = service.plan(setup, random, operator);
+    let mut plan = service.plan(setup, random, operator, None);
     if let Some(iscsi) = &mut plan.iscsi {
         iscsi.write_back = options.sync == SyncMode::Flush;
     }

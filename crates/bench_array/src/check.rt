@@ -99,7 +99,7 @@ fn do_rounds(
     Ok(())
 }
 
-// How many rounds of so many operations are enough.
+// How many rounds of `operations` operations are enough.
 fn rounds(operations: u32) -> u32 {
     ENOUGH.div_ceil(operations.max(1))
 }

@@ -96,7 +96,7 @@ impl Trial {
         drop(data);
     }
 
-    // Times rounds until so many seconds have gone since the beginning.
+    // Times rounds until `seconds` have gone since the beginning.
     fn time_rounds<C: Clock>(
         &mut self,
         clock: &C,

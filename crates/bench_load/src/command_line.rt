@@ -175,7 +175,7 @@ fn plan_of(matches: &ArgMatches<'_>) -> Option<Plan> {
     })
 }
 
-// How many sectors so many bytes are.
+// The number of sectors of `bytes` bytes.
 fn sectors_of(bytes: u32) -> Option<u16> {
     u16::try_from(bytes / 512).ok()
 }

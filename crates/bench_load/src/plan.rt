@@ -16,7 +16,7 @@ pub struct Plan {
 }
 
 impl Plan {
-    /// Turns of so many seconds for each, from now on.
+    /// Turns of `seconds` seconds each, from now on.
     pub fn new<C: Clock>(clock: &C, seconds: u32) -> Result<Plan, Failure> {
         Ok(Plan {
             begin: Instant::now(clock).map_err(|_| Failure::Clock)?,

@@ -40,7 +40,7 @@ impl Kind {
     }
 }
 
-/// Requests of a kind, each of so many sectors.
+/// Requests of a kind, each of the same number of sectors.
 #[derive(Clone, Copy)]
 pub struct Shape {
     pub kind: Kind,

@@ -8,7 +8,7 @@ use rand_core::Rng;
 /// The most sectors of a command: 256 KiB.
 const MOST: u32 = 512;
 
-/// One in so many READs and WRITEs may be as long.
+/// One in this many READs and WRITEs may be as long.
 const LONG: u32 = 256;
 
 /// Draws a command to a unit of `sectors` sectors.
@@ -94,7 +94,7 @@ fn longest_of_short<R: Rng>(rng: &mut R) -> u32
     }
 }
 
-// Sectors of which the unit lacks at least the last. One in four lies so far behind that 32 bits can't name it.
+// Sectors of which the unit lacks at least the last. One in four lies so far past it that 32 bits can't name it.
 fn past_the_end<R: Rng>(rng: &mut R, sectors: u32) -> Span {
     let most = longest_of_short(rng);
     let count = rng.random_range(1..=most);

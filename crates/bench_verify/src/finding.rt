@@ -9,7 +9,7 @@ use thiserror::Error;
 
 /// What a reply says beside its data.
 #[derive(Clone, Copy, Debug, PartialEq, Eq)]
-pub enum Told {
+pub enum ReplyStatus {
     Good,
     Busy,
     Check(Sense),
@@ -33,8 +33,8 @@ pub enum Finding {
     Reply {
         lun: u8,
         order: Order,
-        wanted: Told,
-        found: Told,
+        wanted: ReplyStatus,
+        found: ReplyStatus,
     },
     /// A GOOD reply with too few or too many bytes of data.
     #[error("LUN {lun} {order}: wanted {wanted} bytes, found {found}")]
@@ -78,30 +78,30 @@ impl Finding {
     }
 }
 
-impl Told {
+impl ReplyStatus {
     /// The unit has grown.
-    pub const CHANGED: Told = Told::Check(Sense::CAPACITY_DATA_HAS_CHANGED);
+    pub const CHANGED: ReplyStatus = ReplyStatus::Check(Sense::CAPACITY_DATA_HAS_CHANGED);
 
     /// The array has failed.
-    pub const BROKEN: Told = Told::Check(Sense::INTERNAL_TARGET_FAILURE);
+    pub const BROKEN: ReplyStatus = ReplyStatus::Check(Sense::INTERNAL_TARGET_FAILURE);
 
     /// There is no unit.
-    pub const ABSENT: Told = Told::Check(Sense::LOGICAL_UNIT_NOT_SUPPORTED);
+    pub const ABSENT: ReplyStatus = ReplyStatus::Check(Sense::LOGICAL_UNIT_NOT_SUPPORTED);
 
-    pub fn of(reply: &Reply) -> Told {
+    pub fn of(reply: &Reply) -> ReplyStatus {
         match reply.status {
-            Status::Good => Told::Good,
-            Status::Busy => Told::Busy,
-            Status::CheckCondition => told_by(&reply.sense),
+            Status::Good => ReplyStatus::Good,
+            Status::Busy => ReplyStatus::Busy,
+            Status::CheckCondition => reported_by(&reply.sense),
         }
     }
 }
 
 // What fixed format sense data say.
-fn told_by(sense: &Option<[u8; 18]>) -> Told {
+fn reported_by(sense: &Option<[u8; 18]>) -> ReplyStatus {
     match sense {
-        None => Told::Nothing,
-        Some(bytes) => Told::Check(Sense {
+        None => ReplyStatus::Nothing,
+        Some(bytes) => ReplyStatus::Check(Sense {
             key: bytes[2] % 16,
             asc: bytes[12],
             ascq: bytes[13],
@@ -109,13 +109,13 @@ fn told_by(sense: &Option<[u8; 18]>) -> Told {
     }
 }
 
-impl Display for Told {
+impl Display for ReplyStatus {
     fn fmt<W: Write>(&self, f: &mut Formatter<W>) -> fmt::Result {
         match self {
-            Told::Good => write!(f, "good"),
-            Told::Busy => write!(f, "busy"),
-            Told::Nothing => write!(f, "check"),
-            Told::Check(Sense { key, asc, ascq }) => {
+            ReplyStatus::Good => write!(f, "good"),
+            ReplyStatus::Busy => write!(f, "busy"),
+            ReplyStatus::Nothing => write!(f, "check"),
+            ReplyStatus::Check(Sense { key, asc, ascq }) => {
                 write!(f, "check {key:02X}/{asc:02X}/{ascq:02X}")
             }
         }

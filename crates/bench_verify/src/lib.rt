@@ -10,7 +10,7 @@ mod shadow;
 mod verifier;
 
 pub use content::{Origin, SECTOR_LEN};
-pub use finding::{Finding, Told};
+pub use finding::{Finding, ReplyStatus};
 pub use order::{Form, Order, Span};
 pub use shadow::{Mismatch, Shadow};
 pub use verifier::{Counts, Plan, Verifier};

@@ -4,7 +4,7 @@ ghost use Rattle.ar_frames.specs.Frame.{most_data};
 
 use crate::content::{Origin, SECTOR_LEN};
 use crate::draw::{draw, draw_absent};
-use crate::finding::{Finding, Told};
+use crate::finding::{Finding, ReplyStatus};
 use crate::order::{Form, Order, Span};
 use crate::shadow::Shadow;
 use ar_frames::{Sink, Source, ask, hello};
@@ -17,7 +17,7 @@ use std::alloc::Global;
 use std::fmt;
 use std::fmt::{Display, Formatter, Write};
 
-/// One command in so many goes to a LUN without a unit.
+/// One command in this many goes to a LUN without a unit.
 const ABSENT: u32 = 256;
 
 /// How often a host asks for a capacity before it takes a unit to be growing without end.
@@ -190,12 +190,12 @@ impl<S: Source + Drop, W: Sink + Drop> Verifier<S, W> {
     // Sends a command, and judges the reply. BUSY is always right, and has changed nothing.
     fn send(&mut self, lun: u8, order: Order) -> Result<(), Finding> {
         let reply = self.ask(lun, order)?;
-        match Told::of(&reply) {
-            Told::Busy => {
+        match ReplyStatus::of(&reply) {
+            ReplyStatus::Busy => {
                 self.counts.busy = self.counts.busy.saturating_add(1);
                 Ok(())
             }
-            Told::CHANGED if lun < self.plan.units => self.learn(lun),
+            ReplyStatus::CHANGED if lun < self.plan.units => self.learn(lun),
             found => self.judge(lun, order, found, &reply.payload),
         }
     }
@@ -205,10 +205,10 @@ impl<S: Source + Drop, W: Sink + Drop> Verifier<S, W> {
         &mut self,
         lun: u8,
         order: Order,
-        found: Told,
+        found: ReplyStatus,
         payload: &Bytes,
     ) -> Result<(), Finding> {
-        if found == Told::BROKEN && self.plan.may_break {
+        if found == ReplyStatus::BROKEN && self.plan.may_break {
             self.is_broken = true;
         }
         let wanted = self.wanted(lun, order);
@@ -221,8 +221,8 @@ impl<S: Source + Drop, W: Sink + Drop> Verifier<S, W> {
             });
         }
         match found {
-            Told::Good => self.settle(lun, order, payload.as_slice()),
-            Told::BROKEN => {
+            ReplyStatus::Good => self.settle(lun, order, payload.as_slice()),
+            ReplyStatus::BROKEN => {
                 self.counts.broken = self.counts.broken.saturating_add(1);
                 Ok(())
             }
@@ -231,14 +231,14 @@ impl<S: Source + Drop, W: Sink + Drop> Verifier<S, W> {
     }
 
     // The reply that a command has to get.
-    fn wanted(&self, lun: u8, order: Order) -> Told {
+    fn wanted(&self, lun: u8, order: Order) -> ReplyStatus {
         if lun >= self.plan.units {
-            return Told::ABSENT;
+            return ReplyStatus::ABSENT;
         }
         match order.refusal(self.sectors(lun)) {
-            Some(sense) => Told::Check(sense),
-            None if self.is_broken && order.needs_disks() => Told::BROKEN,
-            None => Told::Good,
+            Some(sense) => ReplyStatus::Check(sense),
+            None if self.is_broken && order.needs_disks() => ReplyStatus::BROKEN,
+            None => ReplyStatus::Good,
         }
     }
 
@@ -312,9 +312,12 @@ impl<S: Source + Drop, W: Sink + Drop> Verifier<S, W> {
         self.counts.attentions = self.counts.attentions.saturating_add(1);
         for _ in 0..GROWTHS {
             let reply = self.ask(lun, Order::Capacity)?;
-            match Told::of(&reply) {
-                Told::CHANGED => self.counts.attentions = self.counts.attentions.saturating_add(1),
-                Told::Busy => self.counts.busy = self.counts.busy.saturating_add(1),
+            match ReplyStatus::of(&reply) {
+                ReplyStatus::CHANGED => self.counts.attentions = self
+                    .counts
+                    .attentions
+                    .saturating_add(1),
+                ReplyStatus::Busy => self.counts.busy = self.counts.busy.saturating_add(1),
                 found => return self.learn_from(lun, found, reply.payload.as_slice()),
             }
         }
@@ -326,13 +329,13 @@ impl<S: Source + Drop, W: Sink + Drop> Verifier<S, W> {
         })
     }
 
-    fn learn_from(&mut self, lun: u8, found: Told, payload: &[u8]) -> Result<(), Finding> {
+    fn learn_from(&mut self, lun: u8, found: ReplyStatus, payload: &[u8]) -> Result<(), Finding> {
         let order = Order::Capacity;
-        if found != Told::Good || payload.len() != length_of(order) {
+        if found != ReplyStatus::Good || payload.len() != length_of(order) {
             return Err(Finding::Reply {
                 lun,
                 order,
-                wanted: Told::Good,
+                wanted: ReplyStatus::Good,
                 found,
             });
         }

@@ -42,7 +42,7 @@ impl Model for Bare {
 }
 
 impl Bare {
-    /// Buffers in place of disks of so many blocks in all, 1 to 65,536. No byte is zero, so that all memory is there.
+    /// Buffers in place of disks of `count` blocks in all, 1 to 65,536. No byte is zero, so that all memory is there.
     pub fn new(alloc: Global, geometry: Geometry, count: usize) -> Result<Bare, AllocError>
         requires some { 0 < count }
         requires few { count ≤ 65536 }
@@ -58,7 +58,7 @@ impl Bare {
         })
     }
 
-    /// Moves as an array does in so many operations, at blocks in order or at random.
+    /// Moves as an array does in `moves.times` operations, at blocks in order or at random.
     pub fn run<R: Rng>(&mut self, moves: Moves, is_random: bool, rng: &mut R) {
         for turn in 0..moves.times {
             let turn = if is_random {

@@ -118,7 +118,7 @@ impl Round {
         }
     }
 
-    // So many writes, each of so many copies of the data.
+    // `writes` writes of `times` copies of the data each.
     fn written(self, times: u32, writes: u32) -> Moves {
         Moves {
             times,

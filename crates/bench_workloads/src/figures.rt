@@ -68,7 +68,7 @@ pub fn name_of(geometry: Geometry) -> &'static str {
     }
 }
 
-// How many in a second, of so many in so many nanoseconds.
+// How many in a second, of `count` in `nanos` nanoseconds.
 fn rate(count: u64, nanos: u64) -> u64 {
     let whole = u128::from(count) * NANOS / u128::from(nanos.max(1));
     u64::try_from(whole).unwrap_or(u64::MAX)

@@ -33,6 +33,8 @@ impl Port for Fake {
 
     ghost commands = { λ old lun cdb payload reply new. Unit {0} };
 
+    ghost refuses = { λ old cdb new. Unit {0} };
+
     fn login(&mut self, host: u8) -> Login {
         if host > 3 {
             return Login::BadHost;
@@ -52,6 +54,10 @@ impl Port for Fake {
             7 if payload.len() <= 33_553_920 => Reply::good(payload),
             _ => Reply::check(Sense::LOGICAL_UNIT_NOT_SUPPORTED),
         }
+    }
+
+    fn refuse(&mut self, _cdb: &[u8; 16]) -> Reply {
+        Reply::busy()
     }
 }
 

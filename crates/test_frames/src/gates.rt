@@ -85,6 +85,8 @@ impl Port for Asked<'_> {
 
     ghost commands = { λ old lun cdb payload reply new. Unit {0} };
 
+    ghost refuses = { λ old cdb new. Unit {0} };
+
     fn login(&mut self, host: u8) -> Login {
         if host > 3 {
             return Login::BadHost;
@@ -97,6 +99,10 @@ impl Port for Asked<'_> {
         let asked = self.notes.asked.get();
         self.notes.asked.set(asked.saturating_add(1));
         Reply::good(Bytes::new())
+    }
+
+    fn refuse(&mut self, _cdb: &[u8; 16]) -> Reply {
+        Reply::busy()
     }
 }
 
@@ -214,7 +220,7 @@ fn second_unsent() -> [Note; 4] {
 }
 
 #[test]
-fn a_gate_is_told_before_and_after_each_command(rt: HostRuntime) {
+fn a_gate_is_reported_before_and_after_each_command(rt: HostRuntime) {
     let alloc = rt.alloc();
     // The last frame isn't whole, and isn't given to the port.
     let input = joined(&rt, alloc, &[LOGIN, ABSENT, ABSENT, ABSENT, &ABSENT[..20]]);

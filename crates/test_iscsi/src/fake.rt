@@ -3,10 +3,11 @@ ghost use Rattle.std.specs.Prelude.{◌≡◌, ◌≤◌, false, length};
 ghost use Rattle.ar_frames.specs.Frame.{IsReply};
 
 use ar_frames::{Login, Port};
-use ar_scsi::{Reply, Sense, capacity_data, inquiry_data};
+use ar_scsi::{Reply, Sense, Status, capacity_data, inquiry_data};
 use ar_target::{BlockRun, DiscardPort, FlushOutcome, FlushPort, ResetOutcome, ResetPort};
 use bytes::Bytes;
 use std::alloc::Global;
+use std::cell::Cell;
 
 // At LUN 0 is a unit of 1,000 blocks. A READ of it returns 1,100 bytes of 5Ah, and a WRITE is GOOD if it comes with
 // 1,024 bytes; at others no unit is. Host 2 is in use.
@@ -17,6 +18,8 @@ pub struct Fake {
     // How many commands were given, and how many bytes of data with them.
     pub given: usize,
     pub bytes: usize,
+    // How many replies were BUSY, those to commands that weren't given, too.
+    pub busy: Cell<u64>,
 }
 
 impl Fake {
@@ -28,6 +31,7 @@ impl Fake {
             taken: false,
             given: 0,
             bytes: 0,
+            busy: Cell::new(0),
         }
     }
 }
@@ -50,6 +54,8 @@ impl Port for Fake {
 
     ghost commands = { λ old lun cdb payload reply new. Unit {0} };
 
+    ghost refuses = { λ old cdb new. Unit {0} };
+
     fn login(&mut self, host: u8) -> Login {
         if host > 3 {
             return Login::BadHost;
@@ -64,8 +70,22 @@ impl Port for Fake {
     fn command(&mut self, lun: u8, cdb: &[u8; 16], payload: Bytes) -> Reply {
         self.given = self.given.saturating_add(1);
         self.bytes = self.bytes.saturating_add(payload.len());
-        reply_at(self.alloc, lun, cdb[0], payload.len())
+        let reply = reply_at(self.alloc, lun, cdb[0], payload.len());
+        if matches!(reply.status, Status::Busy) {
+            count(&self.busy);
+        }
+        reply
     }
+
+    fn refuse(&mut self, _cdb: &[u8; 16]) -> Reply {
+        count(&self.busy);
+        Reply::busy()
+    }
+}
+
+// Counts one more.
+fn count(number: &Cell<u64>) {
+    number.set(number.get().saturating_add(1));
 }
 
 // The reply to a command with `len` bytes of data.

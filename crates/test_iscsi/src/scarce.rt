@@ -106,7 +106,7 @@ fn serve_again(rt: &impl Abort, alloc: Global, session: Session) {
 }
 
 // Serves a session, and says whether it was as with ample memory. If it wasn't, it ended for lack of memory, after a
-// whole answer, or a command got BUSY.
+// whole answer, or a command got BUSY, once, which its port has counted.
 fn serve(rt: &impl Abort, alloc: Global, session: Session, output: &[u8]) -> bool {
     let mut reader = MemSource::new(bytes_of(rt, alloc, session.input));
     let mut writer = MemSink::new(room(rt, alloc));
@@ -117,9 +117,9 @@ fn serve(rt: &impl Abort, alloc: Global, session: Session, output: &[u8]) -> boo
     if end == session.end && written == output {
         return true;
     }
-    let other = behind_same(written, output);
+    let other = after_same(written, output);
     let is_fine = if end == session.end {
-        is_busy(other)
+        is_busy(other) && port.busy.get() == 1
     } else {
         is_for_memory(end) && other.is_empty()
     };
@@ -128,7 +128,7 @@ fn serve(rt: &impl Abort, alloc: Global, session: Session, output: &[u8]) -> boo
 }
 
 // What is written after the whole PDUs that are as wanted.
-fn behind_same<'a>(written: &'a [u8], wanted: &[u8]) -> &'a [u8] {
+fn after_same<'a>(written: &'a [u8], wanted: &[u8]) -> &'a [u8] {
     let (mut rest, mut left) = (written, wanted);
     for _ in 0..written.len() {
         let (Some((_, _, behind)), Some((_, _, after))) = (split_pdu(rest), split_pdu(left)) else {

@@ -59,7 +59,7 @@ impl<L: Ledger> Rig<L> {
             Ask::Make(place, sectors) => kept.operate(OperationOf::Make(unit_at(*place), *sectors)),
             Ask::Grow(place, sectors) => kept.operate(OperationOf::Grow(unit_at(*place), *sectors)),
             Ask::Remove(place) => kept.operate(OperationOf::Remove(unit_at(*place))),
-            Ask::FlushUnit(place) => OutcomeOf::FlushUnit(kept.flush_unit(unit_at(*place))),
+            Ask::FlushUnit(place) => OutcomeOf::FlushPart(kept.flush_part(unit_at(*place), 0)),
             Ask::Unmap(place, lba, count) => {
                 let unit = unit_at(*place);
                 OutcomeOf::Unmap(kept.discard(unit.host, unit.lun, *lba, *count))

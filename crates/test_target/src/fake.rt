@@ -84,6 +84,8 @@ impl Port for Fake {
 
     ghost commands = { λ old lun cdb payload reply new. Unit {0} };
 
+    ghost refuses = { λ old cdb new. Unit {0} };
+
     fn login(&mut self, host: u8) -> Login {
         if host > 3 {
             return Login::BadHost;
@@ -99,6 +101,10 @@ impl Port for Fake {
         }
         self.bytes = self.bytes.saturating_add(payload.len() as u64);
         reply_at(self.alloc, lun, cdb)
+    }
+
+    fn refuse(&mut self, _cdb: &[u8; 16]) -> Reply {
+        Reply::busy()
     }
 }
 

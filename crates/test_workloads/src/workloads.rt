@@ -407,7 +407,7 @@ fn the_line_of_the_machine(rt: HostRuntime) -> Result<(), AllocError> {
 }
 
 #[test]
-fn faults_are_told(rt: HostRuntime) -> Result<(), AllocError> {
+fn faults_are_reported(rt: HostRuntime) -> Result<(), AllocError> {
     for (fault, text) in [
         (WorkloadFault::NoMemory, "no memory"),
         (
