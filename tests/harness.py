@@ -35,9 +35,11 @@ ROOT = os.path.dirname(os.path.dirname(os.path.realpath(__file__)))
 # Seconds that one wait may take.
 PATIENCE = 60
 HOSTS = 4
+# A line of a server's log: its time, its level, what it says.
+LOGGED = re.compile(r"\[(\d{4}-\d\d-\d\dT\d\d:\d\d:\d\dZ) (ERROR|WARN |INFO ) autoraid\] (.+)")
 # What a server says on standard error of disks that have failed, and of connections that it has refused.
 FAILURES = re.compile(
-    r"^\[(WARN |ERROR) autoraid\] ((disk \d+|array) failed|an? [\w ]+ was refused): .*\n", re.MULTILINE
+    r"^\[\S+Z (WARN |ERROR) autoraid\] ((disk \d+|array) failed|an? [\w ]+ was refused): .*\n", re.MULTILINE
 )
 
 
@@ -57,6 +59,11 @@ def text_of(*path):
     """What a file of the repository has."""
     with open(os.path.join(ROOT, *path), encoding="utf-8") as file:
         return file.read()
+
+
+def untimed(log):
+    """The lines of a server's log without their times."""
+    return re.sub(r"^\[[\d:T-]+Z ", "[", log, flags=re.MULTILINE)
 
 
 # Programs
@@ -188,12 +195,23 @@ def free_port():
             return port
 
 
+@contextlib.contextmanager
+def closed_by_faults(link):
+    """Closes a connection at which something goes wrong."""
+    try:
+        yield
+    except OSError:
+        link.close()
+        raise
+
+
 def connected(door):
     """A connection to a port of this machine, or to the Unix socket at a path."""
     if isinstance(door, str):
         link = socket.socket(socket.AF_UNIX)
         link.settimeout(PATIENCE)
-        link.connect(door)
+        with closed_by_faults(link):
+            link.connect(door)
         return link
     link = socket.create_connection(("127.0.0.1", door), timeout=PATIENCE)
     link.setsockopt(socket.IPPROTO_TCP, socket.TCP_NODELAY, 1)
@@ -224,6 +242,15 @@ def answered(door, sent):
             link.sendall(sent)
             link.shutdown(socket.SHUT_WR)
         return rest_of(link)
+
+
+def sends_slowly(link, text, pause=0.3, is_over=None):
+    """Sends a byte at a time, until the other side has closed or an event has come."""
+    with contextlib.suppress(OSError):
+        for byte in text:
+            link.sendall(bytes([byte]))
+            if (is_over or threading.Event()).wait(pause):
+                return
 
 
 def reset(link):
@@ -263,8 +290,9 @@ class Host:
 
     def __init__(self, port, number, name=LOGIN):
         self.link, self.tag = connected(port), 0
-        self.link.sendall(name + bytes([number]))
-        self.greeting = exactly(self.link, 1)
+        with closed_by_faults(self.link):
+            self.link.sendall(name + bytes([number]))
+            self.greeting = exactly(self.link, 1)
 
     def sends(self, block, data=b"", lun=0):
         """Sends a request, and leaves its answer."""
@@ -333,9 +361,9 @@ class Operator:
             time.sleep(0.01)
         return last
 
-    def commands(self):
-        """How many commands of hosts the array has counted."""
-        return sum(int(line.split()[3]) for line in self.asks("counts") if line.startswith("host "))
+    def commands(self, hosts=HOSTS):
+        """How many commands of hosts, of the first so many, the array has counted."""
+        return sum(int(line.split()[3]) for line in self.asks("counts")[:hosts])
 
     def close(self):
         self.lines.close()
@@ -422,6 +450,10 @@ class Initiator:
         """Sends a task management request, immediate (42h) or in CmdSN's order (02h), and leaves its answer."""
         self.send(opcode, 0x80 + function, (tag, self.cmd_sn, self.exp_stat_sn), lun=lun, tag=0x7777)
         self.cmd_sn += not opcode & 0x40
+
+    def discovers(self):
+        """Asks to log in for discovery, and returns the answer."""
+        return self.log_in("InitiatorName=iqn.2026-11.example:host", "SessionType=Discovery")
 
     def ping(self, data=b"", tag=0x5555):
         """Sends a NOP-Out, and returns its answer."""
@@ -519,9 +551,10 @@ class Server(Running):
     def initiator(self, number):
         """A session over iSCSI with a host's target."""
         initiator = Initiator(self.iscsi_port)
-        said = initiator.log_in("InitiatorName=iqn.x", f"TargetName={TARGET}{number}")
-        if said is None or said.login_status != b"\0\0":
-            raise ConnectionError(f"a login over iSCSI: {said}")
+        with closed_by_faults(initiator):
+            said = initiator.log_in("InitiatorName=iqn.x", f"TargetName={TARGET}{number}")
+            if said is None or said.login_status != b"\0\0":
+                raise ConnectionError(f"a login over iSCSI: {said}")
         return initiator
 
     def resident(self):

@@ -13,12 +13,31 @@ import threading
 import time
 
 from tests.harness import ACCEPTED, GOOD, LOGIN, REFUSED, TEST_UNIT_READY, Case, Host, Reply, answered, connected
-from tests.harness import exactly, frame, most_resident, read_10, reset, waited, write_10
+from tests.harness import exactly, frame, most_resident, read_10, reset, sends_slowly, waited, write_10
 
 SECTORS, TURNS = 256, 400
+# What a session sends that keeps no rule: the front of a WRITE of one sector and of one of 64, and lengths out of
+# bounds, and at the upper one.
+HALF_A_FRAME = frame(1, write_10(0, 1), bytes(512))[:100]
+PART_OF_A_WRITE = frame(1, write_10(0, 64), bytes(64 * 512))[:5000]
+TOO_SMALL, LARGEST, TOO_LARGE, ALL_ONES = 24, 0x01FFFE19, 0x01FFFE1A, 0xFFFFFFFF
+GARBAGE = random.Random(7).randbytes(4096)
 # Resident memory in KiB: that of the program and its threads, and of what the history keeps of some 400 commands of 8
 # sectors.
 BOUND = 64 * 1024
+
+
+def announces(length, count=64):
+    """The front of a frame of this length, with as many of its bytes."""
+    return struct.pack(">I", length) + bytes(count)
+
+
+def fill(host, sectors=SECTORS):
+    """Asks for a whole unit over and over and reads nothing, until the answers fill what lies between the two."""
+    host.link.settimeout(0.5)
+    with contextlib.suppress(TimeoutError, BlockingIOError):
+        for _ in range(3000):
+            host.sends(read_10(0, sectors))
 
 
 class Beside:
@@ -75,7 +94,7 @@ class BadFrames(Case):
 
     def test_garbage(self):
         with connected(self.server.port) as link:
-            link.sendall(random.Random(7).randbytes(4096))
+            link.sendall(GARBAGE)
             said = b""
             with contextlib.suppress(ConnectionResetError):
                 said = exactly(link, 2)
@@ -94,7 +113,7 @@ class BadFrames(Case):
 
     def test_half_a_frame(self):
         host = self.log_in()
-        host.link.sendall(frame(1, write_10(0, 1), bytes(512))[:100])
+        host.link.sendall(HALF_A_FRAME)
         host.link.shutdown(socket.SHUT_WR)
         self.wants(exactly(host.link, 1), b"", "the answer to half a frame")
         host.close()
@@ -103,7 +122,7 @@ class BadFrames(Case):
     def length(self, length):
         """A frame whose length is out of bounds ends the session."""
         host = self.log_in()
-        host.link.sendall(struct.pack(">I", length) + bytes(64))
+        host.link.sendall(announces(length))
         said = b""
         with contextlib.suppress(ConnectionResetError):
             said = exactly(host.link, 1)
@@ -112,17 +131,17 @@ class BadFrames(Case):
         self.finish()
 
     def test_length_too_small(self):
-        self.length(24)
+        self.length(TOO_SMALL)
 
     def test_length_too_large(self):
-        self.length(0x01FFFE1A)
+        self.length(TOO_LARGE)
 
     def test_length_of_all_ones(self):
-        self.length(0xFFFFFFFF)
+        self.length(ALL_ONES)
 
     def test_reset_in_a_frame(self):
         host = self.log_in()
-        host.link.sendall(frame(1, write_10(0, 64), bytes(64 * 512))[:5000])
+        host.link.sendall(PART_OF_A_WRITE)
         reset(host.link)
         self.finish()
 
@@ -132,7 +151,7 @@ class BadFrames(Case):
 
     def test_largest_frame_announced(self):
         host = self.log_in()
-        host.link.sendall(bytes.fromhex("01FFFE19") + bytes(1000))
+        host.link.sendall(announces(LARGEST, 1000))
         time.sleep(0.2)
         reset(host.link)
         self.finish()
@@ -155,33 +174,23 @@ class BadFrames(Case):
 
     def test_byte_by_byte(self):
         host = self.log_in()
-        for byte in frame(9, TEST_UNIT_READY):
-            host.link.sendall(bytes([byte]))
-            time.sleep(0.005)
+        sends_slowly(host.link, frame(9, TEST_UNIT_READY), pause=0.005)
         # (host 1 has no unit)
         self.wants(host.receives()[:2], (9, 2), "the answer to a frame that comes byte by byte")
         host.close()
         self.finish(1)
 
-    def fill(self):
-        """Asks for a whole unit over and over and reads nothing, until the answers fill what lies between the two."""
-        host = self.kept(self.server.log_in(2))
-        self.wants(host.greeting, ACCEPTED, "the login of a host that never reads")
-        host.link.settimeout(0.5)
-        with contextlib.suppress(TimeoutError, BlockingIOError):
-            for _ in range(3000):
-                host.sends(read_10(0, SECTORS))
-        return host
-
     def test_memory_beside_all_of_them(self):
         """32 that never log in, one that never reads, and those that stop midway: memory is within its bound."""
         silent = [connected(self.server.port) for _ in range(32)]
-        slow = self.fill()
-        for sent in LOGIN[:5], LOGIN + b"\1" + struct.pack(">I", 0xFFFFFFFF), random.Random(7).randbytes(4096):
+        slow = self.kept(self.server.log_in(2))
+        self.wants(slow.greeting, ACCEPTED, "the login of a host that never reads")
+        fill(slow)
+        for sent in LOGIN[:5], LOGIN + b"\1" + announces(ALL_ONES, 0), GARBAGE:
             answered(self.server.port, sent)
         for _ in range(4):
             host = self.log_in()
-            host.link.sendall(bytes.fromhex("01FFFE19") + bytes(5000))
+            host.link.sendall(announces(LARGEST, 5000))
             reset(host.link)
         # (as many commands as in a longer run)
         begun = time.monotonic()

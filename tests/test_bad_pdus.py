@@ -18,6 +18,26 @@ LOGINS = [
     ("a stage that isn't there", [NAME, TARGET_0], {"flags": 0x86}, "0200"),
     ("the seat of another initiator", [NAME, f"TargetName={TARGET}1"], {}, "0302"),
 ]
+# What is no PDU of a login.
+NO_PDUS = b"GET / HTTP/1.1\r\nHost: a\r\n\r\n" * 4, random.Random(7).randbytes(4096), bytes(48 * 3), b"\xFF" * 480
+UNKNOWN_OPCODES = 0x3E, 0x1F, 0x1C
+
+
+def login_request():
+    """A whole Login Request."""
+    text = f"{NAME}\0{TARGET_0}\0".encode()
+    head = struct.pack(">BBHIQI7I", 0x43, 0x87, 0, len(text), 0x4000013700000000, 0, 0, 1, 0, 0, 0, 0, 0)
+    return head + text + bytes(-len(text) % 4)
+
+
+def announces_most(initiator):
+    """Sends a login that announces 16 MiB."""
+    initiator.send(0x43, 0x87, (0, 1, 0), b"InitiatorName", size=0xFFFFFF)
+
+
+def is_refusal(said):
+    """Whether a target says nothing, or a Login Response that refuses, or a Reject."""
+    return not said or said[0] == 0x3F or said[0] == 0x23 and said[36] != 0
 
 
 class BadPdus(Case):
@@ -67,7 +87,7 @@ class BadPdus(Case):
     def test_unknown_opcodes(self):
         """Each is rejected with its header, as a command that isn't supported, and the session goes on."""
         initiator = self.kept(self.server.initiator(0))
-        for opcode in 0x3E, 0x1F, 0x1C:
+        for opcode in UNKNOWN_OPCODES:
             initiator.send(opcode, 0x80)
             said = initiator.receive()
             self.wants((said.opcode, said.response, said.data[0]), (0x3F, 0x05, opcode), f"opcode {opcode:02X}h")
@@ -85,13 +105,10 @@ class BadPdus(Case):
         self.finish()
 
     def test_no_pdus(self):
-        requests = b"GET / HTTP/1.1\r\nHost: a\r\n\r\n" * 4
-        for sent in requests, random.Random(7).randbytes(4096), bytes(48 * 3), b"\xFF" * 480:
+        for sent in NO_PDUS:
             with self.subTest(sent[:16]):
                 said = answered(self.server.iscsi_port, sent)
-                # (a Login Response that refuses, a Reject, or nothing)
-                is_refused = not said or said[0] == 0x3F or said[0] == 0x23 and said[36] != 0
-                self.holds(is_refused, "nothing, or a refusal", said[:60])
+                self.holds(is_refusal(said), "nothing, or a refusal", said[:60])
         self.finish()
 
     def test_longest_data_announced(self):
@@ -99,7 +116,7 @@ class BadPdus(Case):
         before = most_resident(self.server.pid)
         for _ in range(8):
             initiator = self.connected()
-            initiator.send(0x43, 0x87, (0, 1, 0), b"InitiatorName", size=0xFFFFFF)
+            announces_most(initiator)
             initiator.close()
         used = most_resident(self.server.pid) - before
         self.holds(used < 8 * 1024, "less than 8 MiB more are resident", f"{used} KiB")
@@ -107,9 +124,7 @@ class BadPdus(Case):
 
     def test_login_cut_at_each_byte(self):
         """A Login Request that ends before its last byte is not answered."""
-        text = f"{NAME}\0{TARGET_0}\0".encode()
-        whole = struct.pack(">BBHIQI7I", 0x43, 0x87, 0, len(text), 0x4000013700000000, 0, 0, 1, 0, 0, 0, 0, 0)
-        whole += text + bytes(-len(text) % 4)
+        whole = login_request()
         said = {answered(self.server.iscsi_port, whole[:end]) for end in range(len(whole))}
         self.wants(said, {b""}, "the answers to a login that is cut")
         self.finish()

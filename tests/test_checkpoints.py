@@ -56,7 +56,7 @@ class Unit:
                 pass
 
     def fills(self, session, length):
-        """Writes so many bytes, or until the session ends: 1 MiB after the other. The last one makes all last."""
+        """Writes `length` bytes, or until the session ends: one MiB after the other. The last one makes all last."""
         with contextlib.suppress(OSError):
             for left in range(-(-length // MIB) - 1, -1, -1):
                 if not self.write(session, len(self.written) * PIECE % self.sectors, PIECE, left % 2 == 0):

@@ -73,8 +73,8 @@ class Discarding(Case):
         found, said = self.initiator.asks(block, lun, 0xC1, expected)
         return found, said.status, said.code
 
-    def tells(self, lba, count, status, lun=0):
-        """Looks that GET LBA STATUS from an LBA on tells of this run."""
+    def reports(self, lba, count, status, lun=0):
+        """Looks that GET LBA STATUS from an LBA on reports this run."""
         wanted = (status_data(lba, count, status), *GOOD)
         self.wants(self.looks(get_lba_status(lba), lun=lun), wanted, f"the status from LBA {lba} of LUN {lun} on")
 
@@ -157,11 +157,11 @@ class Discards(Discarding):
 
     def test_status_of_a_fresh_unit(self):
         """One deallocated run, from whichever LBA on, to the end; the next LUN has its own."""
-        self.tells(0, SECTORS, 1)
-        self.tells(7, SECTORS - 7, 1)
-        self.tells(SECTORS - 1, 1, 1)
-        self.tells(0, 63, 1, lun=1)
-        self.tells(62, 1, 1, lun=1)
+        self.reports(0, SECTORS, 1)
+        self.reports(7, SECTORS - 7, 1)
+        self.reports(SECTORS - 1, 1, 1)
+        self.reports(0, 63, 1, lun=1)
+        self.reports(62, 1, 1, lun=1)
         self.wants(self.runs(), [(0, SECTORS, 1)], "the runs of a fresh unit")
         self.does(write_10(62, 1), b"\xa5" * 512, lun=1)
         self.wants(self.runs(1), [(0, 62, 1), (62, 1, 0)], "the runs of the next LUN, whose last block was written")
@@ -198,9 +198,9 @@ class Discards(Discarding):
         """The LBA returned is the one asked for, and the number goes on to the end of its run."""
         self.scatters()
         for lba, count, status in (99, 1, 1), (101, 1, 0), (102, 96, 1), (103, 95, 1), (199, 7, 0), (205, 1, 0):
-            self.tells(lba, count, status)
-        self.tells(207, SECTORS - 209, 1)
-        self.tells(SECTORS - 1, 1, 0)
+            self.reports(lba, count, status)
+        self.reports(207, SECTORS - 209, 1)
+        self.reports(SECTORS - 1, 1, 0)
         self.finish()
 
     def test_walk_over_many_runs(self):
@@ -289,7 +289,7 @@ class CachedDiscards(Discarding):
     def is_mapped_in_cache(self, operator):
         """Whether, of blocks that are said to be mapped, one has no home: it waits in the cache."""
         self.does(write_same_16(0, 100, 4000), b"\xa5" * 512)
-        self.tells(100, 4000, 0)
+        self.reports(100, 4000, 0)
         # (a block without a home now had none before)
         return "-" in operator.asks("levels 0 0")[0][50:2050]
 

@@ -1,5 +1,5 @@
 """What a server says of disks that fail, where an operator looks: on standard error, also without --log."""
-from tests.harness import Case
+from tests.harness import Case, untimed
 
 
 class Failures(Case):
@@ -16,7 +16,7 @@ class Failures(Case):
         return server.ended()
 
     def says(self, ended, status, last, *lines):
-        self.wants(ended.error.splitlines(), list(lines), "the server's standard error")
+        self.wants(untimed(ended.error).splitlines(), list(lines), "the server's standard error")
         self.wants((ended.status, ended.out.splitlines()[-1]), (status, last), "the status and the last line")
 
     def test_none(self):

@@ -13,6 +13,8 @@ BAD = {
     "no host": (b"GET / HTTP/1.1\r\n\r\n", b"400"),
     "another host": (b"GET / HTTP/1.1\r\nHost: example.org\r\n\r\n", b"421"),
     "another host's port": (b"GET / HTTP/1.1\r\nHost: example.org:80\r\n\r\n", b"421"),
+    "a host that begins as this one": (b"GET / HTTP/1.1\r\nHost: 127.0.0.1.example.org\r\n\r\n", b"421"),
+    "a host that ends as this one": (b"GET / HTTP/1.1\r\nHost: example-localhost:80\r\n\r\n", b"421"),
     "a long path": (b"GET /" + b"x" * 1_000_000 + b" HTTP/1.1\r\nHost: localhost\r\n\r\n", b"414"),
     "a long field": (b"GET / HTTP/1.1\r\nHost: localhost\r\nX: " + b"x" * 1_000_000 + b"\r\n\r\n", b"431"),
     "content": (b"GET / HTTP/1.1\r\nHost: localhost\r\nContent-Length: 5\r\n\r\nhello", b"413"),

@@ -6,12 +6,13 @@ smallest array. One for which there is no memory is refused with one line. The f
 any moment; with FIGURES=1 each is printed, and the largest array of large blocks is tried too, with 12 GiB of disks.
 """
 import os
+import re
 import resource
 import time
 import unittest.mock
 
 from tests.harness import ACCEPTED, BUSY, GOOD, TEST_UNIT_READY, Case, Ended, connected, free_port, most_resident
-from tests.harness import program, ran, rest_of, text_of, write_10
+from tests.harness import program, ran, rest_of, text_of, untimed, write_10
 
 FIGURES = os.environ.get("FIGURES")
 KIB, MIB, SECTOR = 1 << 10, 1 << 20, 512
@@ -21,6 +22,8 @@ UNIT, PART = 1 << 20, 128
 # By geometry: the bytes of a block, and the rows of an extent.
 SHAPES = {"small": (1 << 10, 2), "paper": (1 << 16, 16)}
 LARGEST = ("paper", 12, 1024, 0)
+# What is logged of a history that takes a good part of the memory.
+SHARE = re.compile(r"\[WARN  autoraid\] the history takes (\d+) % of the memory: (\d+) of (\d+) MiB")
 # What a command takes beside its data: an entry of the history, and one of its host's transcript.
 ENTRY = 136 + 128
 
@@ -189,13 +192,16 @@ class NoMore(Case):
                 self.holds(is_refused, "a service or one message", (said, ended))
 
     def test_memory_that_is_used_up(self):
-        """Who is refused is logged, and operators are let in."""
+        """How much the history takes and who is refused is logged, and operators are let in."""
         limit = self.most_of_a_start()[0] + 64 * MIB
         how = {"doors": self.DOORS, "limits": {resource.RLIMIT_AS: limit}}
         server = self.serve("--extents", "16", "0:0:128", **how)
         host, commands = self.kept(server.log_in(0)), 0
         while (said := host.writes(0, bytes(128 * SECTOR))).status == GOOD:
             commands += 1
+            if commands % 64 == 0:
+                # (three looks at the array, which are a tenth of a second apart, for each 4 MiB)
+                time.sleep(0.3)
         self.wants(said.status, BUSY, f"command {commands + 1}")
         begun = time.monotonic()
         for _ in range(50):
@@ -204,6 +210,24 @@ class NoMore(Case):
         passed = time.monotonic() - begun
         self.wants(server.answers_to("health\n"), "whole\n", "an operator")
         self.wants(server.answers_to("stop\n"), "stopped\n", "an operator's stop")
-        lines = self.ends(server, error=None).error.splitlines()
+        lines = untimed(self.ends(server, error=None).error).splitlines()
+        lines = self.without_shares(lines, 64)
         self.wants(set(lines), {"[WARN  autoraid] an initiator was refused: no memory"}, "the server's standard error")
         self.holds(1 <= len(lines) <= passed + 2, "a line a second at most", (len(lines), passed))
+
+    def without_shares(self, lines, room):
+        """The lines but those of a history that takes 50, 80, 90 % of the memory, each of which is there once.
+
+        A look that comes late on a busy machine warns of the greatest alone.
+        """
+        said = [SHARE.fullmatch(line) for line in lines]
+        shares = [[int(number) for number in share.groups()] for share in said if share]
+        percentages = [share for share, _, _ in shares]
+        wanted = [share for share in (50, 80, 90) if share in percentages or share == 90]
+        self.wants(percentages, wanted, "the percentages that the log has")
+        for share, taken, memory in shares:
+            is_right = share * memory <= 100 * (taken + 1) and taken <= memory + 1
+            self.holds(is_right, f"at least {share} % of the memory", (taken, memory))
+            # (the session and its log take some of it, and what is above the limit is left of the start)
+            self.holds(abs(memory - room) <= room / 4, f"a memory of about {room} MiB", memory)
+        return [line for line, share in zip(lines, said) if not share]

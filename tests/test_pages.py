@@ -142,9 +142,15 @@ class Pages(Case):
 
     def lost(self, *disks):
         """Looks which disks an array is shown to have lost."""
-        self.wants(self.server.status_json()["lost_disks"], list(disks), "the disks that were lost, as JSON")
+        status, picture = self.server.status_json(), self.server.get("/picture.svg")[2]
+        self.wants(status["lost_disks"], list(disks), "the disks that were lost, as JSON")
         said = [self.server.sample(f'autoraid_disk_lost{{disk="{disk}"}}') for disk in range(6)]
         self.wants(said, [str(int(disk in disks)) for disk in range(6)], "the same in metrics")
+        words = ">Disks {} and {} were lost at one moment, and the data with them.</text>".format(*disks)
+        self.wants((picture.count(words), picture.count(">out</text>")), (1, 2), "the words of the picture")
+        said = [picture.count(f"<rect class='missing' x='{64 + 92 * disk}' ") for disk in range(6)]
+        wanted = [status["extents"] * (disk in disks) for disk in range(6)]
+        self.wants(said, wanted, "extents that it hatches, by disk")
 
     def test_a_disk_lost_in_a_rebuild(self):
         """A disk that is replaced, and not rebuilt yet, is one of the two."""

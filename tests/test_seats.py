@@ -2,7 +2,7 @@
 import threading
 import time
 
-from tests.harness import ACCEPTED, REFUSED, TARGET, Case, Initiator, connected, rest_of, waited
+from tests.harness import ACCEPTED, REFUSED, TARGET, Case, Initiator, connected, rest_of, untimed, waited
 
 
 class Seats(Case):
@@ -89,7 +89,7 @@ class Refusals(Case):
         passed = time.monotonic() - begun
         host.close()
         self.wants(operators[0].answer_to(b"stop\n"), "stopped\n", "a stop")
-        lines = self.ends(server, [0, 0, 0, 0], error=None).error.splitlines()
+        lines = untimed(self.ends(server, [0, 0, 0, 0], error=None).error).splitlines()
         who = [line.removeprefix("[WARN  autoraid] ") for line in lines]
         wanted = {"a host was refused: it has a session", "an operator was refused: four others converse"}
         self.wants(set(who), {*wanted, "an initiator was refused: its host is in use"}, "the lines")
@@ -138,7 +138,7 @@ class Silence(Case):
         for number in range(16):
             initiator = self.kept(Initiator(server.iscsi_port))
             if number % 2:
-                said = initiator.log_in("InitiatorName=iqn.2026-11.example:host", "SessionType=Discovery")
+                said = initiator.discovers()
                 self.wants(said.login_status, b"\0\0", f"discovery {number}")
         begun = time.monotonic()
         initiator = self.kept(Initiator(server.iscsi_port))

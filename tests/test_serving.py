@@ -194,7 +194,7 @@ class Connections(Case):
         self.stops(server, [0, 0, 0, 0])
 
     def many_in_turn(self, log_in_each):
-        """Ten thousand connections, one after another, leave nothing behind."""
+        """Ten thousand connections, one after another, leave no trace."""
         server, early = self.serve("0:0:8"), 0
         for number in range(10_000):
             if log_in_each or number % 100 == 0:

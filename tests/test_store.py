@@ -11,7 +11,7 @@ import subprocess
 import tempfile
 import time
 
-from tests.harness import CHECK, GOOD, PATIENCE, Case, Server, connected, program, ran, waited
+from tests.harness import CHECK, GOOD, PATIENCE, Case, Server, connected, program, ran, untimed, waited
 from tests.test_metrics import SAMPLE
 
 SECTOR = 512
@@ -593,7 +593,7 @@ class Full(Stored):
         return True
 
     def leaves_room(self, count):
-        """Fills the disk but for so many bytes."""
+        """Fills the disk but for `count` bytes."""
         with open(self.ballast, "xb") as file:
             found = os.statvfs(self.ballast)
             os.posix_fallocate(file.fileno(), 0, found.f_bfree * found.f_frsize - count)
@@ -660,7 +660,7 @@ class Full(Stored):
         self.wants(server.answers_to("stop\n"), "stopped\n", "a stop without room for a new log")
         ended = self.ends(server, error=None)
         os.remove(self.ballast)
-        is_said = f"[WARN  autoraid] store {self.store}: " in ended.error
+        is_said = f"[WARN  autoraid] store {self.store}: " in untimed(ended.error)
         self.wants(is_said, self.generation() == before, "whether a line says that the old log stays")
         before, server = self.generation(), self.takes_up(unit)
         self.looks(server, written, len(written), "after a stop without a new log")

@@ -5,15 +5,10 @@ import struct
 import threading
 import time
 
-from tests.harness import ACCEPTED, LOGIN, Case, Initiator, connected, rest_of
+from tests.harness import ACCEPTED, LOGIN, Case, Initiator, connected, rest_of, sends_slowly
 
-
-def sends_slowly(link, text):
-    """Sends a byte at a time, until the other side has closed."""
-    with contextlib.suppress(OSError):
-        for byte in text:
-            link.sendall(bytes([byte]))
-            time.sleep(0.3)
+# The head of a request that a client sends a byte at a time.
+SLOW_HEAD = b"GET /healthz HTTP/1.1\r\nHost: localhost\r\nX: " + b"x" * 1000
 
 
 def closes(link):
@@ -74,7 +69,7 @@ class Timeouts(Case):
         server = self.serve("--login-timeout", "1", doors=("operator", "iscsi"))
         slow, begun = self.kept(connected(server.iscsi_port)), time.monotonic()
         quick = self.kept(Initiator(server.iscsi_port))
-        said = quick.log_in("InitiatorName=iqn.2026-11.example:host", "SessionType=Discovery")
+        said = quick.discovers()
         self.wants((said.opcode, said.login_status), (0x23, b"\0\0"), "the login of a quick initiator")
         # (a Login Request, with the first ten bytes of 100 that it announces)
         slow.sendall(struct.pack(">BBHI", 0x43, 0x87, 0, 100) + bytes(40))
@@ -90,7 +85,7 @@ class Timeouts(Case):
         server, begun = self.serve("--login-timeout", "5", doors=("operator", "iscsi")), time.monotonic()
         idle, busy = (self.kept(Initiator(server.iscsi_port)) for _ in range(2))
         for initiator in idle, busy:
-            said = initiator.log_in("InitiatorName=iqn.2026-11.example:host", "SessionType=Discovery")
+            said = initiator.discovers()
             self.wants((said.opcode, said.login_status), (0x23, b"\0\0"), "a login for discovery")
         with contextlib.suppress(OSError):
             while busy.ping() and time.monotonic() - begun < 30:
@@ -118,11 +113,8 @@ class Timeouts(Case):
         server, is_over = self.serve(doors=("operator", "http")), threading.Event()
 
         def asks_slowly():
-            with connected(server.http_port) as link, contextlib.suppress(OSError):
-                for byte in b"GET /healthz HTTP/1.1\r\nHost: localhost\r\nX: " + b"x" * 1000:
-                    if is_over.wait(0.3):
-                        return
-                    link.sendall(bytes([byte]))
+            with connected(server.http_port) as link:
+                sends_slowly(link, SLOW_HEAD, is_over=is_over)
 
         clients = [threading.Thread(target=asks_slowly) for _ in range(24)]
         for client in clients:
