@@ -362,7 +362,7 @@ class Operator:
         return last
 
     def commands(self, hosts=HOSTS):
-        """How many commands of hosts, of the first so many, the array has counted."""
+        """How many commands of the first `hosts` hosts the array has counted."""
         return sum(int(line.split()[3]) for line in self.asks("counts")[:hosts])
 
     def close(self):

@@ -40,7 +40,7 @@ not_false : (b : Bool) → not b ≡ false → b ≡ true
 not_false true e = refl
 not_false false e = absurd (true≢false e)
 
--- so many more blocks fit
+-- this number of blocks fits, too
 fits : (t : Tables) (m : ℕ) → TablesAgree t → m ≤ room t
     → reserved t + m ≤ 3 * rows_of t.geometry * (length t.groups - 1)
 fits t m ok h = omega (arith, ok.room, h)

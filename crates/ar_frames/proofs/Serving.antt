@@ -127,7 +127,7 @@ part_after a b c xs ys first part = record {
       (Writing-trans a b c xs (take part.n ys) true first part.written);
 }
 
--- and then answers whose last one has so many bytes
+-- and then answers of which the last has this length
 but_last_after : (a b c : SinkState) (xs ys : List ℕ) (last least : ℕ) → last ≤ least → Writing a b xs false
     → WritesAllButLast b c ys last
     → WritesAllButLast a c (xs ++ ys) least

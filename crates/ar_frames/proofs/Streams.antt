@@ -122,7 +122,7 @@ pub take-sent_pair : (at n : ℕ) (xs ys rest : List ℕ) → rest ≡ drop at (
 take-sent_pair at n xs ys rest is =
     ap (λ l. take at (xs ++ ys) ++ take n l) is ∙ sym (take-add at n (xs ++ ys))
 
--- so many bytes came, and then these
+-- some bytes came, and then these
 pub came_more : (a b c : SourceState) (xs : List ℕ) (count wanted : ℕ) → CameAll a b count → Reading b c xs false
     → count + length xs ≡ wanted → CameAll a c wanted
 came_more a b c xs count wanted came more e = record {
@@ -131,7 +131,7 @@ came_more a b c xs count wanted came more e = record {
   read = Reading-trans a b c came.bytes xs false came.read more;
 }
 
--- so many bytes came, and then a part of what was wanted
+-- some bytes came, and then a part of what was wanted
 pub came_part : (a b c : SourceState) (xs : List ℕ) (count wanted : ℕ) (f : Bool) → CameAll a b count → Reading b c xs f
     → count + length xs < wanted → CamePart a c wanted f
 came_part a b c xs count wanted f came more e = record {

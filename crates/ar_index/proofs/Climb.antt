@@ -27,7 +27,7 @@ pub record IsClimbing (place : Addr → ℕ) (size : ℕ) (old nodes : List Choi
   pub leaves : drop size nodes ≡ drop size old
   pub few : 2 ^ (steps - before) * node ≤ start
   pub on : before ≤ steps
-  -- the node is so many levels above the first, and those below it in number are as they were
+  -- the node is on this level above the first, and those below it in number are as they were
   pub here : node ≡ above (steps - before) start
   pub rest : (i : ℕ) → i < node → node_at nodes i ≡ node_at old i
   -- the first has changed where a step was taken, and so has each on the way, this one too where its change is reported

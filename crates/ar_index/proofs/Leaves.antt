@@ -37,7 +37,7 @@ module _ (size leaf : ℕ) (old new : List Choices) (c : Choices) (put : drop si
       ap (λ n. take n (drop size new)) (let e : leaf + 1 ≡ suc leaf = omega arith in e) ∙ ap (take (suc leaf)) put
       ∙ take-suc-set (drop size old) leaf c (omega (arith, length-drop size old))
 
-  -- the tree with it, where so many leaves are in use then
+  -- the tree with it, and how many leaves are in use then
   pub put_grown : (count more : ℕ) → IsGrown size count old → length new ≡ 2 * size → count ≤ more → leaf < more
       → more ≤ size → IsGrown size more new
   put_grown count more ok twice le inside within = record {

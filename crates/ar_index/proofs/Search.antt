@@ -10,7 +10,7 @@ use Rattle.ar_index.specs.Choices.{nothing, join, search_all}
 use Rattle.ar_index.specs.Tree.{node_at, IsTree, leaves_under}
 use Rattle.ar_index.proofs.Joins.{join_nothing, search_both}
 
--- so many places further on
+-- the place further on by a number of places
 further : (a b : ℕ) (xs : List Choices) → drop b (drop a xs) ≡ drop (a + b) xs
 further zero b xs = ap (λ n. drop n xs) (let e : b ≡ 0 + b = omega arith in e)
 further (suc a) b [] = nil b ∙ sym (nil (suc a + b))

@@ -33,7 +33,7 @@ several_alone a v p = omega arith
 last_one : (n m : ℕ) → n + 1 + m ≡ 48 → 0 < n → (n + 1) * m < 47 + n * (m + 1)
 last_one n m q h = omega arith
 
--- what a group with so many blocks has once it lost one
+-- how many blocks a group has once it lost one
 unfoldable pub work_after : ℕ → ℕ
 work_after a = if eqb a 0 then 0 else work_in a
 

@@ -6,7 +6,7 @@ use Rattle.std.proofs.lemmas.List.{flat_map_more}
 use Rattle.ar_picture.specs.declared.folds.Fold.{Fold}
 use Rattle.ar_picture.specs.Folds.{extents_of}
 
--- so many numbers, and more after them
+-- some numbers, and more after them
 pub range_more : (a m n : ℕ) → range_with_len a m ++ range_with_len (a + m) n ≡ range_with_len a (m + n)
 range_more a zero n = let e : a + 0 ≡ a = omega arith in let f : 0 + n ≡ n = omega arith in rw (e, f)
 range_more a (suc m) n =

@@ -119,7 +119,7 @@ listed_more t place =
     single None = refl
     single (Some u) = refl
 
--- The first so many blocks of a unit were counted, and so many of them have a home.
+-- The first blocks of a unit were counted, with those of them that have a home.
 pub record Counts (homes : List (Option Slot)) (place rb placed : ℕ) (old new : List Held) : Type 0 where
   pub within : rb ≤ length homes
   pub homed : placed ≡ count_by is_some (take rb homes)

@@ -135,7 +135,7 @@ plays_none script s = record { lines = []; text = []; plays = none_played s; all
 one_taken : (lines : List (List ℕ)) (line : List ℕ) (n : ℕ) → length lines ≡ n → length (lines ++ line ∷ []) ≡ suc n
 one_taken lines line n is = let more = length-append lines (line ∷ []) in omega arith
 
--- so many lines were taken and executed, and their answers appended
+-- some lines were taken and executed, and their answers appended
 pub record WritesAll (script left : Option (List (List ℕ))) (old new : ArrayState) (begun : ℕ)
     (before after : Option (List ℕ)) : Type 0 where
   pub all : PlaysAll script left old new begun
@@ -509,7 +509,7 @@ pub there_none : (script : Option (List (List ℕ))) (fault : Fault) → fault �
 there_none None fault is = subst (λ (f : Fault). IsLineThere None f) (sym is) tt
 there_none (Some lines) fault is = subst (λ (f : Fault). IsLineThere (Some lines) f) (sym is) (inr (inr (omega arith)))
 
--- where so many lines were taken, and one more is begun
+-- where some lines were taken, and one more is begun
 pub there_begun : (script left new : Option (List (List ℕ))) (old mid : ArrayState) (n given : ℕ) (begun : Bool)
     → PlaysAll script left old mid n → Took left new [] → given ≡ n
     → AreThere new (cond begun 1 0) → AreThere script (given + cond begun 1 0)

@@ -18,7 +18,7 @@ use Rattle.ar_store.specs.declared.form.FourDisks.{FourDisks}
 use Rattle.ar_store.specs.Fullest.{AreFourFullest, HasFewCounts, one_fewer, four_fewer, next_members}
 use Rattle.ar_store.specs.Forming.{AreFullest, HasFewLoose, IsAllLoose, without}
 
--- the marks of a disk of which so many extents are taken, and so many after them are unassigned
+-- the marks of a disk whose first `taken` extents are assigned, and the others aren't
 abbrev pub line : ℕ → ℕ → List Bool
 line zero zero = []
 line zero (suc c) = true ∷ line zero c
@@ -152,7 +152,7 @@ lined_count s counts extents d lined inside =
     ap (λ (row : List Bool). count_by (λ mark. mark) row) (lined.marks d inside)
     ∙ line_count (extents - get_or counts d 0) (get_or counts d 0)
 
--- the lowest loose one is the first of so many at the disk's end
+-- the lowest unassigned one is the first of those at the disk's end
 pub lined_lowest : (s : SetState) (counts : List ℕ) (extents d : ℕ) → IsLined s counts extents → d < length counts
     → 0 < get_or counts d 0
     → lowest_loose s d ≡ Some (extents - get_or counts d 0)

@@ -56,7 +56,7 @@ pub record HasReached (s : SetState) (t : Tables) (counts : List ℕ) (extents :
 abbrev pub IsBelow : List ℕ → ℕ → Members → ℕ → Type 0
 IsBelow counts extents m i = (member m i).extent + slice_index counts (member m i).disk < extents
 
--- what holds while the groups of so many disks of so many extents are planned, from how many of each disk are loose
+-- what holds while groups are planned, from how many extents of each disk are unassigned
 pub record IsPlanning (geometry : Geometry) (disks extents : ℕ) (t : Tables) (counts : List ℕ) : Type 0 where
   pub size : length counts ≡ disks
   pub few : (d : ℕ) → slice_index counts d ≤ extents

@@ -105,10 +105,10 @@ pub zeros_put : (a b d : StoreState) (k : Key) (way : Way) → IsSpace b → Fol
     → Leads a.book k b.book way → IsReadyFor b k way → way ≢ Broken
     → IsZerosOnWay a.book k b way → BesideWay way b d → LeavesZeros a k d
 zeros_put a b d k (Home s) space bd leads ready sound held beside = record {
-  behind = λ from to unplaced mirrored parity few is_from is_to. absurd (none-some s (sym unplaced ∙ leads.home));
+  after = λ from to unplaced mirrored parity few is_from is_to. absurd (none-some s (sym unplaced ∙ leads.home));
 }
 zeros_put a b d k (Hole s) space bd leads ready sound held beside = record {
-  behind = λ from to unplaced mirrored parity few is_from is_to.
+  after = λ from to unplaced mirrored parity few is_from is_to.
       let left = held
       (record {
         unplaced = unplaced;

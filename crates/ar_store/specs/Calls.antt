@@ -75,7 +75,7 @@ pub record HoldsZerosFrom (s : StoreState) (group first : ℕ) : Type 0 where
 
 -- After a put that needed a squeeze each slot after the block's own holds the zero block.
 pub record LeavesZeros (old : StoreState) (k : Key) (new : StoreState) : Type 0 where
-  pub behind :
+  pub after :
       (from to : ℕ) → home old.book k ≡ None → HasNoHole old.book Mirrored → HasNoHole old.book Parity
       → free_groups old.book < 2
       → IsFullMirrored old.book from → IsLowestFree old.book to

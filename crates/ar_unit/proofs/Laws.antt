@@ -111,7 +111,7 @@ answer-with_bytes (Present sectors attention) cdb bytes =
     each_present (λ a. a.reply.payload ≢ [] → a.state ≡ Present sectors attention) sectors attention cdb bytes
     (λ _ _. refl) (λ _ _. refl) (λ _ _ _ _ has. absurd (has refl)) (λ _ _ has. absurd (has refl))
 
--- there are so many pieces
+-- how many pieces there are
 pub length-cut : (len n : ℕ) (bytes : List ℕ) → length (cut len n bytes) ≡ n
 length-cut len zero bytes = refl
 length-cut len (suc n) bytes = let rest = length-cut len n (drop len bytes) in omega (arith, rest)
@@ -122,7 +122,7 @@ pub length-written :
     → length (written sectors lba count bytes) ≡ length sectors
 length-written sectors lba count bytes h = simp (length-append, length-take, length-drop, length-cut) (omega arith)
 
--- a unit that is there, with so many sectors and this mark
+-- a unit that exists, with this number of sectors and this pending UNIT ATTENTION
 abbrev of_unit : ℕ → Bool → Shape
 of_unit n attention = record { present = true; sectors = n; attention = attention }
 

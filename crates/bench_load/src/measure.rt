@@ -10,7 +10,7 @@ use std::thread;
 use std::thread::Threads;
 use std::time::Clock;
 
-/// So many hosts, each of which asks for the same again and again.
+/// A number of hosts, each of which sends the same request again and again.
 #[derive(Clone, Copy)]
 pub struct Trial {
     pub ports: Ports,

@@ -113,7 +113,7 @@ impl Shape {
     }
 }
 
-/// So many bytes, all zero.
+/// A buffer of this length, all zeros.
 pub fn zeros(alloc: Global, len: usize) -> Result<Vec<u8>, Failure>
     ensures { IfOk result (λ bytes. vec_len bytes ≡ len) }
 {

@@ -196,7 +196,7 @@ fn add_into(bytes: &[u8], target: &mut [u8])
     }
 }
 
-// So many blocks of one byte.
+// Blocks of one byte.
 fn blocks(alloc: Global, geometry: Geometry, count: usize, byte: u8) -> Result<Vec<u8>, AllocError>
     requires { count ≤ 65536 }
     ensures { IfOk result (λ bytes. length bytes.items ≡ count * block_len_of geometry) }

@@ -395,7 +395,7 @@ impl Stage {
         )
     }
 
-    // So many events in the background, each of which has to move a block.
+    // Maintenance events, each of which has to move a block.
     fn move_blocks(&mut self, alloc: Global, count: u32) -> Result<(), WorkloadFault> {
         for _ in 0..count {
             if !matches!(self.move_block(alloc), Move::Moved { .. }) {
@@ -418,7 +418,7 @@ impl Stage {
         }
     }
 
-    // So many events in the background, each of which has to move an extent or to form a group.
+    // Maintenance events, each of which has to move an extent or to form a group.
     fn move_extents(&mut self, alloc: Global, count: u32) -> Result<(), WorkloadFault> {
         for _ in 0..count {
             if !self.move_extent(alloc) {

@@ -28,7 +28,7 @@ type Row<'a> = (&'a str, usize, &'a [u8], IscsiEnd, Answer<'a>);
 struct Request<'a> {
     before: &'a [&'a [u8]],
     pdu: &'a [u8],
-    behind: &'a [u8],
+    after: &'a [u8],
     answered: &'a [&'a [u8]],
     answer: &'a [(&'a [u8], &'a [u8])],
 }
@@ -63,7 +63,7 @@ const READ_BYTES: &[u8] = &[0x5A; 512];
 const READ: Request = Request {
     before: &[pdus::LOGIN],
     pdu: pdus::READ,
-    behind: NO_BYTES,
+    after: NO_BYTES,
     answered: &[pdus::LOGGED_IN],
     answer: &[
         (pdus::READ_HEAD_0, READ_BYTES),
@@ -147,7 +147,7 @@ fn fields_of_a_read(rt: HostRuntime) {
 const WRITE: Request = Request {
     before: &[pdus::LOGIN],
     pdu: pdus::WRITE_AHEAD,
-    behind: NO_BYTES,
+    after: NO_BYTES,
     answered: &[pdus::LOGGED_IN],
     answer: &[(pdus::R2T_AHEAD, NO_BYTES)],
 };
@@ -191,7 +191,7 @@ fn fields_of_a_write(rt: HostRuntime) {
 const DATA_OUT: Request = Request {
     before: &[pdus::LOGIN, pdus::WRITE_AHEAD],
     pdu: pdus::DATA_AHEAD_HEAD,
-    behind: &[0xA5; 1024],
+    after: &[0xA5; 1024],
     answered: &[pdus::LOGGED_IN, pdus::R2T_AHEAD],
     answer: &[(pdus::WRITTEN_AHEAD, NO_BYTES)],
 };
@@ -221,7 +221,7 @@ fn fields_of_data_out(rt: HostRuntime) {
 const NOP_OUT: Request = Request {
     before: &[pdus::LOGIN],
     pdu: pdus::PING,
-    behind: NO_BYTES,
+    after: NO_BYTES,
     answered: &[pdus::LOGGED_IN],
     answer: &[(pdus::FIRST_PONG, NO_BYTES)],
 };
@@ -253,7 +253,7 @@ fn fields_of_a_nop_out(rt: HostRuntime) {
 const MANAGEMENT: Request = Request {
     before: &[pdus::LOGIN],
     pdu: pdus::RESET_LUN_9,
-    behind: NO_BYTES,
+    after: NO_BYTES,
     answered: &[pdus::LOGGED_IN],
     answer: &[(pdus::NO_LUN_9, NO_BYTES)],
 };
@@ -285,7 +285,7 @@ fn fields_of_task_management(rt: HostRuntime) {
 const TEXT: Request = Request {
     before: &[pdus::LOGIN_DISCOVERY],
     pdu: pdus::SEND_TARGETS,
-    behind: NO_BYTES,
+    after: NO_BYTES,
     answered: &[pdus::LOGGED_IN_DISCOVERY],
     answer: &[(pdus::TARGETS, NO_BYTES)],
 };
@@ -315,7 +315,7 @@ fn fields_of_a_text(rt: HostRuntime) {
 const LOGOUT: Request = Request {
     before: &[pdus::LOGIN],
     pdu: pdus::LOGOUT,
-    behind: NO_BYTES,
+    after: NO_BYTES,
     answered: &[pdus::LOGGED_IN],
     answer: &[(pdus::FIRST_LOGGED_OUT, NO_BYTES)],
 };
@@ -343,7 +343,7 @@ fn fields_of_a_logout(rt: HostRuntime) {
 const LOGIN: Request = Request {
     before: &[],
     pdu: pdus::LOGIN,
-    behind: NO_BYTES,
+    after: NO_BYTES,
     answered: &[],
     answer: &[(pdus::LOGGED_IN, NO_BYTES)],
 };
@@ -426,7 +426,7 @@ fn play_row(rt: &impl Abort, alloc: Global, request: &Request, row: &Row) {
     let changed = with(rt, alloc, request.pdu, at, bytes);
     let mut input = joined(rt, alloc, request.before);
     append(rt, &mut input, &changed);
-    append(rt, &mut input, request.behind);
+    append(rt, &mut input, request.after);
     let mut output = joined(rt, alloc, request.answered);
     expect(rt, alloc, &mut output, request, &changed, answer);
     let mut reader = MemSource::new(input);
@@ -476,10 +476,10 @@ fn append_answer(
     at: usize,
     bytes: &[u8],
 ) {
-    for (head, behind) in request.answer {
+    for (head, after) in request.answer {
         let changed = with(rt, alloc, head, at, bytes);
         append(rt, output, &changed);
-        append(rt, output, behind);
+        append(rt, output, after);
     }
 }
 

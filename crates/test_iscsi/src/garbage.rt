@@ -113,12 +113,12 @@ fn commands_in(input: &[u8]) -> (usize, usize) {
     let mut rest = input;
     // (a PDU has at least one byte)
     for _ in 0..input.len() {
-        let Some((opcode, len, behind)) = split_pdu(rest) else {
+        let Some((opcode, len, after)) = split_pdu(rest) else {
             break;
         };
         commands = commands.saturating_add(usize::from(opcode % 64 == 0x01));
         bytes = bytes.saturating_add(len);
-        rest = behind;
+        rest = after;
     }
     (commands, bytes)
 }
@@ -127,13 +127,13 @@ fn commands_in(input: &[u8]) -> (usize, usize) {
 fn are_pdus(written: &[u8]) -> bool {
     let mut rest = written;
     for _ in 0..written.len() {
-        let Some((opcode, _, behind)) = split_pdu(rest) else {
+        let Some((opcode, _, after)) = split_pdu(rest) else {
             break;
         };
         if !matches!(opcode, 0x20..=0x26 | 0x31 | 0x3F) {
             return false;
         }
-        rest = behind;
+        rest = after;
     }
     rest.is_empty()
 }
@@ -145,12 +145,12 @@ pub fn split_pdu(bytes: &[u8]) -> Option<(u8, usize, &[u8])> {
     let len = number(header.get(5..8)?);
     let additional = number(header.get(4..5)?).saturating_mul(4);
     let padding = (4 - len % 4) % 4;
-    let behind = bytes
+    let after = bytes
         .get(48..)?
         .get(additional..)?
         .get(len..)?
         .get(padding..)?;
-    Some((*header.first()?, len, behind))
+    Some((*header.first()?, len, after))
 }
 
 // A number of at most three bytes, the highest first.

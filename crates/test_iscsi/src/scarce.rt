@@ -123,7 +123,7 @@ fn serve(rt: &impl Abort, alloc: Global, session: Session, output: &[u8]) -> boo
     } else {
         is_for_memory(end) && other.is_empty()
     };
-    assert!(rt; is_fine, "{end:?} behind {written:?}");
+    assert!(rt; is_fine, "{end:?} after {written:?}");
     false
 }
 
@@ -131,14 +131,14 @@ fn serve(rt: &impl Abort, alloc: Global, session: Session, output: &[u8]) -> boo
 fn after_same<'a>(written: &'a [u8], wanted: &[u8]) -> &'a [u8] {
     let (mut rest, mut left) = (written, wanted);
     for _ in 0..written.len() {
-        let (Some((_, _, behind)), Some((_, _, after))) = (split_pdu(rest), split_pdu(left)) else {
+        let (Some((_, _, rest_after)), Some((_, _, left_after))) = (split_pdu(rest), split_pdu(left)) else {
             break;
         };
-        let len = rest.len().saturating_sub(behind.len());
+        let len = rest.len().saturating_sub(rest_after.len());
         if rest.get(..len) != left.get(..len) {
             break;
         }
-        (rest, left) = (behind, after);
+        (rest, left) = (rest_after, left_after);
     }
     rest
 }

@@ -1,4 +1,4 @@
--- So many bytes are this one.
+-- The bytes up to here are this one.
 use Rattle.std.proofs.Common.{◌≡◌, ◌-◌, ◌<◌, ◌≤◌, ℕ, length, get_or}
 use Rattle.ar_script.proofs.runs.far_len.Given as goal
 
