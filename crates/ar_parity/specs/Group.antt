@@ -7,7 +7,7 @@ use Rattle.ar_disks.specs.Geometry.{rows_of, block_len_of}
 use Rattle.ar_disks.specs.Members.{member}
 use Rattle.ar_extents.specs.declared.health.Health.TheVariants.{Broken}
 use Rattle.ar_extents.specs.Health.{is_lost}
-use Rattle.ar_extents.specs.Set.{SetState, content, IsSound}
+use Rattle.ar_extents.specs.Set.{SetState, content, IsLost, IsSound}
 use Rattle.ar_extents.specs.Follows.{Keeps, WorksOn}
 use Rattle.ar_extents.specs.Groups.{IsMember, IsOutside}
 use Rattle.ar_parity.specs.Row.{Blocks, block, AddUp, zero_blocks, row_of, data_position}
@@ -15,6 +15,13 @@ use Rattle.ar_parity.specs.Row.{Blocks, block, AddUp, zero_blocks, row_of, data_
 -- the member, if it is usable, stores these bytes in the row
 pub record Stands (s : SetState) (m : Members) (row i : ℕ) (bytes : List ℕ) : Type 0 where
   pub content_is : IsSound s (member m i) → content s (member m i) row ≡ bytes
+
+-- another member is lost, so a fault of this one's disk fails the set
+pub record IsBesideLost (s : SetState) (m : Members) (position : ℕ) : Type 0 where
+  pub lost : ℕ
+  pub below : lost < 4
+  pub apart : position ≢ lost
+  pub is_lost : IsLost s (member m lost)
 
 -- a stripe agrees on four blocks: their XOR is the zero block, and each usable member stores its one of the four
 pub record RowAgrees (s : SetState) (m : Members) (row : ℕ) (blocks : Blocks) : Type 0 where

@@ -48,8 +48,8 @@ pub(crate) fn sum_of_two<D: Disk>(
 {
     let low = lowest_beside(lost, beside);
     let high = highest_beside(lost, beside);
-    match read_beside(set, members, lost, low, row, into) {
-        Completion::Done => add_beside(set, members, lost, high, row, into, spare),
+    match read_beside(set, members, low, row, into) {
+        Completion::Done => add_beside(set, members, high, row, into, spare),
         Completion::Broken => Completion::Broken,
     }
 }
@@ -81,7 +81,7 @@ pub(crate) fn sum_of_three<D: Disk>(
 {
     let third = another(lost);
     match sum_of_two(set, members, lost, third, row, into, spare) {
-        Completion::Done => add_beside(set, members, lost, third, row, into, spare),
+        Completion::Done => add_beside(set, members, third, row, into, spare),
         Completion::Broken => Completion::Broken,
     }
 }

@@ -1,15 +1,14 @@
 // Single accesses of a member. A write skips a missing member; a read beside a lost one succeeds, or the set has
 // failed.
-ghost use Rattle.std.specs.Prelude.{◌≡◌, ◌≢◌, ℕ, ◌<◌, List, length};
+ghost use Rattle.std.specs.Prelude.{◌≡◌, ℕ, ◌<◌, List, length};
 ghost use Rattle.ar_disks.specs.Block.{xor};
 ghost use Rattle.ar_disks.specs.Geometry.{rows_of, block_len_of};
 ghost use Rattle.ar_disks.specs.Members.{member};
-ghost use Rattle.ar_extents.specs.Set.{IsLost};
 ghost use Rattle.ar_extents.specs.Follows.{Keeps, KeepsBut, Anywhere, IsPlace, WorksOn};
 ghost use Rattle.ar_extents.specs.Groups.{IsGroup};
 ghost use Rattle.ar_extents.specs.Plans.{Attempts, CarriesOut, read_at};
 ghost use Rattle.ar_parity.specs.Plans.{write_member, succeeded};
-ghost use Rattle.ar_parity.specs.Group.{Stands};
+ghost use Rattle.ar_parity.specs.Group.{IsBesideLost, Stands};
 ghost use Rattle.ar_disks.specs.Endings.{OnDone};
 ghost use Rattle.ar_parity.specs.Call.{ReportsFailure};
 
@@ -40,20 +39,17 @@ pub(crate) fn write<D: Disk>(
     }
 }
 
-// Reads a row of a member other than the lost one.
+// Reads a row of a member while another one is lost.
 pub(crate) fn read_beside<D: Disk>(
     set: &mut DiskSet<D>,
     members: &Members,
-    lost: u8,
     position: u8,
     row: u16,
     into: &mut [u8],
 ) -> Completion
     requires group { IsGroup set.old members.now }
-    requires lost_below { lost < 4 }
     requires below { position < 4 }
-    requires apart { position ≢ lost }
-    requires lost { IsLost set.old (member members.now lost) }
+    requires beside { IsBesideLost set.old members.now position }
     requires row { row < rows_of set.old.geometry }
     requires whole { length into.old ≡ block_len_of set.old.geometry }
 
@@ -71,21 +67,18 @@ pub(crate) fn read_beside<D: Disk>(
     }
 }
 
-// XORs a row of a member other than the lost one into `into`.
+// XORs a row of a member into `into` while another one is lost.
 pub(crate) fn add_beside<D: Disk>(
     set: &mut DiskSet<D>,
     members: &Members,
-    lost: u8,
     position: u8,
     row: u16,
     into: &mut [u8],
     spare: &mut [u8],
 ) -> Completion
     requires group { IsGroup set.old members.now }
-    requires lost_below { lost < 4 }
     requires below { position < 4 }
-    requires apart { position ≢ lost }
-    requires lost { IsLost set.old (member members.now lost) }
+    requires beside { IsBesideLost set.old members.now position }
     requires row { row < rows_of set.old.geometry }
     requires whole { length into.old ≡ block_len_of set.old.geometry }
     requires spare_whole { length spare.old ≡ block_len_of set.old.geometry }
@@ -99,7 +92,7 @@ pub(crate) fn add_beside<D: Disk>(
     ensures keeps { Keeps Anywhere set.old set.new }
     ensures works { WorksOn (IsPlace (member members.now position)) set.old set.new }
 {
-    match read_beside(set, members, lost, position, row, spare) {
+    match read_beside(set, members, position, row, spare) {
         Completion::Done => {
             add_into(spare, into);
             Completion::Done

@@ -1,9 +1,20 @@
 use Rattle.ar_parity.proofs.Agrees.{three_sum_done}
+use Rattle.ar_disks.specs.Members.{member}
 use Rattle.ar_extents.specs.Groups.{IsMember}
 use Rattle.ar_extents.proofs.Follows.{works_then}
 use Rattle.ar_extents.proofs.GroupLemmas.{works_member}
+use Rattle.ar_extents.proofs.Losses.{stays_lost}
 use Rattle.ar_parity.proofs.Plans.{three_read, two_failed}
 use Rattle.ar_parity.proofs.degraded.sum_of_three.Goals as goal
+
+pub add_beside-requires-clause-beside : goal.add_beside-requires-clause-beside
+add_beside-requires-clause-beside g c = record {
+  lost = c.args.lost;
+  below = c.requires.below;
+  apart = c.another-third.ensures.apart;
+  is_lost = stays_lost c.args.set.now c.sum_of_two.new.set (member c.args.members.now c.args.lost)
+      c.in-Done.ensures.works.follows c.requires.lost;
+}
 
 pub returns-in-Done-clause-block : goal.returns-in-Done-clause-block
 returns-in-Done-clause-block g c =

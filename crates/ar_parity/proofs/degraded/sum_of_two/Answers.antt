@@ -1,9 +1,28 @@
 use Rattle.ar_parity.proofs.Agrees.{two_sum_done}
+use Rattle.ar_disks.specs.Members.{member}
 use Rattle.ar_extents.specs.Groups.{IsMember}
 use Rattle.ar_extents.proofs.Follows.{works_then}
 use Rattle.ar_extents.proofs.GroupLemmas.{works_member}
+use Rattle.ar_extents.proofs.Losses.{stays_lost}
 use Rattle.ar_parity.proofs.Plans.{two_read, first_failed}
 use Rattle.ar_parity.proofs.degraded.sum_of_two.Goals as goal
+
+pub read_beside-requires-clause-beside : goal.read_beside-requires-clause-beside
+read_beside-requires-clause-beside g c = record {
+  lost = c.args.lost;
+  below = c.requires.lost_below;
+  apart = c.lowest_beside-low.ensures.apart_one;
+  is_lost = c.requires.lost;
+}
+
+pub add_beside-requires-clause-beside : goal.add_beside-requires-clause-beside
+add_beside-requires-clause-beside g c = record {
+  lost = c.args.lost;
+  below = c.requires.lost_below;
+  apart = c.highest_beside-high.ensures.apart_one;
+  is_lost = stays_lost c.args.set.now c.read_beside.new.set (member c.args.members.now c.args.lost)
+      c.in-Done.ensures.works.follows c.requires.lost;
+}
 
 pub returns-in-Done-clause-sum : goal.returns-in-Done-clause-sum
 returns-in-Done-clause-sum g c =

@@ -9,12 +9,13 @@ use Rattle.ar_parity.proofs.steps.read_beside.Goals as goal
 pub returns-in-Missing : goal.returns-in-Missing
 returns-in-Missing g c =
     let m = c.args.members.now in
+    let other = c.requires.beside in
     let tried = attempt_at (λ p. read_at p c.args.row) _ _ (member m c.args.position) _ _ c.at.ensures
     (unread _ _ _ _ c.in-Missing.is c.get.ensures.made) in
     record {
-      answer = unread_beside (member m c.args.lost) (member m c.args.position) c.args.row _ _ c.requires.lost
-          (λ same. c.requires.group.apart c.args.position c.args.lost c.requires.below c.requires.lost_below
-          c.requires.apart (sym same)) tried;
+      answer = unread_beside (member m other.lost) (member m c.args.position) c.args.row _ _ other.is_lost
+          (λ same. c.requires.group.apart c.args.position other.lost c.requires.below other.below other.apart
+          (sym same)) tried;
       bytes = tt;
       health = tt;
       made = tried;
