@@ -51,6 +51,12 @@ pub record IsEmptiest (t : Tables) (c : Class) (g : ℕ) : Type 0 where
   pub can : CanBeEmptied t c g
   pub least : (h : ℕ) → CanBeEmptied t c h → IsNoFuller t g h
 
+-- the group is of a class, and has this number of blocks
+pub record IsUseOf (t : Tables) (c : Class) (g : GroupUse) : Type 0 where
+  pub there : g.number < length t.groups
+  pub class : class_of t g.number ≡ c
+  pub blocks : g.used ≡ used (group_in t.groups g.number)
+
 -- of the groups below a number that are of a class and have blocks, the one with the fewest, the lowest on ties, with
 -- the number of its blocks
 pub record IsEmptiestBelow (t : Tables) (c : Class) (to : ℕ) (o : Option GroupUse) : Type 0 where

@@ -5,8 +5,8 @@
 ghost use Rattle.std.specs.Prelude.{◌≡◌, ◌≢◌, ◌+◌, ◌*◌, ◌<◌, ◌≤◌, ℕ, true, false, length, IfSome, IfNone};
 ghost use Rattle.ar_disks.specs.Geometry.{rows_of};
 ghost use Rattle.ar_book.specs.Book.{TablesAgree};
-ghost use Rattle.ar_book.specs.Tables.{used, class_of, group_in};
-ghost use Rattle.ar_book.specs.Cleaning.{CanBeEmptied, IsEmptiest, IsEmptiestBelow, IsFirstBlock};
+ghost use Rattle.ar_book.specs.Tables.{Tables, used, class_of, group_in};
+ghost use Rattle.ar_book.specs.Cleaning.{CanBeEmptied, IsEmptiest, IsEmptiestBelow, IsFirstBlock, IsUseOf};
 ghost use Rattle.ar_book.specs.Cleaning.{IsOpenBut, IsOpenBeside, IsLowestHoleBeside};
 
 use crate::group::slots_of;
@@ -38,7 +38,7 @@ impl Book {
             if self.is_of(class, number) {
                 let used = self.used(number);
                 holes += u32::from(slots - used);
-                emptiest = self.emptier(class, GroupUse { number, used }, emptiest);
+                emptiest = emptier(GroupUse { number, used }, emptiest);
             }
         }
         // A group's holes and blocks are its slots: so its blocks fit in the others' holes exactly if the class has at
@@ -47,24 +47,6 @@ impl Book {
             return None;
         }
         Some(emptiest?.number)
-    }
-
-    // The emptier of `emptiest`, found among the groups before `group`, and `group`, a group of the class, if it has
-    // blocks.
-    fn emptier(&self, class: Class, group: GroupUse, emptiest: Option<GroupUse>) -> Option<GroupUse>
-        requires there { group.number < length self.now.groups }
-        requires class { class_of self.now group.number ≡ class }
-        requires used { group.used ≡ used (group_in self.now.groups group.number) }
-        requires before { IsEmptiestBelow self.now class group.number emptiest }
-        ensures { IsEmptiestBelow self.now class (group.number + 1) result }
-    {
-        if group.used == 0 {
-            return emptiest;
-        }
-        match emptiest {
-            Some(first) if first.used <= group.used => emptiest,
-            _ => Some(group),
-        }
     }
 
     // Whether a group is of `class`.
@@ -138,5 +120,19 @@ impl Book {
         number != group
             && self.class(number) == class
             && self.used(number) < slots_of(self.geometry, class)
+    }
+}
+
+// The emptier of `emptiest`, found among the groups of a class before `group`, and `group`, if it has blocks.
+fn emptier(group: GroupUse, emptiest: Option<GroupUse>) -> Option<GroupUse>
+    ensures { (tables : Tables) (class : Class) → IsUseOf tables class group
+        → IsEmptiestBelow tables class group.number emptiest → IsEmptiestBelow tables class (group.number + 1) result }
+{
+    if group.used == 0 {
+        return emptiest;
+    }
+    match emptiest {
+        Some(first) if first.used <= group.used => emptiest,
+        _ => Some(group),
     }
 }

@@ -44,7 +44,13 @@ loop-number-preserved c =
           let here = holes_here t.geometry c.args.class (group_in t.groups i)
           (c.is_of.ensures.yes w.if-is_of.true) in
           record {
-            below = rw w.emptiest-is w.emptier-emptiest.ensures;
+            below = rw w.emptiest-is
+                (w.emptier-emptiest.ensures t c.args.class
+                (record {
+                  there = omega (arith, c.groups-number-end.ensures.count);
+                  class = c.is_of.ensures.yes w.if-is_of.true;
+                  blocks = w.used-used.ensures;
+                }) c.loop-number.invariant.below);
             holes = omega (
               arith,
               more,
