@@ -1,5 +1,5 @@
 // What is done with UNMAP and WRITE SAME.
-ghost use Rattle.std.specs.Prelude.{◌≡◌, ◌≤◌, ◌+◌, ◌-◌, ◌*◌, ◌^◌, IfNone, true, false, length};
+ghost use Rattle.std.specs.Prelude.{◌≡◌, ◌≤◌, ◌+◌, ◌-◌, ◌*◌, ◌^◌, ◌<◌, ℕ, IfNone, true, false, length};
 ghost use Rattle.ar_frames.specs.Frame.{IsReply};
 ghost use Rattle.ar_target.specs.Discarding as spec;
 ghost use Rattle.ar_target.specs.Provisioning as table;
@@ -53,7 +53,7 @@ fn unmap_unit<P: DiscardPort>(
 {
     match unmap_fault(len, last, list) {
         Some(sense) => Reply::check(sense),
-        None => discard_ranges(port, block_sectors, lun, list, last, descriptor_count(list)),
+        None => discard_ranges(port, block_sectors, lun, list, descriptor_count(list)),
     }
 }
 
@@ -63,12 +63,12 @@ fn discard_ranges<P: DiscardPort>(
     block_sectors: u16,
     lun: u8,
     list: &[u8],
-    last: u32,
     count: usize,
 ) -> Reply
     requires logged { P.has_login port.old ≡ true }
     requires whole { 16 * count ≤ length list.now - 8 }
-    requires within { table.names_past last list.now count ≡ false }
+    requires fit { (i : ℕ) → i < count
+        → (table.range_at list.now i).lba + (table.range_at list.now i).count ≤ 2 ^ 32 }
     ensures discards { spec.DiscardsRanges P.discards block_sectors lun list.now count port.old result port.new }
     ensures reply { IsReply result }
     ensures stays { P.has_login port.new ≡ true }

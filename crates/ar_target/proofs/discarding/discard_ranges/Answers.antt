@@ -1,7 +1,6 @@
 use Rattle.std.proofs.Common.{◌≡◌, ◌≤◌, ◌+◌, ◌∙◌, ℕ, sym, subst, arith}
 use Rattle.ar_target.specs.declared.provisioning.BlockRange.{BlockRange}
 use Rattle.ar_target.specs.Discarding.{DiscardsRange, RangesDone, no_range, one_range, ranges_done, range_stopped}
-use Rattle.ar_target.proofs.Descriptors.{none_past, fits_unit}
 use Rattle.ar_target.proofs.discarding.discard_ranges.Goals as goal
 
 pub loop-i-init : goal.loop-i-init
@@ -10,8 +9,7 @@ loop-i-init g c = record { ranges = no_range; logged = c.requires.logged }
 pub discard_range-reply-requires-clause-fits : goal.discard_range-reply-requires-clause-fits
 discard_range-reply-requires-clause-fits g c =
     subst (λ (r : BlockRange). r.lba + r.count ≤ 4294967296) (sym c.range_at-range.ensures)
-    (fits_unit c.args.last _ _ c.ranges.last.fits
-    (none_past c.args.last c.args.list.now c.loop-i.i c.args.count (omega arith) c.requires.within))
+    (c.requires.fit c.loop-i.i (omega arith))
 
 pub returns-then-not-is_good-clause-discards : goal.returns-then-not-is_good-clause-discards
 returns-then-not-is_good-clause-discards g c =
