@@ -1,4 +1,5 @@
 pub mod Loose
+pub mod Counting
 pub mod Carrying
 pub mod Switching
 pub mod Forming

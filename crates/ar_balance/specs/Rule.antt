@@ -22,24 +22,29 @@ pub record NamesForming (s : StoreState) (m : Members) : Type 0 where
   pub whole : s.disks.health ≡ Whole
   pub fullest : AreFullest s.disks m
 
--- of the disks below a number, this one has the fewest unassigned extents, the lowest on ties
-pub record HasFewestBelow (s : SetState) (end d : ℕ) : Type 0 where
+-- of the first `end` numbers of a list, this one is the least, the first on ties
+pub record HasFewestBelow (counts : List ℕ) (end d : ℕ) : Type 0 where
   pub below : d < end
-  pub fewest : (x : ℕ) → x < end → x ≢ d → (loose_count s d < loose_count s x)
+  pub fewest : (x : ℕ) → x < end → x ≢ d → (slice_index counts d < slice_index counts x)
+      ⊎ ((slice_index counts d ≡ slice_index counts x) × (d < x))
+
+-- the same with the greatest
+pub record HasMostBelow (counts : List ℕ) (end d : ℕ) : Type 0 where
+  pub below : d < end
+  pub most : (x : ℕ) → x < end → x ≢ d → (slice_index counts x < slice_index counts d)
+      ⊎ ((slice_index counts x ≡ slice_index counts d) × (d < x))
+
+-- of all disks, this one has the fewest unassigned extents, the lowest on ties
+pub record HasFewest (s : SetState) (d : ℕ) : Type 0 where
+  pub below : d < length s.disks
+  pub fewest : (x : ℕ) → x < length s.disks → x ≢ d → (loose_count s d < loose_count s x)
       ⊎ ((loose_count s d ≡ loose_count s x) × (d < x))
 
 -- the same with the most
-pub record HasMostBelow (s : SetState) (end d : ℕ) : Type 0 where
-  pub below : d < end
-  pub most : (x : ℕ) → x < end → x ≢ d → (loose_count s x < loose_count s d)
+pub record HasMost (s : SetState) (d : ℕ) : Type 0 where
+  pub below : d < length s.disks
+  pub most : (x : ℕ) → x < length s.disks → x ≢ d → (loose_count s x < loose_count s d)
       ⊎ ((loose_count s x ≡ loose_count s d) × (d < x))
-
--- the same of all disks
-abbrev pub HasFewest : SetState → ℕ → Type 0
-HasFewest s d = HasFewestBelow s (length s.disks) d
-
-abbrev pub HasMost : SetState → ℕ → Type 0
-HasMost s d = HasMostBelow s (length s.disks) d
 
 -- the extent at a member position is on the disk
 pub record IsMemberOn (m : Members) (position d : ℕ) : Type 0 where

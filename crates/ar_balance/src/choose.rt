@@ -1,5 +1,6 @@
 // The rule's choice. Ties go to the lowest disk and group, so that the choice is unique.
-ghost use Rattle.std.specs.Prelude.{◌≡◌, ◌≢◌, ◌↔◌, ℕ, ◌+◌, ◌<◌, ◌≤◌, length, Some, IfSome, IfNone, IsTrue};
+ghost use Rattle.std.specs.Prelude.{◌≡◌, ◌≢◌, ◌↔◌, ℕ, ◌+◌, ◌<◌, ◌≤◌, length, slice_index, Some, IfSome};
+ghost use Rattle.std.specs.Prelude.{IfNone, IsTrue};
 ghost use Rattle.ar_extents.specs.declared.health.Health.TheVariants.{Whole};
 ghost use Rattle.ar_extents.specs.Loose.{loose_count, lowest_loose};
 ghost use Rattle.ar_store.specs.Kept.{IsSpace};
@@ -79,7 +80,7 @@ pub(crate) fn next_shift<D: Disk>(space: &Space<D>, counts: &[u16]) -> Option<Sh
 {
     let on = emptiest(&space.disks, counts);
     let off = fullest(&space.disks, counts);
-    if !is_uneven(&space.disks, counts, on, off) {
+    if !is_uneven(counts, on, off) {
         return None;
     }
     let found = lowest_member(&space.book, on, off)?;
@@ -98,17 +99,16 @@ fn emptiest<D: Disk>(set: &DiskSet<D>, counts: &[u16]) -> u8
 {
     let mut best = 0;
     for number in 1..set.count() {
-        best = emptier(set, counts, best, number);
+        best = emptier(counts, best, number);
     }
     best
 }
 
-// Disk `number` if it has fewer unassigned extents than `best`, the best below it; else `best`.
-fn emptier<D: Disk>(set: &DiskSet<D>, counts: &[u16], best: u8, number: u8) -> u8
-    requires counts { AreLooseCounts set.now counts.now }
-    requires best { HasFewestBelow set.now number best }
-    requires there { number < length set.now.disks }
-    ensures { HasFewestBelow set.now (number + 1) result }
+// `number` if its count is less than that of `best`, the first with the least below it; else `best`.
+fn emptier(counts: &[u16], best: u8, number: u8) -> u8
+    requires best { HasFewestBelow counts.now number best }
+    requires there { number < length counts.now }
+    ensures { HasFewestBelow counts.now (number + 1) result }
 {
     if counts[number as usize] < counts[best as usize] {
         number
@@ -124,17 +124,16 @@ fn fullest<D: Disk>(set: &DiskSet<D>, counts: &[u16]) -> u8
 {
     let mut best = 0;
     for number in 1..set.count() {
-        best = fuller(set, counts, best, number);
+        best = fuller(counts, best, number);
     }
     best
 }
 
-// Disk `number` if it has more unassigned extents than `best`, the best below it; else `best`.
-fn fuller<D: Disk>(set: &DiskSet<D>, counts: &[u16], best: u8, number: u8) -> u8
-    requires counts { AreLooseCounts set.now counts.now }
-    requires best { HasMostBelow set.now number best }
-    requires there { number < length set.now.disks }
-    ensures { HasMostBelow set.now (number + 1) result }
+// `number` if its count is greater than that of `best`, the first with the greatest below it; else `best`.
+fn fuller(counts: &[u16], best: u8, number: u8) -> u8
+    requires best { HasMostBelow counts.now number best }
+    requires there { number < length counts.now }
+    ensures { HasMostBelow counts.now (number + 1) result }
 {
     if counts[number as usize] > counts[best as usize] {
         number
@@ -143,12 +142,11 @@ fn fuller<D: Disk>(set: &DiskSet<D>, counts: &[u16], best: u8, number: u8) -> u8
     }
 }
 
-// Whether disk `few` has at least two unassigned extents fewer than disk `many`.
-fn is_uneven<D: Disk>(set: &DiskSet<D>, counts: &[u16], few: u8, many: u8) -> bool
-    requires counts { AreLooseCounts set.now counts.now }
-    requires few { few < length set.now.disks }
-    requires many { many < length set.now.disks }
-    ensures { IsTrue result ↔ (loose_count set.now few + 2 ≤ loose_count set.now many) }
+// Whether the count of `few` is at least two less than that of `many`.
+fn is_uneven(counts: &[u16], few: u8, many: u8) -> bool
+    requires few { few < length counts.now }
+    requires many { many < length counts.now }
+    ensures { IsTrue result ↔ (slice_index counts.now few + 2 ≤ slice_index counts.now many) }
 {
     counts[many as usize].saturating_sub(counts[few as usize]) >= 2
 }
