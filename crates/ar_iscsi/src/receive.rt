@@ -73,25 +73,18 @@ fn receive_segment<R: Source>(
         result }
 {
     match fill(reader, &mut buffer[..len]) {
-        Came::All => receive_padding(reader, buffer, header, len),
+        Came::All => receive_padding(reader, header, len),
         Came::Ended(_) => Received::Nothing(ReceiveEnd::Cut),
         Came::Failed(_) => Received::Nothing(ReceiveEnd::Read),
     }
 }
 
-// Reads the padding after a data segment, which is in `buffer`.
-fn receive_padding<R: Source>(
-    reader: &mut R,
-    buffer: &[u8],
-    header: &[u8; 48],
-    len: usize,
-) -> Received
-    requires len_is { len ≡ segment_len header.now }
-    requires within { len ≤ length buffer.now }
-    ensures { (ahs : List ℕ) → length ahs ≡ ahs_len header.now →
-        ReceivesPdu ((header.now ++ ahs) ++ take len buffer.now) (length buffer.now) (R.state reader.old)
-        (R.state reader.new)
-        buffer.now result }
+// Reads the padding after a data segment of `len` bytes.
+fn receive_padding<R: Source>(reader: &mut R, header: &[u8; 48], len: usize) -> Received
+    requires { len ≡ segment_len header.now }
+    ensures { (buffer ahs : List ℕ) → len ≤ length buffer → length ahs ≡ ahs_len header.now →
+        ReceivesPdu ((header.now ++ ahs) ++ take len buffer) (length buffer) (R.state reader.old) (R.state reader.new)
+        buffer result }
 {
     match skip(reader, (4 - len % 4) % 4) {
         Came::All => Received::Pdu(*header),

@@ -14,7 +14,9 @@ returns-in-All g c = λ ahs ahs_is.
     sym (take-append-le len piece (drop len c.args.buffer.now) (omega (arith, size))
     ∙ take_all len piece (omega (arith, size))) in
     receives_front _ _ _ (c.args.header.now ++ ahs) _ _ _ c.receive_padding.result
-    (Reading-same _ _ _ _ false front c.in-All.ensures.read) (c.receive_padding.ensures ahs ahs_is)
+    (Reading-same _ _ _ _ false front c.in-All.ensures.read)
+    (c.receive_padding.ensures (piece ++ drop len c.args.buffer.now) ahs
+    (omega (arith, length-append piece (drop len c.args.buffer.now), size)) ahs_is)
 
 pub returns-in-Ended : goal.returns-in-Ended
 returns-in-Ended g c = λ ahs ahs_is.
