@@ -34,8 +34,8 @@ impl PairWrite for &TcpStream {
 }
 
 /// A source over a std reader, or a sink over a std writer. A fault is an error other than an interruption, the 1,001st
-/// interruption in a row, or a write that takes no byte of a piece that isn't empty. Read faults and write faults are
-/// counted apart.
+/// interruption in a row, or a write that takes no byte of a piece that isn't empty, and each read once the session is to
+/// end. Read faults and write faults are counted apart.
 #[derive(Drop)]
 pub struct Linked<S> {
     stream: S,
@@ -83,6 +83,14 @@ impl<S> Linked<S> {
         stream
     }
 
+    // Whether the session is to end.
+    fn is_ended(&self) -> bool {
+        match &self.progress {
+            Some(progress) => progress.is_ended(),
+            None => false,
+        }
+    }
+
     // Notes an accepted login.
     fn note_login(&self) {
         if let Some(progress) = &self.progress {
@@ -128,6 +136,10 @@ impl<R: Read> Source for Linked<R> {
         // The write faults stay.
         ensures apart { self.new.write_faults ≡ self.old.write_faults }
     {
+        // (bytes that were read ahead are no longer served either)
+        if self.is_ended() {
+            return self.read_fault();
+        }
         for _ in 0..=INTERRUPTIONS {
             match self.stream.read(into) {
                 Ok(n) => return Some(n),
@@ -152,6 +164,10 @@ impl<R: Read> Source for Linked<R> {
         ensures { self.new ≡ self.old }
     {
         self.note_discovery();
+    }
+
+    fn progress(&self) -> Option<&Arc<Progress>> {
+        self.progress.as_ref()
     }
 }
 

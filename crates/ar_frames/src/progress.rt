@@ -1,8 +1,8 @@
 // How far the session of a connection has come. The session notes it, and its streams and its door look at it: so that
-// one that doesn't log in is not waited for without end, and isn't counted.
+// one that doesn't log in is not waited for without end, and isn't counted. Another session may end it here.
 use std::net::{Shutdown, TcpStream};
 use std::sync::Arc;
-use std::sync::atomic::{AtomicU64, Ordering};
+use std::sync::atomic::{AtomicBool, AtomicU64, Ordering};
 
 /// A stage of a session.
 #[derive(Clone, Copy, Debug, PartialEq, Eq)]
@@ -36,6 +36,9 @@ pub struct SessionCount {
 pub struct Progress {
     stage: AtomicU64,
     count: Option<Arc<SessionCount>>,
+    peer: Option<u16>,
+    // Whether the session is to end.
+    ended: AtomicBool,
 }
 
 impl SessionCount {
@@ -63,12 +66,29 @@ impl SessionCount {
 }
 
 impl Progress {
-    /// That of a connection that was opened now, which may be counted.
-    pub fn new(count: Option<Arc<SessionCount>>) -> Progress {
+    /// That of a connection that was opened now, which may be counted. Over TCP it comes from the port `peer`.
+    pub fn new(count: Option<Arc<SessionCount>>, peer: Option<u16>) -> Progress {
         Progress {
             stage: AtomicU64::new(SILENT),
             count,
+            peer,
+            ended: AtomicBool::new(false),
         }
+    }
+
+    /// The port of 127.0.0.1 that the peer connects from, over TCP.
+    pub fn peer(&self) -> Option<u16> {
+        self.peer
+    }
+
+    /// Has the session end: its streams fault within a slice of their waits.
+    pub fn end(&self) {
+        self.ended.store(true, Ordering::SeqCst);
+    }
+
+    /// Whether the session is to end.
+    pub fn is_ended(&self) -> bool {
+        self.ended.load(Ordering::SeqCst)
     }
 
     /// The stage.

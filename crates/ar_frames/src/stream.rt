@@ -3,6 +3,9 @@ ghost use Rattle.std.specs.Prelude.{◌≡◌, ◌<◌, ◌≤◌, ◌++◌, len
 ghost use Rattle.std.specs.Io.KnownBytes.{IsAtEnd};
 ghost use Rattle.ar_frames.specs.Stream.{SourceState, SinkState, Reading, Writing, moved};
 
+use crate::progress::Progress;
+use std::sync::Arc;
+
 /// A stream of bytes to read from.
 pub trait Source {
     /// The bytes that are left, if the stream reports them, and the number of its faults.
@@ -28,6 +31,11 @@ pub trait Source {
     fn limit_discovery(&mut self)
         ensures { state self.new ≡ state self.old }
     {}
+
+    /// How far the session over this stream has come, if the stream's connection notes it.
+    fn progress(&self) -> Option<&Arc<Progress>> {
+        None
+    }
 }
 
 /// A stream of bytes to write to.

@@ -1,5 +1,6 @@
 pub mod Arrival
 pub mod Flow
+pub mod Initiator
 pub mod LoginPhase
 pub mod LoginTurn
 pub mod Management

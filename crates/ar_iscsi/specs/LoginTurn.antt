@@ -1,5 +1,5 @@
 -- A turn of the login phase: a login request, what it makes of the login, and the response (RFC 7143, 6 and 11.12).
-use Rattle.std.specs.Prelude.{◌≡◌, ◌⊎◌, ◌==◌, ℕ, nat_le, if◌then◌else◌, MatchBool, List, [], ◌++◌, length, Option, Some}
+use Rattle.std.specs.Prelude.{◌≡◌, ◌⊎◌, ◌==◌, ℕ, nat_lt, nat_le, if◌then◌else◌, MatchBool, List, [], ◌++◌, length, Option, Some}
 use Rattle.std.specs.Prelude.{None, is_some, unwrap_or, Result, Ok, Err}
 use Rattle.ar_frames.specs.Port.{Logins}
 use Rattle.ar_frames.specs.declared.port.Login.{Login}
@@ -104,6 +104,13 @@ abbrev pub Admits : {P : Type 0} → Logins P → SessionKind → TargetChoice �
 Admits logins Normal target port code port' = AdmitsHost logins target port code port'
 Admits logins Discovery target port code port' = (code ≡ status.Success) × (port' ≡ port)
 Admits logins Unsupported target port code port' = (code ≡ status.SessionTypeNotSupported) × (port' ≡ port)
+
+-- The host that the port observes a login of, if it does: one of the four, or none for discovery. Any other login is
+-- refused.
+abbrev pub observed_host : SessionKind → TargetChoice → Option (Option ℕ)
+observed_host Normal (OfHost host) = if nat_lt host 4 then Some (Some host) else None
+observed_host Discovery target = Some None
+observed_host kind target = None
 
 -- at most one host was given to the port
 abbrev pub MayLogIn : {P : Type 0} → Logins P → P → P → Type 0

@@ -6,6 +6,7 @@ ghost use Rattle.ar_iscsi.specs.Response.{ResponsesArePdus};
 
 mod arrival;
 mod flow;
+mod initiator;
 mod keys;
 mod login;
 mod login_phase;

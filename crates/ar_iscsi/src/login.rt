@@ -1,15 +1,17 @@
-// A turn of the login phase: a login request, what it makes of the login, and the response. `Err`: the response can't
-// be allocated.
+// A turn of the login phase: a login request, what it makes of the login, and the response. `Err`: the response or the
+// initiator's name can't be allocated.
 ghost use Rattle.std.specs.Prelude.{◌≡◌, ◌≤◌, false, true, [], IfOk, OnOk, length};
 ghost use Rattle.ar_iscsi.specs.LoginTurn as login;
 
 use crate::flow::last_in_window;
+use crate::initiator::keep_name;
 use crate::negotiation::{Negotiation, SessionKind, TargetChoice, negotiated};
 use crate::request::{LoginRequest, login_request};
 use crate::response::{LoginResponse, LoginStage, SequenceNumbers, TargetPdu, put_pdu, stage_code};
 use crate::text::answer_text;
 use crate::verdict::{LoginStatus, LoginStep, is_success, judged, stage_of, status_code, step_of};
 use ar_frames::{Login, Port};
+use ar_target::{InitiatorLogin, LoginObserver};
 use std::alloc::{AllocError, Global};
 
 // The longest text of a login, and the longest answer.
@@ -33,6 +35,8 @@ pub struct LoginWork {
     pub state: LoginState,
     /// The text of requests that go on.
     pub text: Vec<u8>,
+    /// The name of the initiator, once a whole text has had it.
+    pub name: Vec<u8>,
     /// The response to the request at hand.
     pub out: Vec<u8>,
 }
@@ -161,8 +165,37 @@ fn admit_host<P: Port>(port: &mut P, target: TargetChoice) -> LoginStatus
     }
 }
 
-// Has the host admitted, and enters the full feature phase.
-fn enter_login<P: Port>(
+// The host that the port observes a login of: one that there is, or none for discovery. None: the login is refused
+// without the port.
+fn observed_host(kind: SessionKind, target: TargetChoice) -> Option<Option<u8>>
+    ensures { result ≡ login.observed_host kind target }
+{
+    match (kind, target) {
+        (SessionKind::Normal, TargetChoice::OfHost(host)) if host < 4 => Some(Some(host)),
+        (SessionKind::Discovery, _) => Some(None),
+        _ => None,
+    }
+}
+
+// Has the port observe a login of the initiator of this name, if it is in order.
+fn observe_login<P: LoginObserver>(
+    port: &P,
+    name: &[u8],
+    request: &LoginRequest,
+    so_far: &Negotiation,
+) {
+    if let Some(host) = observed_host(so_far.kind, so_far.target) {
+        port.observe(InitiatorLogin {
+            initiator: name,
+            isid_high: request.isid_high,
+            isid_low: request.isid_low,
+            host,
+        });
+    }
+}
+
+// Has the port observe the login and admit the host, and enters the full feature phase.
+fn enter_login<P: Port + LoginObserver>(
     work: &mut LoginWork,
     port: &mut P,
     request: &LoginRequest,
@@ -182,6 +215,7 @@ fn enter_login<P: Port>(
     ensures logged { IfOk result (λ ended. ended ≡ LoginResult.Entered → work.new.state.so_far.kind ≡ SessionKind.Normal
         → P.has_login port.new ≡ true) }
 {
+    observe_login(port, &work.name, request, &so_far);
     match admit(port, &so_far) {
         LoginStatus::Success => {
             answer_login(
@@ -200,9 +234,9 @@ fn enter_login<P: Port>(
 }
 
 /// Does what a PDU with this header and this data segment asks for in a login, and puts the response into `out`, which
-/// is empty before. The host is given to the port once, where the full feature phase begins. `Err`: the response can't
-/// be allocated.
-pub fn login_turn<P: Port>(
+/// is empty before. The host is given to the port once, where the full feature phase begins; the port observes that login
+/// before. `Err`: the response or the initiator's name can't be allocated.
+pub fn login_turn<P: Port + LoginObserver>(
     work: &mut LoginWork,
     alloc: Global,
     port: &mut P,
@@ -256,7 +290,7 @@ fn step_in(
 }
 
 // Does what a login request asks for, by where it leads.
-fn request_turn<P: Port>(
+fn request_turn<P: Port + LoginObserver>(
     work: &mut LoginWork,
     alloc: Global,
     port: &mut P,
@@ -287,7 +321,7 @@ fn request_turn<P: Port>(
 }
 
 // Takes the text so far: if it goes on, it is kept.
-fn take_text<P: Port>(
+fn take_text<P: Port + LoginObserver>(
     work: &mut LoginWork,
     alloc: Global,
     port: &mut P,
@@ -310,6 +344,7 @@ fn take_text<P: Port>(
         answer_login(work, request, at, None, 0, &[], so_far)?;
         return Ok(LoginResult::Next);
     }
+    keep_name(&mut work.name, &work.text)?;
     let so_far = negotiated(work.state.so_far, &work.text);
     judge_text(
         work,
@@ -325,7 +360,7 @@ fn take_text<P: Port>(
 
 // Answers a whole text, by what is wrong with what was negotiated.
 #[tactic(auto, unfolding(crate::specs::LoginTurn::JudgesText))]
-fn judge_text<P: Port>(
+fn judge_text<P: Port + LoginObserver>(
     work: &mut LoginWork,
     alloc: Global,
     port: &mut P,
@@ -359,7 +394,7 @@ fn judge_text<P: Port>(
 }
 
 // Answers a request that is in order, and goes where it leads.
-fn take_step<P: Port>(
+fn take_step<P: Port + LoginObserver>(
     work: &mut LoginWork,
     port: &mut P,
     request: &LoginRequest,

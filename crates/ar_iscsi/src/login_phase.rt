@@ -10,6 +10,7 @@ use crate::receive::{ReceiveEnd, Received, receive_pdu};
 use crate::request::segment_len;
 use crate::verdict::LoginStatus;
 use ar_frames::{Port, Sent, Sink, Source, send};
+use ar_target::LoginObserver;
 use std::alloc::Global;
 
 /// How a login phase ended.
@@ -23,7 +24,7 @@ pub enum LoginEnd {
     Unread(ReceiveEnd),
     /// A write faulted.
     Write,
-    /// A response couldn't be allocated.
+    /// A response or the initiator's name couldn't be allocated.
     NoMemory,
     /// 2^64 - 1 requests were answered.
     Bound,
@@ -39,7 +40,7 @@ pub(crate) enum RequestResult {
 
 /// Runs the login phase of a session. `buffer` receives data segments. The host that a normal session names is given to
 /// the port once, where the full feature phase begins.
-pub fn log_in<R: Source, W: Sink, P: Port>(
+pub fn log_in<R: Source, W: Sink, P: Port + LoginObserver>(
     alloc: Global,
     reader: &mut R,
     writer: &mut W,
@@ -77,7 +78,7 @@ pub fn log_in<R: Source, W: Sink, P: Port>(
 }
 
 // Reads a request, does what it asks for, and writes the answer.
-fn answer_next<R: Source, W: Sink, P: Port>(
+fn answer_next<R: Source, W: Sink, P: Port + LoginObserver>(
     alloc: Global,
     reader: &mut R,
     writer: &mut W,
@@ -119,7 +120,7 @@ fn answer_next<R: Source, W: Sink, P: Port>(
 }
 
 // Does what a request asks for, and writes the answer. None: memory for it ran out.
-fn answer_request<W: Sink, P: Port>(
+fn answer_request<W: Sink, P: Port + LoginObserver>(
     alloc: Global,
     writer: &mut W,
     port: &mut P,

@@ -11,7 +11,7 @@ use crate::session::{FeatureEnd, MOST_SEGMENT, serve_feature};
 use crate::turn::Work;
 use ar_frames::{Login, Port, Sink, Source};
 use ar_scsi::{Reply, Sense};
-use ar_target::{ResetOutcome, ResetPort};
+use ar_target::{LoginObserver, ResetOutcome, ResetPort};
 use bytes::Bytes;
 use std::alloc::{AllocError, Global};
 
@@ -72,8 +72,8 @@ impl ResetPort for NoUnits {
 
 /// Serves one connection to the target: a login, and a normal session or one for discovery after it. It holds a buffer
 /// of 256 KiB, the data of one WRITE, one answer at a time, and up to 16 PDUs that wait, of up to 256 KiB each.
-/// `address` is the target's own, as `127.0.0.1:3260`.
-pub fn serve_target<R: Source, W: Sink, P: ResetPort>(
+/// `address` is the target's own, as `127.0.0.1:3260`. The port observes a login before it is given one.
+pub fn serve_target<R: Source, W: Sink, P: ResetPort + LoginObserver>(
     alloc: Global,
     reader: &mut R,
     writer: &mut W,
@@ -102,7 +102,7 @@ fn segment_buffer(alloc: Global) -> Result<Vec<u8>, AllocError>
 }
 
 // Serves a connection with a buffer for data segments.
-fn serve_buffered<R: Source, W: Sink, P: ResetPort>(
+fn serve_buffered<R: Source, W: Sink, P: ResetPort + LoginObserver>(
     alloc: Global,
     reader: &mut R,
     writer: &mut W,
@@ -123,6 +123,7 @@ fn serve_buffered<R: Source, W: Sink, P: ResetPort>(
             cmd_sn: 0,
         },
         text: Vec::new(alloc),
+        name: Vec::new(alloc),
         out: Vec::new(alloc),
     };
     match log_in(alloc, reader, writer, port, &mut work, buffer) {

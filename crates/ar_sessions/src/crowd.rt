@@ -57,11 +57,11 @@ impl Crowd {
         }
     }
 
-    // The progress of a connection that was opened now.
-    pub fn new_progress(&self) -> Result<Progress, AllocError> {
+    // The progress of a connection that was opened now, over TCP from the port `peer`.
+    pub fn new_progress(&self, peer: Option<u16>) -> Result<Progress, AllocError> {
         match &self.sessions {
-            Some(sessions) => Ok(Progress::new(Some(Arc::try_clone(sessions)?))),
-            None => Ok(Progress::new(None)),
+            Some(sessions) => Ok(Progress::new(Some(Arc::try_clone(sessions)?), peer)),
+            None => Ok(Progress::new(None, peer)),
         }
     }
 

@@ -30,17 +30,18 @@ impl Listener {
         in_slices(Listener::Unix(socket))
     }
 
-    /// Waits for a connection, for at most `PAUSE`. It has no Nagle's delay, which a Unix socket doesn't know.
-    pub fn accept(&self) -> io::Result<TcpStream> {
+    /// Waits for a connection, for at most `PAUSE`. It is returned with the port of its peer, which one of a Unix socket
+    /// hasn't. It has no Nagle's delay, which a Unix socket doesn't know.
+    pub fn accept(&self) -> io::Result<(TcpStream, Option<u16>)> {
         match self {
             Listener::Port(listener) => {
-                let (stream, _) = listener.accept()?;
+                let (stream, peer) = listener.accept()?;
                 stream.set_nodelay(true)?;
-                Ok(stream)
+                Ok((stream, Some(peer.port())))
             }
             Listener::Unix(listener) => {
                 let (stream, _) = listener.accept()?;
-                Ok(TcpStream::from(OwnedFd::from(stream)))
+                Ok((TcpStream::from(OwnedFd::from(stream)), None))
             }
         }
     }

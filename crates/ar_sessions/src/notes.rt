@@ -5,9 +5,12 @@ use ar_frames::{EndReason, SessionEnd};
 use log::{Log, info};
 use std::time::{Clock, Duration, Instant};
 
-/// Logs the start of a session, and returns when that was, if the clock can be read.
-pub fn note_start<R: Clock + Log>(rt: &R, number: u64) -> Option<Instant> {
-    info!(rt; "session {number} started");
+/// Logs the start of a session and, over TCP, the port of its peer. Returns when that was, if the clock can be read.
+pub fn note_start<R: Clock + Log>(rt: &R, number: u64, peer: Option<u16>) -> Option<Instant> {
+    match peer {
+        Some(peer) => info!(rt; "session {number} of 127.0.0.1:{peer} started"),
+        None => info!(rt; "session {number} started"),
+    }
     Instant::now(rt).ok()
 }
 

@@ -402,7 +402,8 @@ impl<
             (W.state result.3) result.0 result.1 }
     {
         let (rt, number) = (self.shared.rt, self.number);
-        let began = note_start(rt, number);
+        let peer = self.reader.progress().and_then(|progress| progress.peer());
+        let began = note_start(rt, number, peer);
         let (end, receipt, reader, writer) = self.run_session();
         note_end(rt, number, began, &receipt, end);
         (end, receipt, reader, writer)

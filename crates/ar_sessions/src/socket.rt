@@ -1,5 +1,6 @@
-// The two streams of a connection. Each waits in slices: between them it looks at its limits and at the stop flag, so
-// that no peer holds a session for longer than the limits say. A limit that is reached is a fault of the stream.
+// The two streams of a connection. Each waits in slices: between them it looks at its limits, at the stop flag and
+// whether the session is to end, so that no peer holds a session for longer than the limits say. A limit that is reached
+// is a fault of the stream.
 use crate::limits::{Greeting, greeting_after, session_limit};
 use crate::tcp::{Protocol, Timeouts};
 use ar_frames::{PairWrite, Progress};
@@ -135,7 +136,8 @@ impl<'a, R: Clock> SocketReader<'a, R> {
 
     // Whether no byte is waited for any longer.
     fn is_over(&mut self) -> bool {
-        self.is_stopped()
+        self.progress.is_ended()
+            || self.is_stopped()
             || self.limits.is_idle(self.silent)
             || is_late(self.rt, self.opened, &self.progress, self.limits.timeouts)
             || is_past(self.rt, self.opened, self.limits.timeouts.whole)
@@ -199,7 +201,8 @@ impl<R: Clock> Read for SocketReader<'_, R> {
 impl<R: Clock> SocketWriter<'_, R> {
     // Whether a peer that has taken nothing for this many milliseconds is waited for no longer.
     fn is_over(&mut self, silent: u64) -> bool {
-        self.limits.is_idle(silent)
+        self.progress.is_ended()
+            || self.limits.is_idle(silent)
             || is_late(self.rt, self.opened, &self.progress, self.limits.timeouts)
             || is_past(self.rt, self.opened, self.limits.timeouts.whole)
             || (self.limits.is_stopped() && is_past_first(self.rt, &mut self.stopped, GRACE))

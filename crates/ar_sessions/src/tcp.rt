@@ -234,11 +234,19 @@ impl<'a, R: Clock + Log + Sync> Door for TcpDoor<'a, R> {
 
     fn accept(&mut self) -> Option<(TcpReader<'a, R>, TcpWriter<'a, R>)> {
         self.left -= 1;
-        let stream = next_stream(self.rt, &self.listener, self.limits, &mut self.crowd);
+        let accepted = next_stream(self.rt, &self.listener, self.limits, &mut self.crowd);
         if self.left == 0 || self.limits.is_stopped() || self.crowd.is_complete() {
             self.listener = None;
         }
-        let streams = opened(self.rt, self.alloc, stream?, self.limits, &mut self.crowd);
+        let (stream, peer) = accepted?;
+        let streams = opened(
+            self.rt,
+            self.alloc,
+            stream,
+            peer,
+            self.limits,
+            &mut self.crowd,
+        );
         unless_refused(self.rt, &self.refusals, streams)
     }
 
@@ -268,7 +276,7 @@ fn unless_refused<R: Clock + Log, T>(
     }
 }
 
-// Waits for a connection, in slices; between them, those that have ended are forgotten. An accept that fails, as for
+// Waits for a connection and the port of its peer, in slices; between them, those that have ended are forgotten. An accept that fails, as for
 // want of descriptors, is tried again after a pause, with one line of the log until one succeeds. None: the door is
 // closed.
 fn next_stream<R: Clock + Log>(
@@ -276,7 +284,7 @@ fn next_stream<R: Clock + Log>(
     listener: &Option<Listener>,
     limits: Limits<'_>,
     crowd: &mut Crowd,
-) -> Option<TcpStream> {
+) -> Option<(TcpStream, Option<u16>)> {
     let Some(listener) = listener else {
         return None;
     };
@@ -286,7 +294,7 @@ fn next_stream<R: Clock + Log>(
             break;
         }
         match accept_at(listener, limits.protocol) {
-            Ok(stream) if !crowd.is_complete() => return Some(stream),
+            Ok(accepted) if !crowd.is_complete() => return Some(accepted),
             Ok(_) => {}
             Err(error) if error.kind() == ErrorKind::WouldBlock => crowd.forget_ended(),
             // (the last session has shut the listener down)
@@ -305,7 +313,7 @@ fn next_stream<R: Clock + Log>(
 }
 
 // A connection at a listener. All doors but the operators' leave a descriptor, so that there is one for a `stop`.
-fn accept_at(listener: &Listener, protocol: Protocol) -> io::Result<TcpStream> {
+fn accept_at(listener: &Listener, protocol: Protocol) -> io::Result<(TcpStream, Option<u16>)> {
     let _left = descriptor_left(listener, protocol)?;
     listener.accept()
 }
@@ -318,16 +326,17 @@ fn descriptor_left(listener: &Listener, protocol: Protocol) -> io::Result<Option
     }
 }
 
-// The streams of a connection, for which another may make room. Writes are sent at once.
+// The streams of a connection from the port `peer`, for which another may make room. Writes are sent at once.
 fn opened<'a, R: Clock>(
     rt: &'a R,
     alloc: Global,
     stream: TcpStream,
+    peer: Option<u16>,
     limits: Limits<'a>,
     crowd: &mut Crowd,
 ) -> io::Result<(TcpReader<'a, R>, TcpWriter<'a, R>)> {
     crowd.make_room();
-    let progress = Arc::new(alloc, crowd.new_progress()?)?;
+    let progress = Arc::new(alloc, crowd.new_progress(peer)?)?;
     let (reader, writer) = SocketReader::open(rt, alloc, stream, limits, &progress)?;
     crowd.add(reader.socket(), &progress)?;
     let reader = BufReader::with_capacity(alloc, read_ahead(limits.protocol), reader)?;

@@ -13,6 +13,7 @@ mod device_server;
 mod discard_port;
 mod discarding;
 mod flush_port;
+mod initiator;
 mod lba_status;
 mod luns;
 mod mode;
@@ -32,6 +33,7 @@ pub use attributes::Attributes;
 pub use device_server::DeviceServer;
 pub use discard_port::{BlockRun, DiscardPort};
 pub use flush_port::{FlushOutcome, FlushPort};
+pub use initiator::{InitiatorLogin, LoginObserver};
 pub use operations::Operation;
 pub use provisioning::{
     BlockRange, INVALID_FIELD_IN_PARAMETER_LIST, PARAMETER_LIST_LENGTH_ERROR, WriteSame,
