@@ -7,6 +7,7 @@ use Rattle.std.proofs.lemmas.List.Splits.{slice_split_none, slice_split_first}
 use Rattle.std.proofs.lemmas.List.Sums.{fails_before_first}
 use Rattle.ar_iscsi.specs.declared.negotiation.Negotiation.{Negotiation}
 use Rattle.ar_iscsi.specs.Text.{text_answer, items_answer, item_answer, has_member}
+use Rattle.ar_iscsi.specs.Initiator.{named_after, name_after_items, name_after_item}
 use Rattle.ar_iscsi.specs.Negotiation.{negotiated, after_items, after_item}
 use Rattle.ar_iscsi.specs.Targets.{targets_answer, asked_answers, asked_answer}
 
@@ -59,6 +60,19 @@ pub negotiated_last : (old all : Negotiation) (text : List ℕ) (end : ℕ) → 
     → length text ≤ end
     → negotiated old text ≡ all → after_item old text ≡ all
 negotiated_last old all text end at whole h = sym (ap (after_items old) (split_last 0 text end at whole)) ∙ h
+
+-- the same for the name of the initiator
+pub named_more : (old new all text rest : List ℕ) (end : ℕ) → rest ≡ drop (end + 1) text
+    → end ≡ position_or_len (λ b. b == 0) text → end < length text
+    → new ≡ name_after_item old (take end text) → named_after old text ≡ all → named_after new rest ≡ all
+named_more old new all text rest end is at within e h =
+    ap (λ (l : List ℕ). named_after new l) is ∙ ap (λ (n : List ℕ). named_after n (drop (end + 1) text)) e
+    ∙ sym (ap (name_after_items old) (split_first 0 text end at within)) ∙ h
+
+pub named_last : (old new all text : List ℕ) (end : ℕ) → end ≡ position_or_len (λ b. b == 0) text → length text ≤ end
+    → new ≡ name_after_item old text → named_after old text ≡ all → new ≡ all
+named_last old new all text end at whole e h =
+    e ∙ sym (ap (name_after_items old) (split_last 0 text end at whole)) ∙ h
 
 -- the same for the targets that are asked for
 pub targets_more : (address : List ℕ) (host : Option ℕ) (out out' all text rest : List ℕ) (end : ℕ) → rest ≡ drop (end + 1) text

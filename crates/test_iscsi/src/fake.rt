@@ -4,7 +4,10 @@ ghost use Rattle.ar_frames.specs.Frame.{IsReply};
 
 use ar_frames::{Login, Port};
 use ar_scsi::{Reply, Sense, Status, capacity_data, inquiry_data};
-use ar_target::{BlockRun, DiscardPort, FlushOutcome, FlushPort, ResetOutcome, ResetPort};
+use ar_target::{
+    BlockRun, DiscardPort, FlushOutcome, FlushPort, InitiatorLogin, LoginObserver, ResetOutcome,
+    ResetPort,
+};
 use bytes::Bytes;
 use std::alloc::Global;
 use std::cell::Cell;
@@ -20,6 +23,47 @@ pub struct Fake {
     pub bytes: usize,
     // How many replies were BUSY, those to commands that weren't given, too.
     pub busy: Cell<u64>,
+    // How many logins were observed, and the last of them.
+    pub logins: Cell<u64>,
+    pub login: Cell<Option<Observed>>,
+}
+
+/// A login that was observed.
+#[derive(Clone, Copy, Debug, PartialEq, Eq)]
+pub struct Observed {
+    /// The first bytes of the initiator's name, and their number.
+    pub name: [u8; NAME_ROOM],
+    pub len: usize,
+    pub isid_high: u32,
+    pub isid_low: u16,
+    pub host: Option<u8>,
+    /// Whether the port had been given a login.
+    pub was_taken: bool,
+}
+
+const NAME_ROOM: usize = 24;
+
+impl Observed {
+    pub fn of(login: InitiatorLogin<'_>, was_taken: bool) -> Observed {
+        let InitiatorLogin {
+            initiator,
+            isid_high,
+            isid_low,
+            host,
+        } = login;
+        let mut name = [0; NAME_ROOM];
+        for (place, byte) in name.iter_mut().zip(initiator) {
+            *place = *byte;
+        }
+        Observed {
+            name,
+            len: initiator.len(),
+            isid_high,
+            isid_low,
+            host,
+            was_taken,
+        }
+    }
 }
 
 impl Fake {
@@ -32,6 +76,8 @@ impl Fake {
             given: 0,
             bytes: 0,
             busy: Cell::new(0),
+            logins: Cell::new(0),
+            login: Cell::new(None),
         }
     }
 }
@@ -98,6 +144,13 @@ fn reply_at(alloc: Global, lun: u8, code: u8, len: usize) -> Reply
         (0, 0x28) => good(alloc, &[0x5A; 1100]),
         (0, 0x2A) if len == 1024 => Reply::good(Bytes::new()),
         _ => Reply::check(Sense::LOGICAL_UNIT_NOT_SUPPORTED),
+    }
+}
+
+impl LoginObserver for Fake {
+    fn observe(&self, login: InitiatorLogin<'_>) {
+        count(&self.logins);
+        self.login.set(Some(Observed::of(login, self.taken)));
     }
 }
 

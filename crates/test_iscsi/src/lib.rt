@@ -11,6 +11,8 @@ mod fields;
 #[cfg(test)]
 mod garbage;
 #[cfg(test)]
+mod observed;
+#[cfg(test)]
 mod pdus;
 #[cfg(test)]
 mod scarce;

@@ -131,7 +131,10 @@ fn serve(rt: &impl Abort, alloc: Global, session: Session, output: &[u8]) -> boo
 fn after_same<'a>(written: &'a [u8], wanted: &[u8]) -> &'a [u8] {
     let (mut rest, mut left) = (written, wanted);
     for _ in 0..written.len() {
-        let (Some((_, _, rest_after)), Some((_, _, left_after))) = (split_pdu(rest), split_pdu(left)) else {
+        let (Some((_, _, rest_after)), Some((_, _, left_after))) = (
+            split_pdu(rest),
+            split_pdu(left),
+        ) else {
             break;
         };
         let len = rest.len().saturating_sub(rest_after.len());
