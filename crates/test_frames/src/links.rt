@@ -1,9 +1,10 @@
 // Streams of std: interruptions, other errors, and a write that takes no byte.
 use crate::fakes::Fake;
-use ar_frames::{EndReason, Linked, PairWrite, Sink, Source, serve_session};
+use ar_frames::{EndReason, Linked, PairWrite, Progress, Sink, Source, serve_session};
 use std::alloc::Global;
 use std::io::{self, ErrorKind, Read, Write};
 use std::process::Abort;
+use std::sync::Arc;
 
 // Has an error of this kind this many times before each read and write, and then gives or takes what it may.
 #[derive(Drop)]
@@ -180,4 +181,32 @@ fn moves_ten(
 fn has_faults(rt: &impl Abort, linked: &Linked<Noisy<'_>>, kind: ErrorKind, wanted: (u64, u64)) {
     let faults = (Source::faults(linked), Sink::faults(linked));
     assert!(rt; faults == wanted, "{faults:?} faults of {kind:?}");
+}
+
+// A read faults once its session is ended, though bytes are left. Its stream knows who the peer is.
+#[test]
+fn an_ended_session(rt: HostRuntime) {
+    let alloc = rt.alloc();
+    let progress = Arc::new(alloc, Progress::new(None, Some(41_200))).expect(&rt, "memory");
+    let noisy = Noisy {
+        bytes: b"four",
+        most: 2,
+        kind: ErrorKind::Other,
+        errors: 0,
+        left: 0,
+    };
+    let mut reader = Linked::with_progress(noisy, progress);
+    reads(&rt, &mut reader, Some(2));
+    let progress = reader.progress().expect(&rt, "a session");
+    let (peer, was_ended) = (progress.peer(), progress.is_ended());
+    progress.end();
+    assert!(rt; peer == Some(41_200) && !was_ended, "{peer:?}, {was_ended}");
+    reads(&rt, &mut reader, None);
+    let faults = Source::faults(&reader);
+    assert!(rt; faults == 1, "{faults} faults");
+}
+
+fn reads(rt: &impl Abort, reader: &mut impl Source, wanted: Option<usize>) {
+    let given = reader.read(&mut [0; 8]);
+    assert!(rt; given == wanted, "{given:?} in place of {wanted:?}");
 }

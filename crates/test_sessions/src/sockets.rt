@@ -4,16 +4,16 @@ ghost use Rattle.ar_frames.specs.Frame.{most_data};
 
 use crate::frames::{LOGINS, TUR};
 use crate::rig::{Play, Rig, plays};
-use ar_frames::{EndReason, Linked, NoGate, SessionEnd, ask, hello};
+use ar_frames::{EndReason, Linked, NoGate, Progress, SessionEnd, Sink, Source, ask, hello};
 use ar_scsi::{Reply, Status};
-use ar_sessions::{ConnectionEnd, ListenFault, TcpDoor, run_beside_background};
+use ar_sessions::{ConnectionEnd, Door, ListenFault, TcpDoor, run_beside_background};
 use log::Log;
 use std::alloc::Global;
 use std::io::{Read, Write};
 use std::net::{Net, Shutdown, TcpListener, TcpStream};
 use std::process::Abort;
-use std::sync::Wait;
 use std::sync::ledger::Ledger;
+use std::sync::{Arc, Wait};
 use std::thread;
 use std::thread::{Scope, Threads};
 use std::time::Clock;
@@ -281,4 +281,56 @@ fn one_door_at_a_port(rt: HostRuntime) {
     );
     drop(second);
     drop(first);
+}
+
+// A session that another ends reads no more, also of what was read ahead, and sends no more.
+#[test]
+fn an_ended_session_faults(rt: HostRuntime) {
+    let mut door = TcpDoor::listen(&rt, rt.alloc(), 0, 1).expect(&rt, "a port");
+    let guest = connect_to(&rt, door.port());
+    let mut to = &guest;
+    to.write_all(b"two").expect(&rt, "bytes are sent");
+    let (mut reader, mut writer) = door.accept().expect(&rt, "a connection");
+    let progress = progress_of(&rt, &reader);
+    is_of(&rt, &guest, progress.peer());
+    let given = reader.read(&mut [0; 1]);
+    progress.end();
+    let rest = reader.read(&mut [0; 1]);
+    let taken = writer.write(b"one");
+    let all = (given, rest, taken);
+    assert!(rt; all == (Some(1), None, None), "{all:?}");
+}
+
+// One that waits is ended, too.
+#[test]
+fn a_wait_is_ended(rt: HostRuntime) {
+    let mut door = TcpDoor::listen(&rt, rt.alloc(), 0, 1).expect(&rt, "a port");
+    let guest = connect_to(&rt, door.port());
+    let (mut reader, _writer) = door.accept().expect(&rt, "a connection");
+    let progress = progress_of(&rt, &reader);
+    let (given, ()) = thread::join(&rt, || reader.read(&mut [0; 1]), || progress.end());
+    assert!(rt; given.is_none(), "{given:?}");
+    drop(guest);
+}
+
+fn connect_to<R: Abort + Net<Listener = TcpListener, Stream = TcpStream>>(
+    rt: &R,
+    port: Option<u16>,
+) -> TcpStream {
+    let port = port.expect(rt, "its number");
+    TcpStream::connect(rt, ("127.0.0.1", port)).expect(rt, "a connection")
+}
+
+// A peer's port is the guest's.
+fn is_of(rt: &impl Abort, guest: &TcpStream, peer: Option<u16>) {
+    let own = guest.local_addr().ok().map(|address| address.port());
+    assert!(rt;
+        peer.is_some() && peer == own,
+        "{peer:?} in place of {own:?}"
+    );
+}
+
+fn progress_of(rt: &impl Abort, reader: &impl Source) -> Arc<Progress> {
+    let progress = reader.progress().expect(rt, "a session");
+    Arc::try_clone(progress).expect(rt, "memory")
 }
