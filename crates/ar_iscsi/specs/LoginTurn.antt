@@ -1,6 +1,6 @@
 -- A turn of the login phase: a login request, what it makes of the login, and the response (RFC 7143, 6 and 11.12).
-use Rattle.std.specs.Prelude.{◌≡◌, ◌⊎◌, ◌==◌, ℕ, nat_lt, nat_le, if◌then◌else◌, MatchBool, List, [], ◌++◌, length, Option, Some}
-use Rattle.std.specs.Prelude.{None, is_some, unwrap_or, Result, Ok, Err}
+use Rattle.std.specs.Prelude.{◌≡◌, ◌⊎◌, ◌==◌, ℕ, nat_lt, nat_le, if◌then◌else◌, MatchBool, List, [], ◌++◌, length}
+use Rattle.std.specs.Prelude.{Option, Some, None, is_some, unwrap_or, Result, Ok, Err}
 use Rattle.ar_frames.specs.Port.{Logins}
 use Rattle.ar_frames.specs.declared.port.Login.{Login}
 use Rattle.ar_frames.specs.declared.port.Login.TheVariants.{Taken, BadHost, InUse}
@@ -23,6 +23,7 @@ use Rattle.ar_iscsi.specs.declared.verdict.LoginStatus.TheVariants as status
 use Rattle.ar_iscsi.specs.declared.verdict.LoginStep.{LoginStep}
 use Rattle.ar_iscsi.specs.declared.verdict.LoginStep.TheVariants as step
 use Rattle.ar_iscsi.specs.Flow.{last_in_window, next_sn}
+use Rattle.ar_iscsi.specs.Initiator.{named_after}
 use Rattle.ar_iscsi.specs.Negotiation.{negotiated}
 use Rattle.ar_iscsi.specs.Request.{opcode, login_request}
 use Rattle.ar_iscsi.specs.Text.{text_answer}
@@ -162,6 +163,10 @@ TakesText logins request at which text state port out new port' ended =
     (AnswersLogin request at None 0 [] state.so_far text state out new × (ended ≡ result.Next) × (port' ≡ port))
     (JudgesText logins request at which text (negotiated state.so_far text) state port out new port' ended
     (judged (negotiated state.so_far text)))
+
+-- the name of the initiator after a request in order, once the text is `text`: a text that goes on leaves it
+abbrev pub name_taken : LoginRequest → List ℕ → List ℕ → List ℕ
+name_taken request name text = if request.continues then name else named_after name text
 
 -- a stage, and where a request leads from it
 abbrev pub map_step : LoginStage → Result LoginStep LoginStatus → Result (LoginStage × LoginStep) LoginStatus

@@ -6,9 +6,9 @@ use crate::keys::{Key, key_named};
 use crate::text::{behind, item_name, item_value, place_of};
 use std::alloc::AllocError;
 
-/// Has `name` be the value of the last InitiatorName of a text; without one it stays. `Err` if the allocation fails;
-/// `name` is unspecified then.
-pub fn keep_name(name: &mut Vec<u8>, asked: &[u8]) -> Result<(), AllocError>
+// Has `name` be the value of the last InitiatorName of a text; without one it stays. `Err` if the allocation fails;
+// `name` is unspecified then.
+pub(crate) fn keep_name(name: &mut Vec<u8>, asked: &[u8]) -> Result<(), AllocError>
     ensures { OnOk result (name.new.items ≡ named_after name.old.items asked.now) }
 {
     let mut rest = asked;

@@ -93,7 +93,9 @@ fn refuse_login(
     status: LoginStatus,
 ) -> Result<LoginResult, AllocError>
     requires { work.old.out.items ≡ [] }
-    ensures { IfOk result (λ ended. login.RefusesLogin request.now status work.old.state work.new.out.items ended) }
+    ensures refuses { IfOk result (λ ended. login.RefusesLogin request.now status work.old.state work.new.out.items
+        ended) }
+    ensures name { work.new.name.items ≡ work.old.name.items }
 {
     let at = stage_of(request.stage).unwrap_or(LoginStage::SecurityNegotiation);
     let numbers = login_numbers(&work.state, request);
@@ -118,9 +120,10 @@ fn answer_login(
 ) -> Result<(), AllocError>
     requires empty { work.old.out.items ≡ [] }
     requires short { length segment.now ≤ login.most_text }
-    ensures { OnOk result (login.AnswersLogin request.now at next tsih segment.now so_far work.old.text.items
+    ensures answers { OnOk result (login.AnswersLogin request.now at next tsih segment.now so_far work.old.text.items
         work.old.state
         work.new.out.items (record { state = work.new.state; text = work.new.text.items })) }
+    ensures name { work.new.name.items ≡ work.old.name.items }
 {
     let numbers = login_numbers(&work.state, request);
     let pdu = login_reply(request, at, next, tsih, LoginStatus::Success);
@@ -214,6 +217,7 @@ fn enter_login<P: Port + LoginObserver>(
     ensures unlogged { IfOk result (λ ended. ended ≡ LoginResult.Next → P.has_login port.new ≡ false) }
     ensures logged { IfOk result (λ ended. ended ≡ LoginResult.Entered → work.new.state.so_far.kind ≡ SessionKind.Normal
         → P.has_login port.new ≡ true) }
+    ensures name { work.new.name.items ≡ work.old.name.items }
 {
     observe_login(port, &work.name, request, &so_far);
     match admit(port, &so_far) {
@@ -234,8 +238,8 @@ fn enter_login<P: Port + LoginObserver>(
 }
 
 /// Does what a PDU with this header and this data segment asks for in a login, and puts the response into `out`, which
-/// is empty before. The host is given to the port once, where the full feature phase begins; the port observes that login
-/// before. `Err`: the response or the initiator's name can't be allocated.
+/// is empty before. The port observes the login, and is given the host, once, where the full feature phase begins.
+/// `Err`: the response or the initiator's name can't be allocated.
 pub fn login_turn<P: Port + LoginObserver>(
     work: &mut LoginWork,
     alloc: Global,
@@ -338,6 +342,8 @@ fn take_text<P: Port + LoginObserver>(
     ensures unlogged { IfOk result (λ ended. ended ≡ LoginResult.Next → P.has_login port.new ≡ false) }
     ensures logged { IfOk result (λ ended. ended ≡ LoginResult.Entered → work.new.state.so_far.kind ≡ SessionKind.Normal
         → P.has_login port.new ≡ true) }
+    ensures name { IfOk result (λ ended. work.new.name.items
+        ≡ login.name_taken request.now work.old.name.items work.old.text.items) }
 {
     if request.continues {
         let so_far = work.state.so_far;
@@ -380,6 +386,7 @@ fn judge_text<P: Port + LoginObserver>(
     ensures unlogged { IfOk result (λ ended. ended ≡ LoginResult.Next → P.has_login port.new ≡ false) }
     ensures logged { IfOk result (λ ended. ended ≡ LoginResult.Entered → work.new.state.so_far.kind ≡ SessionKind.Normal
         → P.has_login port.new ≡ true) }
+    ensures name { work.new.name.items ≡ work.old.name.items }
 {
     if !is_success(status) {
         return refuse_login(work, request, status);
@@ -414,6 +421,7 @@ fn take_step<P: Port + LoginObserver>(
     ensures unlogged { IfOk result (λ ended. ended ≡ LoginResult.Next → P.has_login port.new ≡ false) }
     ensures logged { IfOk result (λ ended. ended ≡ LoginResult.Entered → work.new.state.so_far.kind ≡ SessionKind.Normal
         → P.has_login port.new ≡ true) }
+    ensures name { work.new.name.items ≡ work.old.name.items }
 {
     match step {
         LoginStep::Stays => {

@@ -30,8 +30,8 @@ impl Listener {
         in_slices(Listener::Unix(socket))
     }
 
-    /// Waits for a connection, for at most `PAUSE`. It is returned with the port of its peer, which one of a Unix socket
-    /// hasn't. It has no Nagle's delay, which a Unix socket doesn't know.
+    /// Waits for a connection, for at most `PAUSE`, and returns it with the port of its peer, over TCP. It has no
+    /// Nagle's delay, which a Unix socket doesn't know.
     pub fn accept(&self) -> io::Result<(TcpStream, Option<u16>)> {
         match self {
             Listener::Port(listener) => {

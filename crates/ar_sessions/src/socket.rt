@@ -1,6 +1,6 @@
-// The two streams of a connection. Each waits in slices: between them it looks at its limits, at the stop flag and
-// whether the session is to end, so that no peer holds a session for longer than the limits say. A limit that is reached
-// is a fault of the stream.
+// The two streams of a connection. Each waits in slices: between them it looks at its limits, at the stop flag, and at
+// whether the session is to end, so that no peer holds a session for longer than that. A limit that is reached is a
+// fault of the stream.
 use crate::limits::{Greeting, greeting_after, session_limit};
 use crate::tcp::{Protocol, Timeouts};
 use ar_frames::{PairWrite, Progress};

@@ -276,9 +276,9 @@ fn unless_refused<R: Clock + Log, T>(
     }
 }
 
-// Waits for a connection and the port of its peer, in slices; between them, those that have ended are forgotten. An accept that fails, as for
-// want of descriptors, is tried again after a pause, with one line of the log until one succeeds. None: the door is
-// closed.
+// Waits for a connection and the port of its peer, in slices; between them, those that have ended are forgotten. An
+// accept that fails, as for want of descriptors, is tried again after a pause, with one line of the log until one
+// succeeds. None: the door is closed.
 fn next_stream<R: Clock + Log>(
     rt: &R,
     listener: &Option<Listener>,
