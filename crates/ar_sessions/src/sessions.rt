@@ -386,6 +386,14 @@ impl<H: Drop> JoinList<H> {
     }
 }
 
+// The port that a stream's peer connects from, over TCP.
+fn peer_of<S: Source>(reader: &S) -> Option<u16> {
+    match reader.progress() {
+        Some(progress) => progress.peer(),
+        None => None,
+    }
+}
+
 impl<
     'a,
     R: Wait + Clock + Log,
@@ -402,8 +410,7 @@ impl<
             (W.state result.3) result.0 result.1 }
     {
         let (rt, number) = (self.shared.rt, self.number);
-        let peer = self.reader.progress().and_then(|progress| progress.peer());
-        let began = note_start(rt, number, peer);
+        let began = note_start(rt, number, peer_of(&self.reader));
         let (end, receipt, reader, writer) = self.run_session();
         note_end(rt, number, began, &receipt, end);
         (end, receipt, reader, writer)
