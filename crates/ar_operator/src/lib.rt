@@ -21,4 +21,4 @@ pub use fail::set_fuse;
 pub use fused::{Fuse, FusedDisk, FusedMaker, lost_disks, start_fused};
 pub use order::{LineFault, OperatorOrder, operator_order_in};
 pub use spare::{Prepared, SpareDisk, WantedDisk, wanted_disk};
-pub use text::{write_counts, write_help, write_session};
+pub use text::{write_counts, write_help, write_initiator, write_session};

@@ -22,5 +22,5 @@ pub use response::{Look, respond};
 pub use serve::{HEAD_MAX, Watched, serve_connection, serve_named};
 pub use status::{
     ArrayCounters, ArrayHealth, ArrayStatus, HostCounters, MaintenanceSteps, OperationCounters,
-    ReplyCounters, StoreHealth, StoreNumbers,
+    ReplyCounters, SessionNumbers, StoreHealth, StoreNumbers,
 };

@@ -2,7 +2,7 @@
 // name ends in `_total`, and a unit is a part of the name.
 use crate::{
     ArrayCounters, ArrayHealth, ArrayStatus, HostCounters, MaintenanceSteps, OperationCounters,
-    ReplyCounters, StoreHealth, StoreNumbers,
+    ReplyCounters, SessionNumbers, StoreHealth, StoreNumbers,
 };
 use std::io;
 use std::io::Write;
@@ -16,6 +16,7 @@ pub fn write_metrics<W: Write>(out: &mut W, status: &ArrayStatus) -> io::Result<
         write_store(out, store)?;
     }
     write_hosts(out, &status.hosts)?;
+    write_sessions(out, status.sessions)?;
     write_steps(out, &status.steps)?;
     write_counters(out, &status.counters)
 }
@@ -256,6 +257,26 @@ fn write_by_host<W: Write>(
         writeln!(out, "autoraid_{name}{{host=\"{host}\"}} {value}")?;
     }
     Ok(())
+}
+
+// Writes which hosts are logged in, and how many sessions are for discovery.
+fn write_sessions<W: Write>(out: &mut W, sessions: SessionNumbers) -> io::Result<()> {
+    write_head(
+        out,
+        "host_sessions",
+        "gauge",
+        "1 for a host that is logged in.",
+    )?;
+    for (host, is_open) in sessions.hosts.iter().enumerate() {
+        let is = u8::from(*is_open);
+        writeln!(out, "autoraid_host_sessions{{host=\"{host}\"}} {is}")?;
+    }
+    write_gauge(
+        out,
+        "discovery_sessions",
+        "iSCSI sessions for discovery.",
+        u64::from(sessions.discovery),
+    )
 }
 
 // Writes the maintenance steps.

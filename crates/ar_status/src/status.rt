@@ -32,6 +32,7 @@ pub struct ArrayStatus {
     pub store: Option<StoreNumbers>,
     /// By host, 0 to 3.
     pub hosts: [HostCounters; 4],
+    pub sessions: SessionNumbers,
     pub steps: MaintenanceSteps,
     pub counters: ArrayCounters,
     pub events: RecentEvents,
@@ -75,6 +76,15 @@ pub struct StoreNumbers {
     pub commits: u64,
     /// Checkpoints that have replaced the log, since the start.
     pub checkpoints: u64,
+}
+
+/// The sessions that are open.
+#[derive(Clone, Copy, Debug, PartialEq, Eq, Serialize)]
+pub struct SessionNumbers {
+    /// Whether a host is logged in, by host, 0 to 3.
+    pub hosts: [bool; 4],
+    /// iSCSI sessions for discovery.
+    pub discovery: u8,
 }
 
 /// What was done for one host since the start. The numbers saturate.

@@ -1,7 +1,8 @@
 // An array that stands still, and connections to it.
 use ar_status::{
     ArrayCounters, ArrayHealth, ArrayStatus, EventKind, HostCounters, Look, MaintenanceSteps,
-    OperationCounters, RecentEvent, RecentEvents, ReplyCounters, Watched, serve_named,
+    OperationCounters, RecentEvent, RecentEvents, ReplyCounters, SessionNumbers, Watched,
+    serve_named,
 };
 use std::alloc::{AllocError, Global};
 use std::hash::RandomState;
@@ -59,6 +60,10 @@ pub fn array_in(health: ArrayHealth) -> Still {
         history_bytes: 4096,
         store: None,
         hosts: hosts(),
+        sessions: SessionNumbers {
+            hosts: [true, false, false, true],
+            discovery: 2,
+        },
         counters: ArrayCounters {
             promotions: 11,
             squeezes: 12,
