@@ -1,17 +1,18 @@
 -- Runs of sectors, within a block and over blocks.
 use Rattle.std.proofs.Common.{◌≡◌, ◌≢◌, ◌⊎◌, Bool, true, false, ℕ, zero, suc, ◌+◌, ◌-◌, ◌*◌, ◌/◌, ◌%◌, ◌<◌, ◌≤◌, List}
-use Rattle.std.proofs.Common.{◌++◌, length, take, drop, min, refl, sym, ap, ◌∙◌, inl, inr, lit<, mod-lt, arith}
+use Rattle.std.proofs.Common.{◌==◌, ◌++◌, length, take, drop, min, refl, sym, ap, ◌∙◌, inl, inr, lit<, mod-lt, arith}
 use Rattle.std.specs.List.{concat}
 use Rattle.std.proofs.lemmas.Bool.{cases_eq, cases_lt}
+use Rattle.std.proofs.lemmas.Bool.Decides.{eqb_tells}
 use Rattle.std.proofs.Math.Seq.{take-append_seam}
-use Rattle.std.proofs.lemmas.List.{append_assoc}
+use Rattle.std.proofs.lemmas.List.{append_assoc, length-drop, length-take-le}
 use Rattle.std.proofs.lemmas.Nat.{div-mul-add, mod-mul-add, div-add-mod'}
 use Rattle.ar_disks.specs.declared.geometry.Geometry.{Geometry}
 use Rattle.ar_disks.specs.declared.geometry.Geometry.TheVariants.{Paper, Small}
-use Rattle.ar_disks.specs.Geometry.{sectors_of}
+use Rattle.ar_disks.specs.Geometry.{block_len_of, sectors_of}
 use Rattle.ar_disks.specs.Lending.{refilled}
 use Rattle.ar_disks.specs.Block.{sectors_at}
-use Rattle.ar_disks.proofs.Sectors.{sectors_at_is, sectors_at-none, sectors_at-add, sectors_at-sectors_at}
+use Rattle.ar_disks.proofs.Sectors.{block_len-sectors, sectors_at_is, sectors_at-none, sectors_at-add, sectors_at-sectors_at}
 use Rattle.ar_disks.specs.declared.address.Addr.{Addr}
 use Rattle.ar_disks.specs.declared.address.Key.{Key}
 use Rattle.ar_cache.specs.Backing.{stored}
@@ -192,6 +193,29 @@ cut_part bytes first part =
     let at : first * 512 ≡ 512 * first = omega arith in
     ap (λ k. take k (drop (first * 512) bytes)) len ∙ ap (λ k. take (512 * part) (drop k bytes)) at
     ∙ sym (sectors_at_is bytes first part)
+
+-- it is as long as the part, if the bytes go that far
+pub cut_part-length : (bytes : List ℕ) (first part : ℕ) → 512 * (first + part) ≤ length bytes
+    → length (take (first * 512 + part * 512 - first * 512) (drop (first * 512) bytes)) ≡ 512 * part
+cut_part-length bytes first part fits =
+    let rest = length-drop (first * 512) bytes in
+    length-take-le (first * 512 + part * 512 - first * 512) (drop (first * 512) bytes) (omega (arith, rest, fits))
+    ∙ omega arith
+
+-- a part is a whole block if its bytes are
+pub bytes-whole : (g : Geometry) (len part : ℕ) → len ≡ 512 * part → len == block_len_of g ≡ (part == sectors_of g)
+bytes-whole g len part is =
+    let block = block_len-sectors g in
+    elim (eqb_tells part (sectors_of g)) [
+      | inl whole ↦ (elim (eqb_tells len (block_len_of g)) [
+        | inl all ↦ all.0 ∙ sym whole.0
+        | inr some ↦ absurd (some.1 (omega (arith, block, is, whole.1)))
+      ])
+      | inr less ↦ (elim (eqb_tells len (block_len_of g)) [
+        | inl all ↦ absurd (less.1 (omega (arith, block, is, all.1)))
+        | inr some ↦ some.0 ∙ sym less.0
+      ])
+    ]
 
 -- two blocks of one unit
 pub other_block : (addr : Addr) (q r : ℕ) → q ≢ r → key_of addr q ≢ key_of addr r

@@ -13,7 +13,7 @@ ghost use Rattle.ar_volume.specs.Storing.{BreaksForced, EmptiesCache, ForcesBloc
 use crate::{Blocks, Flush, Health};
 use ar_disks::{Addr, Completion, Disk, Key};
 
-/// The most blocks that one call destages for a unit's host: 4 MiB. Between two calls other hosts' commands are executed.
+/// The most blocks that one call destages for a unit's host: 4 MiB. Other hosts' commands are executed between calls.
 const PART_BLOCKS: u32 = 64;
 
 /// How the destaging of a part of a unit's cached blocks ended.

@@ -106,26 +106,26 @@ fn write_part<B: Backing>(
     geometry: Geometry,
     key: Key,
     first: usize,
-    count: usize,
     bytes: &[u8],
     block: &mut Block,
 ) -> Completion
     requires shape { geometry ≡ B.geometry blocks.old }
     requires known { IsTrue (B.knows blocks.old key) }
     requires whole { length block.old ≡ block_len_of geometry }
-    requires sectors { length bytes.now ≡ 512 * count }
-    requires within { first + count ≤ sectors_of geometry }
+    requires within { 512 * first + length bytes.now ≤ block_len_of geometry }
 
-    ensures inside { result ≡ Completion.Done → (i : ℕ) → first ≤ i → i < first + count
+    ensures inside { result ≡ Completion.Done → (i : ℕ) → first ≤ i
+        → 512 * (i + 1) ≤ 512 * first + length bytes.now
         → sectors_at (B.block_at blocks.new key) i 1 ≡ sectors_at bytes.now (i - first) 1 }
-    ensures outside { result ≡ Completion.Done → (i : ℕ) → (i < first) ⊎ (first + count ≤ i) → i < sectors_of geometry
+    ensures outside { result ≡ Completion.Done → (i : ℕ) → (i < first) ⊎ (512 * first + length bytes.now ≤ 512 * i)
+        → i < sectors_of geometry
         → sectors_at (B.block_at blocks.new key) i 1 ≡ sectors_at (B.block_at blocks.old key) i 1 }
     ensures others { result ≡ Completion.Done → (k : Key) → k ≢ key
         → B.block_at blocks.new k ≡ B.block_at blocks.old k }
     ensures puts { result ≡ Completion.Done
-        → Replaces B.gets B.puts (count == sectors_of geometry) blocks.old key blocks.new }
-    ensures stopped { result ≡ Completion.Broken
-        → StopsReplacing B.gets B.breaks B.is_broken (count == sectors_of geometry) blocks.old key blocks.new }
+        → Replaces B.gets B.puts (length bytes.now == block_len_of geometry) blocks.old key blocks.new }
+    ensures stopped { result ≡ Completion.Broken → StopsReplacing B.gets B.breaks B.is_broken
+        (length bytes.now == block_len_of geometry) blocks.old key blocks.new }
 
     ensures answer { result ≡ stored (B.is_broken blocks.new) }
     ensures keeps { KeepsBacking B.geometry B.knows B.is_broken B.follows blocks.old blocks.new }
@@ -146,20 +146,19 @@ fn write_part<B: Backing>(
 // Overwrites sectors of one block with zeros. The block is read first.
 pub(crate) fn zero_part<B: Backing>(
     blocks: &mut B,
-    geometry: Geometry,
     key: Key,
     first: usize,
     count: usize,
     block: &mut Block,
 ) -> Completion
-    requires shape { geometry ≡ B.geometry blocks.old }
     requires known { IsTrue (B.knows blocks.old key) }
-    requires whole { length block.old ≡ block_len_of geometry }
-    requires within { first + count ≤ sectors_of geometry }
+    requires whole { length block.old ≡ block_len_of (B.geometry blocks.old) }
+    requires within { first + count ≤ sectors_of (B.geometry blocks.old) }
 
     ensures inside { result ≡ Completion.Done → (i : ℕ) → first ≤ i → i < first + count
         → sectors_at (B.block_at blocks.new key) i 1 ≡ sectors_at (zeros (count * 512)) (i - first) 1 }
-    ensures outside { result ≡ Completion.Done → (i : ℕ) → (i < first) ⊎ (first + count ≤ i) → i < sectors_of geometry
+    ensures outside { result ≡ Completion.Done → (i : ℕ) → (i < first) ⊎ (first + count ≤ i)
+        → i < sectors_of (B.geometry blocks.old)
         → sectors_at (B.block_at blocks.new key) i 1 ≡ sectors_at (B.block_at blocks.old key) i 1 }
     ensures others { result ≡ Completion.Done → (k : Key) → k ≢ key
         → B.block_at blocks.new k ≡ B.block_at blocks.old k }
@@ -238,15 +237,7 @@ pub fn write_sectors<B: Backing>(
         };
         let from = (at - lba) as usize * SECTOR_LEN;
         let piece = &bytes[from..from + part as usize * SECTOR_LEN];
-        match write_part(
-            blocks,
-            geometry,
-            key,
-            first as usize,
-            part as usize,
-            piece,
-            block,
-        ) {
+        match write_part(blocks, geometry, key, first as usize, piece, block) {
             Completion::Done => at += part,
             Completion::Broken => return Completion::Broken,
         }

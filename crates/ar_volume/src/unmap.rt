@@ -97,7 +97,7 @@ impl<D: Disk> Blocks<D> {
         if self.is_unwritten(key) {
             return Completion::Done;
         }
-        zero_part(self, geometry, key, first as usize, count as usize, block)
+        zero_part(self, key, first as usize, count as usize, block)
     }
 
     // Discards a block: it loses its home and its cache entry.

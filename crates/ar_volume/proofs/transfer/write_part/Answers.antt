@@ -1,13 +1,12 @@
 use Rattle.std.proofs.Common.{◌≡◌, ◌⊎◌, ℕ, ◌*◌, ◌+◌, ◌≤◌, List, length, ap, ◌∙◌, inl, inr, arith}
-use Rattle.ar_disks.specs.Geometry.{sectors_of, block_len_of}
+use Rattle.ar_disks.specs.Geometry.{block_len_of}
 use Rattle.ar_disks.specs.Block.{sectors_at, with_sectors}
-use Rattle.ar_disks.proofs.Sectors.{block_len-sectors, sectors_at-with_sectors_inside, sectors_at-with_sectors_outside}
+use Rattle.ar_disks.proofs.Sectors.{sectors_at-with_sectors_inside, sectors_at-with_sectors_outside}
 use Rattle.ar_volume.proofs.Pieces.{refilled_is}
 use Rattle.ar_volume.proofs.transfer.write_part.Goals as goal
 
 pub returns-in-Done-clause-inside : goal.returns-in-Done-clause-inside
 returns-in-Done-clause-inside g c = λ done i low high.
-    let len : block_len_of c.args.geometry ≡ 512 * sectors_of c.args.geometry = block_len-sectors c.args.geometry in
     let kept : length c.get.new.into ≡ length c.args.block.now =
     c.get.auto.into ∙ ap length c.bytes_mut.ensures.value in
     let whole : length c.get.new.into ≡ block_len_of c.args.geometry = kept ∙ c.requires.whole in
@@ -17,11 +16,10 @@ returns-in-Done-clause-inside g c = λ done i low high.
     (refilled_is c.args.block.now c.get.new.into kept) in
     ap (λ (b : List ℕ). sectors_at b i 1) ((c.put-in-Done.ensures.written done).written ∙ c.bytes.ensures ∙ put)
     ∙ sectors_at-with_sectors_inside c.get.new.into c.args.bytes.now c.args.first i low
-    (omega (arith, c.requires.sectors)) (omega (arith, c.requires.sectors, c.requires.within))
+    high (omega (arith, whole, c.requires.within))
 
 pub returns-in-Done-clause-outside : goal.returns-in-Done-clause-outside
 returns-in-Done-clause-outside g c = λ done i apart exists.
-    let len : block_len_of c.args.geometry ≡ 512 * sectors_of c.args.geometry = block_len-sectors c.args.geometry in
     let kept : length c.get.new.into ≡ length c.args.block.now =
     c.get.auto.into ∙ ap length c.bytes_mut.ensures.value in
     let whole : length c.get.new.into ≡ block_len_of c.args.geometry = kept ∙ c.requires.whole in
@@ -30,8 +28,8 @@ returns-in-Done-clause-outside g c = λ done i apart exists.
     ∙ ap (λ (b : List ℕ). with_sectors b c.args.first c.args.bytes.now)
     (refilled_is c.args.block.now c.get.new.into kept) in
     let far : (i + 1 ≤ c.args.first) ⊎ (512 * c.args.first + length c.args.bytes.now ≤ 512 * i) =
-    elim apart [ inl before ↦ inl (omega arith) | inr after ↦ inr (omega (arith, c.requires.sectors)) ] in
+    elim apart [ inl before ↦ inl (omega arith) | inr after ↦ inr after ] in
     ap (λ (b : List ℕ). sectors_at b i 1) ((c.put-in-Done.ensures.written done).written ∙ c.bytes.ensures ∙ put)
     ∙ sectors_at-with_sectors_outside c.get.new.into c.args.bytes.now c.args.first i far
-    (omega (arith, c.requires.sectors, c.requires.within))
+    (omega (arith, whole, c.requires.within))
     ∙ ap (λ (b : List ℕ). sectors_at b i 1) (c.get.ensures.content c.in-Done.is)

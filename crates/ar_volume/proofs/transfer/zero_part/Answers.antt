@@ -1,4 +1,5 @@
 use Rattle.std.proofs.Common.{◌≡◌, ◌⊎◌, ℕ, ◌*◌, ◌+◌, ◌≤◌, List, length, ap, ◌∙◌, inl, inr, arith}
+use Rattle.ar_disks.specs.declared.geometry.Geometry.{Geometry}
 use Rattle.ar_disks.specs.Geometry.{sectors_of, block_len_of}
 use Rattle.ar_disks.specs.Block.{sectors_at, with_sectors, zeros}
 use Rattle.ar_disks.specs.Lending.{refilled}
@@ -9,7 +10,8 @@ use Rattle.ar_volume.proofs.transfer.zero_part.Goals as goal
 
 pub zero_sectors-requires : goal.zero_sectors-requires
 zero_sectors-requires g c =
-    let len : block_len_of c.args.geometry ≡ 512 * sectors_of c.args.geometry = block_len-sectors c.args.geometry in
+    let shape : Geometry = g.B.Backing.geometry c.args.blocks.now in
+    let len : block_len_of shape ≡ 512 * sectors_of shape = block_len-sectors shape in
     let kept : length c.get.new.into ≡ length c.args.block.now =
     c.get.auto.into ∙ ap length c.bytes_mut.ensures.value in
     let same : length (refilled c.args.block.now c.get.new.into) ≡ length c.get.new.into =
@@ -18,12 +20,13 @@ zero_sectors-requires g c =
 
 pub returns-in-Done-clause-inside : goal.returns-in-Done-clause-inside
 returns-in-Done-clause-inside g c = λ done i low high.
+    let shape : Geometry = g.B.Backing.geometry c.args.blocks.now in
     let fill : List ℕ = zeros (c.args.count * 512) in
     let many : length fill ≡ c.args.count * 512 = length-zeros (c.args.count * 512) in
-    let len : block_len_of c.args.geometry ≡ 512 * sectors_of c.args.geometry = block_len-sectors c.args.geometry in
+    let len : block_len_of shape ≡ 512 * sectors_of shape = block_len-sectors shape in
     let kept : length c.get.new.into ≡ length c.args.block.now =
     c.get.auto.into ∙ ap length c.bytes_mut.ensures.value in
-    let whole : length c.get.new.into ≡ block_len_of c.args.geometry = kept ∙ c.requires.whole in
+    let whole : length c.get.new.into ≡ block_len_of shape = kept ∙ c.requires.whole in
     let put : c.zero_sectors.new.block ≡ with_sectors c.get.new.into c.args.first fill =
     c.zero_sectors.ensures.zeroed
     ∙ ap (λ (b : List ℕ). with_sectors b c.args.first fill)
@@ -34,12 +37,13 @@ returns-in-Done-clause-inside g c = λ done i low high.
 
 pub returns-in-Done-clause-outside : goal.returns-in-Done-clause-outside
 returns-in-Done-clause-outside g c = λ done i apart exists.
+    let shape : Geometry = g.B.Backing.geometry c.args.blocks.now in
     let fill : List ℕ = zeros (c.args.count * 512) in
     let many : length fill ≡ c.args.count * 512 = length-zeros (c.args.count * 512) in
-    let len : block_len_of c.args.geometry ≡ 512 * sectors_of c.args.geometry = block_len-sectors c.args.geometry in
+    let len : block_len_of shape ≡ 512 * sectors_of shape = block_len-sectors shape in
     let kept : length c.get.new.into ≡ length c.args.block.now =
     c.get.auto.into ∙ ap length c.bytes_mut.ensures.value in
-    let whole : length c.get.new.into ≡ block_len_of c.args.geometry = kept ∙ c.requires.whole in
+    let whole : length c.get.new.into ≡ block_len_of shape = kept ∙ c.requires.whole in
     let put : c.zero_sectors.new.block ≡ with_sectors c.get.new.into c.args.first fill =
     c.zero_sectors.ensures.zeroed
     ∙ ap (λ (b : List ℕ). with_sectors b c.args.first fill)
