@@ -26,7 +26,7 @@ no_part addr = record {
 pub next_is : (addr : Addr) (first next : ℕ) → DestagedPart addr first (More next) → next ≡ first + 64
 next_is addr first next part =
     let flushes : FlushesPart part.old.array addr first (More next) part.new.array = part.destages.steps.answers in
-    (flushes.goes_on next refl).0
+    (flushes.ends.goes_on next refl).0
 
 -- one more
 pub next_part : (addr : Addr) (first next : ℕ) → DestagedUpTo addr first → DestagedPart addr first (More next)
@@ -55,7 +55,7 @@ pub fewer_left : (addr : Addr) (first next : ℕ) → DestagedPart addr first (M
     → 1048576 - next < 1048576 - first
 fewer_left addr first next part =
     let flushes : FlushesPart part.old.array addr first (More next) part.new.array = part.destages.steps.answers in
-    let few : next < 1048576 = flushes.few next refl in
+    let few : next < 1048576 = flushes.ends.few next refl in
     let begins : next ≡ first + 64 = next_is addr first next part in
     omega (arith, few, begins)
 

@@ -13,7 +13,7 @@ use Rattle.ar_store.proofs.Fills.{accessed_refl}
 use Rattle.ar_cache.specs.Backing.{InTurn, StopsInTurn}
 use Rattle.ar_cache.specs.Cache.{CacheState, cached}
 use Rattle.ar_volume.specs.declared.flush.PartFlush.TheVariants.{Done, More, Absent, Broken}
-use Rattle.ar_volume.specs.Flush.{FlushesPart, after_part, blocks_at, part_keys}
+use Rattle.ar_volume.specs.Flush.{EmptiesPart, FlushesPart, after_part, blocks_at, part_keys}
 use Rattle.ar_volume.specs.Following.{ArrayFollows}
 use Rattle.ar_volume.specs.Image.{ArrayState, CacheAgrees, geometry_of, is_broken}
 use Rattle.ar_volume.specs.Sectors.{key_of, keys_from}
@@ -108,20 +108,27 @@ part_flushed old new addr first sectors last end agrees unit is part was now for
     keys : keys_from addr first (last + 1 - first) ≡ part_keys old addr first
     keys = keys_are old addr first sectors last end unit is part
 
+    emptied : EmptiesPart old addr first new
+    emptied = record {
+      in_turn = subst (λ ks. InTurn ForcesBlock ks old new) keys turn;
+      uncached = none;
+      on_disks = record { same = λ rb from below. seen_absent new (key_of addr rb) (none rb from below) };
+      spared = others_kept old.cache new.cache addr first last (first + 64) (omega (arith, part)) kept;
+    }
+
     by : (left : Bool) → nat_lt last end ≡ left → FlushesPart old addr first (cond left (More (last + 1)) Done) new
     by true more = record {
-      there = λ _. unit.there;
-      ended = λ e. absurd (cc);
-      goes_on = λ next e. (let same : next ≡ last + 1 = cc in let below = ltb-true last end more in
-          (omega (arith, same, below, blocks, few, part), omega (arith, same, below, blocks)));
-      few = λ next e. (let same : next ≡ last + 1 = cc in let below = ltb-true last end more in
-          omega (arith, same, below, few));
-      uncached = λ _. none;
-      on_disks = λ _. record { same = λ rb from below. seen_absent new (key_of addr rb) (none rb from below) };
-      spared = λ _. others_kept old.cache new.cache addr first last (first + 64) (omega (arith, part)) kept;
-      in_turn = λ _. subst (λ ks. InTurn ForcesBlock ks old new) keys turn;
+      ends = record {
+        there = λ _. unit.there;
+        done = λ e. absurd (cc);
+        goes_on = λ next e. (let same : next ≡ last + 1 = cc in let below = ltb-true last end more in
+            (omega (arith, same, below, blocks, few, part), omega (arith, same, below, blocks)));
+        few = λ next e. (let same : next ≡ last + 1 = cc in let below = ltb-true last end more in
+            omega (arith, same, below, few));
+        absent = λ e. absurd (cc);
+      };
+      empties = λ _. emptied;
       stopped = λ e _. absurd (cc);
-      absent = λ e. absurd (cc);
       idle = λ e. absurd (cc);
       units = follows.store.units;
       accessed = follows.store.accessed;
@@ -129,16 +136,15 @@ part_flushed old new addr first sectors last end agrees unit is part was now for
       unchanged = λ e. absurd (true≢false (sym e ∙ was));
     }
     by false none_left = record {
-      there = λ _. unit.there;
-      ended = λ _. (let past = ltb-false last end none_left in omega (arith, past, blocks, few, part));
-      goes_on = λ next e. absurd (cc);
-      few = λ next e. absurd (cc);
-      uncached = λ _. none;
-      on_disks = λ _. record { same = λ rb from below. seen_absent new (key_of addr rb) (none rb from below) };
-      spared = λ _. others_kept old.cache new.cache addr first last (first + 64) (omega (arith, part)) kept;
-      in_turn = λ _. subst (λ ks. InTurn ForcesBlock ks old new) keys turn;
+      ends = record {
+        there = λ _. unit.there;
+        done = λ _. (let past = ltb-false last end none_left in omega (arith, past, blocks, few, part));
+        goes_on = λ next e. absurd (cc);
+        few = λ next e. absurd (cc);
+        absent = λ e. absurd (cc);
+      };
+      empties = λ _. emptied;
       stopped = λ e _. absurd (cc);
-      absent = λ e. absurd (cc);
       idle = λ e. absurd (cc);
       units = follows.store.units;
       accessed = follows.store.accessed;
@@ -152,18 +158,17 @@ pub part_stopped : (old new : ArrayState) (addr : Addr) (first sectors last end 
     → StopsInTurn ForcesBlock BreaksForced (keys_from addr first (last + 1 - first)) old new → ArrayFollows old new
     → FlushesPart old addr first Broken new
 part_stopped old new addr first sectors last end unit is part was now stops follows = record {
-  there = λ e. absurd (cc);
-  ended = λ e. absurd (cc);
-  goes_on = λ next e. absurd (cc);
-  few = λ next e. absurd (cc);
-  uncached = λ e. absurd (cc);
-  on_disks = λ e. absurd (cc);
-  spared = λ e. absurd (cc);
-  in_turn = λ e. absurd (cc);
+  ends = record {
+    there = λ e. absurd (cc);
+    done = λ e. absurd (cc);
+    goes_on = λ next e. absurd (cc);
+    few = λ next e. absurd (cc);
+    absent = λ e. absurd (cc);
+  };
+  empties = λ e. absurd (cc);
   stopped = λ _ _.
       subst (λ ks. StopsInTurn ForcesBlock BreaksForced ks old new)
       (keys_are old addr first sectors last end unit is part) stops;
-  absent = λ e. absurd (cc);
   idle = λ e. absurd (cc);
   units = follows.store.units;
   accessed = follows.store.accessed;
@@ -175,16 +180,15 @@ part_stopped old new addr first sectors last end unit is part was now stops foll
 pub part_absent : (s : ArrayState) (addr : Addr) (first : ℕ) → is_broken s ≡ false
     → has_unit s.store.book addr ≡ false → FlushesPart s addr first Absent s
 part_absent s addr first sound none = record {
-  there = λ e. absurd (cc);
-  ended = λ e. absurd (cc);
-  goes_on = λ next e. absurd (cc);
-  few = λ next e. absurd (cc);
-  uncached = λ e. absurd (cc);
-  on_disks = λ e. absurd (cc);
-  spared = λ e. absurd (cc);
-  in_turn = λ e. absurd (cc);
+  ends = record {
+    there = λ e. absurd (cc);
+    done = λ e. absurd (cc);
+    goes_on = λ next e. absurd (cc);
+    few = λ next e. absurd (cc);
+    absent = λ _. none;
+  };
+  empties = λ e. absurd (cc);
   stopped = λ e _. absurd (cc);
-  absent = λ _. none;
   idle = λ _. refl;
   units = units_refl s.store.book;
   accessed = accessed_refl s.store.disks;
@@ -195,16 +199,15 @@ part_absent s addr first sound none = record {
 -- the array had failed before
 pub part_lost : (s : ArrayState) (addr : Addr) (first : ℕ) → IsTrue (is_broken s) → FlushesPart s addr first Broken s
 part_lost s addr first lost = record {
-  there = λ e. absurd (cc);
-  ended = λ e. absurd (cc);
-  goes_on = λ next e. absurd (cc);
-  few = λ next e. absurd (cc);
-  uncached = λ e. absurd (cc);
-  on_disks = λ e. absurd (cc);
-  spared = λ e. absurd (cc);
-  in_turn = λ e. absurd (cc);
+  ends = record {
+    there = λ e. absurd (cc);
+    done = λ e. absurd (cc);
+    goes_on = λ next e. absurd (cc);
+    few = λ next e. absurd (cc);
+    absent = λ e. absurd (cc);
+  };
+  empties = λ e. absurd (cc);
   stopped = λ _ sound. absurd (true≢false (sym lost ∙ sound));
-  absent = λ e. absurd (cc);
   idle = λ e. absurd (cc);
   units = units_refl s.store.book;
   accessed = accessed_refl s.store.disks;

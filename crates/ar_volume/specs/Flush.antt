@@ -64,27 +64,32 @@ pub record PartOnDisks (s : ArrayState) (addr : Addr) (first : ℕ) : Type 0 whe
   pub same : (rb : ℕ) → first ≤ rb → rb < first + part_blocks
       → seen_at s (key_of addr rb) ≡ stands s.store (key_of addr rb)
 
--- The cached blocks of one part of a unit were destaged, in ascending order, or there is no such unit. Broken is
--- returned exactly if the array has failed afterwards: it had before, and nothing changed, or one of these puts failed
--- it.
+-- How the flush of a part ends: `Done` if the part had the unit's last block; `More` if it hadn't, and the next one
+-- begins with the block after it; `Absent` if there is no such unit.
+pub record EndsPart (old : ArrayState) (addr : Addr) (first : ℕ) (answer : PartFlush) : Type 0 where
+  pub there : has_flushed answer ≡ true → has_unit old.store.book addr ≡ true
+  pub done : answer ≡ Done → blocks_at old addr ≤ first + part_blocks
+  pub goes_on : (next : ℕ) → answer ≡ More next → (next ≡ first + part_blocks) × (next < blocks_at old addr)
+  pub few : (next : ℕ) → answer ≡ More next → next < 1048576
+  pub absent : answer ≡ Absent → has_unit old.store.book addr ≡ false
+
+-- Each cached block of a part of a unit was put once, in ascending order. None of them is cached any more, so their
+-- contents are on the disks; all other cached blocks, the unit's too, stay cached.
+pub record EmptiesPart (old : ArrayState) (addr : Addr) (first : ℕ) (new : ArrayState) : Type 0 where
+  pub in_turn : InTurn ForcesBlock (part_keys old addr first) old new
+  pub uncached : (rb : ℕ) → first ≤ rb → rb < first + part_blocks → cached new.cache (key_of addr rb) ≡ None
+  pub on_disks : PartOnDisks new addr first
+  pub spared : KeepsCachedBut old.cache new.cache addr first (first + part_blocks)
+
+-- The cached blocks of one part of a unit were destaged, or there is no such unit. Broken is returned exactly if the
+-- array has failed afterwards: it had before, and nothing changed, or one of these puts failed it.
 pub record FlushesPart (old : ArrayState) (addr : Addr) (first : ℕ) (answer : PartFlush) (new : ArrayState) : Type 0
   where
-    pub there : has_flushed answer ≡ true → has_unit old.store.book addr ≡ true
-    -- Done: the part had the unit's last block; More: it hadn't, and the next one begins with the block after it
-    pub ended : answer ≡ Done → blocks_at old addr ≤ first + part_blocks
-    pub goes_on : (next : ℕ) → answer ≡ More next → (next ≡ first + part_blocks) × (next < blocks_at old addr)
-    pub few : (next : ℕ) → answer ≡ More next → next < 1048576
-    -- none of the part's blocks is cached any more, so their contents are on the disks
-    pub uncached : has_flushed answer ≡ true → (rb : ℕ) → first ≤ rb → rb < first + part_blocks
-        → cached new.cache (key_of addr rb) ≡ None
-    pub on_disks : has_flushed answer ≡ true → PartOnDisks new addr first
-    -- all other cached blocks, the unit's too, stay cached
-    pub spared : has_flushed answer ≡ true → KeepsCachedBut old.cache new.cache addr first (first + part_blocks)
-    -- each cached block of the part was put once; if a put failed the array, the blocks up to that one were
-    pub in_turn : has_flushed answer ≡ true → InTurn ForcesBlock (part_keys old addr first) old new
+    pub ends : EndsPart old addr first answer
+    pub empties : has_flushed answer ≡ true → EmptiesPart old addr first new
+    -- if a put failed the array, the blocks up to that one were put
     pub stopped : answer ≡ PartNotFlushed → is_broken old ≡ false
         → StopsInTurn ForcesBlock BreaksForced (part_keys old addr first) old new
-    pub absent : answer ≡ Absent → has_unit old.store.book addr ≡ false
     pub idle : answer ≡ Absent → new ≡ old
     -- whatever is returned, the units keep all but homes and write sequence numbers, and the room stays
     pub units : SameUnits old.store.book new.store.book

@@ -6,5 +6,5 @@ pub returns : goal.returns
 returns c = record {
   one = λ old new key steps none. put_costs old.store key new.store steps.answers.put none;
   part = λ old new addr first answer steps done none.
-      forced_cost (part_keys old addr first) old new (steps.answers.in_turn done) none;
+      forced_cost (part_keys old addr first) old new (steps.answers.empties done).in_turn none;
 }
