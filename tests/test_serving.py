@@ -259,11 +259,11 @@ class Connections(Case):
         self.wants(operator.lines.read(), "", "what an operator receives at the end")
 
     def largest_crowd(self, *sessions):
-        """64 connections at once, the most: the last one is served beside 63 that say nothing."""
+        """A 64th connection is served beside 63 that say nothing, of which the oldest makes room."""
         server = self.serve(*sessions, "0:0:8")
         silent = [connected(server.port) for _ in range(63)]
         host = server.log_in(0)
-        self.wants((host.greeting, host.is_ready()), (ACCEPTED, True), "the last of 64 connections")
+        self.wants((host.greeting, host.is_ready()), (ACCEPTED, True), "the 64th connection")
         for each in [*silent, host]:
             each.close()
         return server
