@@ -1,5 +1,7 @@
+pub mod Attached
 pub mod Control
 pub mod Monitoring
+pub mod Names
 pub mod Service
 pub mod Watching
 -- definitions of lower crates that clauses of this crate cite

@@ -1,6 +1,6 @@
 -- A look at a served array, as the pages show it.
-use Rattle.std.specs.Prelude.{◌≡◌, ℕ, ◌-◌, ◌++◌, Bool, true, false, List, [], length, map, Option, Some, None}
-use Rattle.std.specs.Prelude.{option_map}
+use Rattle.std.specs.Prelude.{◌≡◌, ℕ, ◌-◌, ◌++◌, Bool, true, false, not, List, [], ◌∷◌, length, map, min, Option, Some}
+use Rattle.std.specs.Prelude.{None, is_some, option_map}
 use Rattle.std.specs.List.{range_with_len}
 use Rattle.ar_disks.specs.Geometry.{block_len_of}
 use Rattle.ar_extents.specs.declared.health.Health.{Health}
@@ -21,6 +21,9 @@ use Rattle.ar_picture.specs.Drawings.{svg_text}
 use Rattle.ar_picture.specs.Losses.{health_naming}
 use Rattle.ar_picture.specs.declared.picture.Picture.{Picture}
 use Rattle.ar_script.specs.Pictures.{IsPicture}
+use Rattle.ar_service.specs.Attached.{discoveries}
+use Rattle.ar_service.specs.declared.attached.Attached.{Attached}
+use Rattle.ar_sessions.specs.Desk.{Places, seat_at}
 use Rattle.ar_status.specs.Changes.{between, events_in, listed_with}
 use Rattle.ar_status.specs.declared.changes.EventLog.{EventLog}
 use Rattle.ar_status.specs.declared.events.EventKind.TheVariants.{DiskAdded}
@@ -33,6 +36,7 @@ use Rattle.ar_status.specs.declared.status.HostCounters.{HostCounters}
 use Rattle.ar_status.specs.declared.status.MaintenanceSteps.{MaintenanceSteps}
 use Rattle.ar_status.specs.declared.status.OperationCounters.{OperationCounters}
 use Rattle.ar_status.specs.declared.status.ReplyCounters.{ReplyCounters}
+use Rattle.ar_status.specs.declared.status.SessionNumbers.{SessionNumbers}
 use Rattle.ar_status.specs.declared.status.StoreHealth.{StoreHealth}
 use Rattle.ar_status.specs.declared.status.StoreHealth.TheVariants as shown
 use Rattle.ar_status.specs.declared.status.StoreNumbers.{StoreNumbers}
@@ -110,11 +114,35 @@ counters_watched counters = record {
   discards = counters.discards;
 }
 
+-- a host is logged in: its seat isn't on the desk
+abbrev pub is_out : Places → ℕ → Bool
+is_out places host = not (is_some (seat_at places host))
+
+-- which hosts are logged in, by the places of a desk
+abbrev pub hosts_out : Places → List Bool
+hosts_out places = is_out places 0 ∷ is_out places 1 ∷ is_out places 2 ∷ is_out places 3 ∷ []
+
+-- these hosts are logged in, by some desk
+pub record AreHosts (hosts : List Bool) : Type 0 where
+  pub places : Places
+  pub are : hosts ≡ hosts_out places
+
+-- this is how many sessions of some list are for discovery, up to 255
+pub record AreDiscoveries (count : ℕ) : Type 0 where
+  pub list : List Attached
+  pub are : count ≡ min (discoveries list) 255
+
+-- The sessions are those of a desk and of a list. That these are the ones behind the locks is not specified.
+pub record AreSessions (numbers : SessionNumbers) : Type 0 where
+  pub hosts : AreHosts numbers.hosts
+  pub discovery : AreDiscoveries numbers.discovery
+
 -- The status is that of this array with these counts, `stored` entries of whose history are stored, with this store, at
--- this second, with these events; `lost` are the disks that it has lost, if it has failed. The memory of the history,
--- and the counters of what else the array did, are not specified.
+-- this second, with these sessions and events; `lost` are the disks that it has lost, if it has failed. The memory of
+-- the history, and the counters of what else the array did, are not specified.
 pub record IsStatusOf (array : ArrayState) (counts : Counts) (stored : ℕ) (store : Option StoreStatus)
-    (lost : Option (List ℕ)) (seconds : ℕ) (latest : RecentEvents) (status : ArrayStatus) : Type 0 where
+    (lost : Option (List ℕ)) (sessions : SessionNumbers) (seconds : ℕ) (latest : RecentEvents) (status : ArrayStatus)
+    : Type 0 where
   pub uptime : status.uptime_seconds ≡ seconds
   pub health : status.health ≡ health_watched array.store.disks.health
   pub lost_is : status.lost_disks ≡ lost_watched lost array.store.disks.health
@@ -127,6 +155,7 @@ pub record IsStatusOf (array : ArrayState) (counts : Counts) (stored : ℕ) (sto
   pub entries : status.history_entries ≡ stored
   pub store_is : status.store ≡ option_map store_watched store
   pub hosts : status.hosts ≡ map host_watched counts.hosts
+  pub sessions_are : status.sessions ≡ sessions
   pub steps : status.steps ≡ steps_watched counts.tasks
   pub events : status.events ≡ latest
 
@@ -164,7 +193,9 @@ pub record CopiesMoment (persists draws : Bool) (status : ArrayStatus) (drawing 
   pub store : Option StoreStatus
   pub absent : persists ≡ false → store ≡ None
   pub lost : Option (List ℕ)
-  pub is : IsStatusOf state.array state.counts stored store lost status.uptime_seconds status.events status
+  pub is :
+      IsStatusOf state.array state.counts stored store lost status.sessions status.uptime_seconds status.events status
+  pub sessions : AreSessions status.sessions
   pub picture : MayDraw draws lost state.array drawing
 
 -- the text of a picture; without one it is empty

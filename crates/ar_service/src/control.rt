@@ -48,7 +48,13 @@ impl<'a, R: Wait, A: ControlledArray<L, M> + Drop, L: Ledger, M> LockController<
         array.set_fuse(self.array.fuses, disk, accesses, out)
     }
 
+    // Writes a line for each host that has a session, and one for each iSCSI session.
     fn show_sessions(&self, out: &mut Vec<u8>) -> Result<(), AllocError> {
+        self.show_hosts(out)?;
+        self.array.initiators.lock(self.array.rt).write(out)
+    }
+
+    fn show_hosts(&self, out: &mut Vec<u8>) -> Result<(), AllocError> {
         let desk = self.array.desk.lock(self.array.rt);
         write_sessions(&desk, out)
     }

@@ -1,14 +1,19 @@
 // The doors of a service: for hosts, and beside it, each with threads of its own, for operators and for HTTP clients.
+ghost use Rattle.std.specs.Prelude.{◌≡◌, ◌<◌};
+ghost use Rattle.ar_service.specs.Watching.{AreDiscoveries, AreHosts, AreSessions, hosts_out, is_out};
+
+use crate::attached::Initiators;
 use crate::initiators::{IscsiPort, Targets};
 use crate::monitoring::Monitor;
 use crate::operators::{OperatorHandler, OperatorRoom, PendingStops};
 use crate::shown::ControlledArray;
 use crate::watching::Watch;
+use ar_disks::Host;
 use ar_frames::{Linked, PairWrite, Sink, Source};
 use ar_iscsi::IscsiEnd;
 use ar_operator::{Fuse, OperatorEnd, lost_disks};
 use ar_sessions::{Desk, Door, Handler, NoMemory, SharedDoor, Starter, run_pool, start_pool};
-use ar_status::{ArrayStatus, EventLog};
+use ar_status::{ArrayStatus, EventLog, SessionNumbers};
 use log::Log;
 use std::alloc::{AllocError, Global};
 use std::hash::RandomState;
@@ -36,6 +41,8 @@ pub struct OperatedArray<'a, R: Wait, A: Drop, L: Ledger, M> {
     pub alloc: Global,
     pub array: &'a Mutex<A>,
     pub desk: &'a Mutex<Desk<L>>,
+    /// The iSCSI sessions.
+    pub initiators: &'a Mutex<Initiators>,
     /// The fuses of its disks, by number.
     pub fuses: &'a [Fuse; 12],
     /// Makes its new disks.
@@ -91,25 +98,73 @@ impl<'a, R: Wait + Clock, A: ControlledArray<L, M> + Drop, L: Ledger, M> Operate
         }
     }
 
+    /// Counts the sessions. Each lock is taken for itself.
+    pub fn sessions(&self) -> SessionNumbers
+        ensures { AreSessions result }
+    {
+        let hosts = hosts_in(&self.desk.lock(self.rt));
+        let discovery = discoveries_in(&self.initiators.lock(self.rt));
+        SessionNumbers { hosts, discovery }
+    }
+
     /// Looks at the array, so that what has happened is listed, and returns its status.
     pub fn see(&self) -> ArrayStatus {
+        let sessions = self.sessions();
         let mut log = self.log.lock(self.rt);
         // (read behind the lock, so that events are listed in the order of their times)
         let seconds = self.seconds();
         let array = self.array.lock(self.rt);
-        see_and_tell::<A, L, M>(&array, self.fuses, seconds, &mut log)
+        see_and_tell::<A, L, M>(&array, self.fuses, sessions, seconds, &mut log)
     }
+}
+
+// Which hosts are logged in.
+fn hosts_in<L: Ledger>(desk: &Desk<L>) -> [bool; 4]
+    ensures { AreHosts result }
+{
+    hosts_out(desk)
+}
+
+fn hosts_out<L: Ledger>(desk: &Desk<L>) -> [bool; 4]
+    ensures { result ≡ hosts_out desk.now }
+{
+    [
+        is_out(desk, 0),
+        is_out(desk, 1),
+        is_out(desk, 2),
+        is_out(desk, 3),
+    ]
+}
+
+// Whether a host is logged in.
+fn is_out<L: Ledger>(desk: &Desk<L>, number: u8) -> bool
+    requires { number < 4 }
+    ensures { result ≡ is_out desk.now number }
+{
+    match Host::new(number) {
+        Some(host) => desk.counts(host).is_some(),
+        None => false,
+    }
+}
+
+// How many sessions are for discovery.
+fn discoveries_in(initiators: &Initiators) -> u8
+    ensures { AreDiscoveries result }
+{
+    initiators.discoveries()
 }
 
 // Looks at an array, and returns its status.
 fn see_and_tell<A: ControlledArray<L, M>, L: Ledger, M>(
     array: &A,
     fuses: &[Fuse; 12],
+    sessions: SessionNumbers,
     seconds: u64,
     log: &mut EventLog,
 ) -> ArrayStatus {
     array.see(seconds, log);
-    array.status(array.store(), lost_disks(fuses), seconds, log.events())
+    let (store, lost) = (array.store(), lost_disks(fuses));
+    array.status(store, lost, sessions, seconds, log.events())
 }
 
 // Whole seconds since, or 0 where the clock can't be read.

@@ -2,25 +2,29 @@
 // target takes the host's seat, as one over the array's own frames does, and returns it at its end.
 ghost use Rattle.std.specs.Prelude.{◌≡◌};
 
+use crate::attached::{Attached, Initiators};
 use crate::doors::OperatedArray;
 use ar_disks::Host;
-use ar_frames::{Login, Port, Sink, Source};
+use ar_frames::{Login, Port, Progress, Sink, Source};
 use ar_history::ServedArray;
 use ar_iscsi::{IscsiEnd, LoginEnd, LoginStatus, serve_target};
 use ar_scsi::Reply;
 use ar_sessions::{Desk, Handler, LockPort, Refusals};
-use ar_target::{Attributes, BlockRun, DeviceServer, DiscardPort, FlushOutcome, FlushPort};
+use ar_target::{
+    Attributes, BlockRun, DeviceServer, DiscardPort, FlushOutcome, FlushPort, InitiatorLogin,
+    LoginObserver,
+};
 use bytes::Bytes;
 use log::{Log, info};
 use std::alloc::{AllocError, Global};
 use std::io::Write;
 use std::sync::ledger::Ledger;
-use std::sync::{Mutex, Wait};
+use std::sync::{Arc, Mutex, Wait};
 use std::thread;
 use std::time::{Clock, Duration};
 
 /// How often a login looks for its host's seat, if another session has it, and the milliseconds between two looks.
-const LOOKS: u32 = 100;
+const LOOKS: u32 = 200;
 
 const LOOK_PAUSE: u64 = 10;
 
@@ -76,16 +80,56 @@ fn address_of(alloc: Global, port: u16) -> Result<Vec<u8>, AllocError> {
     Ok(address)
 }
 
-// A port whose login waits for up to a second while another session has the host's seat: an initiator may log in again
-// as soon as it has logged out, and its last session is still being closed then.
+// A port whose login waits for up to two seconds while another session has the host's seat: an initiator may log in
+// again as soon as it has logged out, and its last session is still being closed then. So is one whose place it takes.
 #[derive(Drop)]
 struct PatientPort<'a, R: Wait, L: Ledger, P: Drop> {
     rt: &'a R,
     desk: &'a Mutex<Desk<L>>,
+    initiators: &'a Mutex<Initiators>,
+    // The number of its connection, and how far its session has come, if that is noted.
+    number: u64,
+    progress: Option<Arc<Progress>>,
     port: P,
 }
 
-impl<'a, R: Wait + Clock, L: Ledger, P: Port + Drop> Port for PatientPort<'a, R, L, P> {
+impl<'a, R: Wait + Log, L: Ledger, P: Drop> PatientPort<'a, R, L, P> {
+    // Notes that the login was accepted, and logs it.
+    fn note_entry(&self) {
+        let session = entered(&mut self.initiators.lock(self.rt), self.number);
+        if let Some(session) = session {
+            info!(self.rt; "iSCSI session {session}");
+        }
+    }
+}
+
+// Notes that the login of a session was accepted, and returns the session, if it is known.
+fn entered(initiators: &mut Initiators, number: u64) -> Option<Attached> {
+    initiators.enter(number);
+    initiators.session(number)
+}
+
+impl<'a, R: Wait + Log, L: Ledger, P: Drop> LoginObserver for PatientPort<'a, R, L, P> {
+    // One for discovery has nothing to wait for.
+    fn observe(&self, login: InitiatorLogin<'_>) {
+        let (peer, progress) = shared(&self.progress);
+        let session = Attached::new(self.number, login, peer);
+        let _added = self.initiators.lock(self.rt).begin(session, progress);
+        if login.host.is_none() {
+            info!(self.rt; "iSCSI session {session}");
+        }
+    }
+}
+
+// The port of a session's peer, and another handle of how far the session has come.
+fn shared(progress: &Option<Arc<Progress>>) -> (Option<u16>, Option<Arc<Progress>>) {
+    match progress {
+        Some(progress) => (progress.peer(), Arc::try_clone(progress).ok()),
+        None => (None, None),
+    }
+}
+
+impl<'a, R: Wait + Clock + Log, L: Ledger, P: Port + Drop> Port for PatientPort<'a, R, L, P> {
     ghost has_login = { λ patient. P.has_login patient.port };
 
     ghost logins = { λ old host login new. P.logins old.port host login new.port };
@@ -96,7 +140,11 @@ impl<'a, R: Wait + Clock, L: Ledger, P: Port + Drop> Port for PatientPort<'a, R,
 
     fn login(&mut self, host: u8) -> Login {
         wait_for_seat(self.rt, self.desk, host);
-        self.port.login(host)
+        let login = self.port.login(host);
+        if let Login::Taken = login {
+            self.note_entry();
+        }
+        login
     }
 
     fn command(&mut self, lun: u8, cdb: &[u8; 16], payload: Bytes) -> Reply {
@@ -108,7 +156,8 @@ impl<'a, R: Wait + Clock, L: Ledger, P: Port + Drop> Port for PatientPort<'a, R,
     }
 }
 
-impl<'a, R: Wait + Clock, L: Ledger, P: FlushPort + Drop> FlushPort for PatientPort<'a, R, L, P> {
+impl<'a, R: Wait + Clock + Log, L: Ledger, P: FlushPort + Drop> FlushPort
+    for PatientPort<'a, R, L, P> {
     ghost flushes = { λ old lun outcome new. P.flushes old.port lun outcome new.port };
 
     fn flush(&mut self, lun: u8) -> FlushOutcome {
@@ -116,7 +165,7 @@ impl<'a, R: Wait + Clock, L: Ledger, P: FlushPort + Drop> FlushPort for PatientP
     }
 }
 
-impl<'a, R: Wait + Clock, L: Ledger, P: DiscardPort + Drop> DiscardPort
+impl<'a, R: Wait + Clock + Log, L: Ledger, P: DiscardPort + Drop> DiscardPort
     for PatientPort<'a, R, L, P> {
     ghost discards = { λ old lun lba count reply new. P.discards old.port lun lba count reply new.port };
 
@@ -131,7 +180,7 @@ impl<'a, R: Wait + Clock, L: Ledger, P: DiscardPort + Drop> DiscardPort
     }
 }
 
-// Waits until a host has no session, or for a second.
+// Waits until a host has no session, or for two seconds.
 fn wait_for_seat<R: Wait + Clock, L: Ledger>(rt: &R, desk: &Mutex<Desk<L>>, number: u8) {
     let Some(host) = Host::new(number) else {
         return;
@@ -158,15 +207,20 @@ impl<
     // Serves a session.
     fn handle(&self, number: u64, mut reader: S, mut writer: W) -> IscsiEnd {
         let (rt, alloc) = (self.array.rt, self.array.alloc);
-        let (array, desk) = (self.array.array, self.array.desk);
+        let (array, desk, initiators) = (self.array.array, self.array.desk, self.array.initiators);
         let port = PatientPort {
             rt,
             desk,
+            initiators,
+            number,
+            progress: progress_of(&reader),
             port: LockPort::new(rt, alloc, array, desk),
         };
         let mut server = DeviceServer::new(alloc, port, self.attributes);
         let end = serve_target(alloc, &mut reader, &mut writer, &mut server, &self.address);
         let PatientPort { port, .. } = server.into_port();
+        // (so that nobody sees it once another has the seat)
+        initiators.lock(rt).end(number);
         let _receipt = port.finish();
         if let Some(why) = refusal_of(end) {
             self.refusals.warn(rt, "an initiator", why);
@@ -174,6 +228,11 @@ impl<
         info!(rt; "iSCSI session {number} ended: {end:?}");
         end
     }
+}
+
+// How far the session over a stream has come, if the stream notes that.
+fn progress_of<S: Source>(reader: &S) -> Option<Arc<Progress>> {
+    Arc::try_clone(reader.progress()?).ok()
 }
 
 // Why a session didn't begin, if no memory could be allocated for it or its host has one already.

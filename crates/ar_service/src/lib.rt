@@ -3,8 +3,10 @@
 //! is.
 #![tactic(auto)]
 
+mod attached;
 mod control;
 mod doors;
+mod initiator_name;
 mod initiators;
 mod monitoring;
 mod operators;
@@ -13,8 +15,10 @@ mod service;
 mod shown;
 mod watching;
 
+pub use attached::{Attached, Initiators};
 pub use control::LockController;
 pub use doors::{OperatedArray, SideDoors, run_operated};
+pub use initiator_name::InitiatorName;
 pub use initiators::{IscsiPort, Targets};
 pub use monitoring::Monitor;
 pub use operators::{MOST_OPERATORS, PendingStops};

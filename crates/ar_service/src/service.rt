@@ -6,6 +6,7 @@ ghost use Rattle.ar_volume.specs.Image.{is_broken};
 ghost use Rattle.ar_service.specs.Service.{AreProvided, CreatesUnits, FailsAudit, IsAudited, IsProvided, refusal_in};
 
 use crate::ServiceRuntime;
+use crate::attached::Initiators;
 use crate::doors::{OperatedArray, SideDoors, TARGET_THREADS, run_operated};
 use crate::initiators::IscsiPort;
 use crate::operators::{MOST_OPERATORS, PendingStops};
@@ -276,12 +277,14 @@ fn serve_array<
     let (fuses, disks) = disks;
     let Begun { made, seats, log } = begun;
     let (array, desk) = (Mutex::new(array), Mutex::new(Desk::new(seats)));
-    let log = Mutex::new(log);
+    let (made, initiators) = with_initiators(alloc, made);
+    let (log, initiators) = (Mutex::new(log), Mutex::new(initiators));
     let operated = OperatedArray {
         rt,
         alloc,
         array: &array,
         desk: &desk,
+        initiators: &initiators,
         fuses,
         disks,
         log: &log,
@@ -295,6 +298,20 @@ fn serve_array<
         Err(fault) => (PendingStops::none(alloc), Err(fault)),
     };
     (stops, served, array.into_inner(), desk.into_inner())
+}
+
+// The list of iSCSI sessions, for which a service needs memory, too.
+fn with_initiators(
+    alloc: Global,
+    made: Result<(), ServiceFault>,
+) -> (Result<(), ServiceFault>, Initiators) {
+    match Initiators::new(alloc, TARGET_THREADS as usize) {
+        Ok(initiators) => (made, initiators),
+        Err(_) => (
+            made.and(Err(ServiceFault::NoMemory)),
+            Initiators::none(alloc),
+        ),
+    }
 }
 
 // Listens, and serves hosts, operators, initiators and HTTP clients.

@@ -23,7 +23,7 @@ use ar_picture::Picture;
 use ar_script::picture_of;
 use ar_status::{
     ArrayCounters, ArrayHealth, ArrayStatus, EventLog, HostCounters, MaintenanceSteps,
-    OperationCounters, RecentEvents, ReplyCounters, StoreHealth, StoreNumbers,
+    OperationCounters, RecentEvents, ReplyCounters, SessionNumbers, StoreHealth, StoreNumbers,
 };
 use std::alloc::{AllocError, Global};
 use std::sync::ledger::Ledger;
@@ -63,17 +63,19 @@ pub trait ControlledArray<L: Ledger, M>: ServedArray<L> {
     fn see(&self, seconds: u64, log: &mut EventLog)
         ensures { SeesArray seconds (Self.state self.now).array log.old log.new };
 
-    /// Returns the status of the array, `seconds` after the start, with these events, its store, if there is one, and
-    /// the disks that it has lost, if it has failed.
+    /// Returns the status of the array, `seconds` after the start, with these events and sessions, its store, if there
+    /// is one, and the disks that it has lost, if it has failed.
     fn status(
         &self,
         store: Option<StoreStatus>,
         lost: Option<[u8; 2]>,
+        sessions: SessionNumbers,
         seconds: u64,
         events: RecentEvents,
     ) -> ArrayStatus
         ensures { IsStatusOf (Self.state self.now).array (Self.state self.now).counts
-            (if Self.stores then length (Self.state self.now).history else 0) store lost seconds events result };
+            (if Self.stores then length (Self.state self.now).history else 0) store lost sessions seconds events
+            result };
 
     /// Returns the data of the array's picture. It fails only when out of memory.
     fn picture(&self, alloc: Global) -> Result<Picture, AllocError>
@@ -114,6 +116,7 @@ impl<A: OperableArray<L>, L: Ledger, M: DiskMaker<A::Disk>> ControlledArray<L, M
         &self,
         store: Option<StoreStatus>,
         lost: Option<[u8; 2]>,
+        sessions: SessionNumbers,
         seconds: u64,
         events: RecentEvents,
     ) -> ArrayStatus {
@@ -123,6 +126,7 @@ impl<A: OperableArray<L>, L: Ledger, M: DiskMaker<A::Disk>> ControlledArray<L, M
             (self.stored_entries(), self.stored_room()),
             store,
             lost,
+            sessions,
             seconds,
             events,
         )
@@ -141,12 +145,13 @@ fn status_with<D: Disk>(
     stored: (usize, usize),
     store: Option<StoreStatus>,
     lost: Option<[u8; 2]>,
+    sessions: SessionNumbers,
     seconds: u64,
     events: RecentEvents,
 ) -> ArrayStatus
-    ensures { IsStatusOf array.now counts.now stored.0 store lost seconds events result }
+    ensures { IsStatusOf array.now counts.now stored.0 store lost sessions seconds events result }
 {
-    let status = status_of(array, counts, seconds, events);
+    let status = status_of(array, counts, sessions, seconds, events);
     ArrayStatus {
         lost_disks: lost_of(array.health(), lost),
         history_entries: stored.0 as u64,
@@ -167,10 +172,11 @@ fn see_array<D: Disk>(array: &Array<D>, seconds: u64, log: &mut EventLog)
 fn status_of<D: Disk>(
     array: &Array<D>,
     counts: &Counts,
+    sessions: SessionNumbers,
     seconds: u64,
     events: RecentEvents,
 ) -> ArrayStatus
-    ensures { IsStatusOf array.now counts.now 0 None None seconds events result }
+    ensures { IsStatusOf array.now counts.now 0 None None sessions seconds events result }
 {
     ArrayStatus {
         uptime_seconds: seconds,
@@ -186,6 +192,7 @@ fn status_of<D: Disk>(
         history_bytes: 0,
         store: None,
         hosts: hosts_of(counts.hosts),
+        sessions,
         steps: steps_of(counts.tasks),
         counters: counters_of(array.counters()),
         events,

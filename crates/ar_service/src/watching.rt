@@ -1,7 +1,7 @@
 // HTTP clients that watch the array. Its numbers, and the data of its picture, are copied under its lock; all else is
 // done outside.
 ghost use Rattle.std.specs.Prelude.{◌≡◌, IfOk};
-ghost use Rattle.ar_service.specs.Watching.{CopiesMoment, IsDrawing, MayDraw, text_drawn};
+ghost use Rattle.ar_service.specs.Watching.{AreSessions, CopiesMoment, IsDrawing, MayDraw, text_drawn};
 
 use crate::doors::OperatedArray;
 use crate::shown::ControlledArray;
@@ -9,7 +9,7 @@ use ar_frames::Linked;
 use ar_operator::lost_disks;
 use ar_picture::{Picture, write_svg};
 use ar_sessions::{Handler, Refusals};
-use ar_status::{ArrayStatus, EventLog, Look, Watched, serve_named};
+use ar_status::{ArrayStatus, EventLog, Look, SessionNumbers, Watched, serve_named};
 use log::Log;
 use std::alloc::{AllocError, Global};
 use std::hash::RandomState;
@@ -49,11 +49,12 @@ impl<'a, R: Wait + Clock, A: ControlledArray<L, M> + Drop, L: Ledger, M> Watch<'
     ) -> Result<(ArrayStatus, Option<Picture>), AllocError>
         ensures { IfOk result (λ copied. CopiesMoment A.persists draws copied.0 copied.1) }
     {
+        let sessions = self.array.sessions();
         let mut log = self.array.log.lock(self.array.rt);
         let seconds = self.array.seconds();
         let array = self.array.array.lock(self.array.rt);
         let lost = lost_disks(self.array.fuses);
-        copy_moment::<A, L, M>(alloc, &array, &mut log, lost, seconds, draws)
+        copy_moment::<A, L, M>(alloc, &array, &mut log, lost, sessions, seconds, draws)
     }
 }
 
@@ -63,13 +64,15 @@ fn copy_moment<A: ControlledArray<L, M>, L: Ledger, M>(
     array: &A,
     log: &mut EventLog,
     lost: Option<[u8; 2]>,
+    sessions: SessionNumbers,
     seconds: u64,
     draws: bool,
 ) -> Result<(ArrayStatus, Option<Picture>), AllocError>
+    requires { AreSessions sessions }
     ensures { IfOk result (λ copied. CopiesMoment A.persists draws copied.0 copied.1) }
 {
     array.see(seconds, log);
-    let status = array.status(array.store(), lost, seconds, log.events());
+    let status = array.status(array.store(), lost, sessions, seconds, log.events());
     let picture = picture_if::<A, L, M>(alloc, array, lost, draws)?;
     Ok((status, picture))
 }

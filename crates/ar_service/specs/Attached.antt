@@ -1,0 +1,45 @@
+-- The iSCSI sessions that are open.
+use Rattle.std.specs.Prelude.{ℕ, Bool, true, false, not, ◌==◌, ◌&&◌, bytes_eq, if◌then◌else◌, nat_lt, List, Option, Some, None}
+use Rattle.std.specs.Prelude.{count_by, filter, is_none, map, take}
+use Rattle.std.specs.List.{insert}
+use Rattle.ar_service.specs.declared.attached.Attached.{Attached}
+use Rattle.ar_service.specs.declared.initiator_name.InitiatorName.{InitiatorName}
+
+-- the text of a name
+abbrev pub text_of : InitiatorName → List ℕ
+text_of name = take name.count name.bytes
+
+-- both are of one host, as sessions for discovery are not
+abbrev pub are_of_one_host : Option ℕ → Option ℕ → Bool
+are_of_one_host (Some one) (Some other) = one == other
+are_of_one_host one other = false
+
+-- A session takes the place of another: it has its initiator's name, its ISID and its host.
+abbrev pub takes_place_of : Attached → Attached → Bool
+takes_place_of new old =
+    are_of_one_host new.host old.host && (new.isid_high == old.isid_high && (new.isid_low == old.isid_low
+    && bytes_eq (text_of new.name) (text_of old.name)))
+
+-- a session once another logs in: ended, if that takes its place
+abbrev pub after_login : Attached → Attached → Attached
+after_login new old = if takes_place_of new old then record old { is_ended = true } else old
+
+-- how many sessions of a list have lower numbers
+abbrev pub place_of : ℕ → List Attached → ℕ
+place_of number list = count_by (λ session. nat_lt session.number number) list
+
+-- the sessions of a list, and one more, after those of lower numbers
+abbrev pub added : Attached → List Attached → List Attached
+added new list = insert list (place_of new.number list) new
+
+-- a session once the one of this number has logged in
+abbrev pub after_entry : ℕ → Attached → Attached
+after_entry number session = if session.number == number then record session { has_entered = true } else session
+
+-- the sessions but the one of this number
+abbrev pub without : ℕ → List Attached → List Attached
+without number list = filter (λ session. not (session.number == number)) list
+
+-- how many sessions of a list are for discovery
+abbrev pub discoveries : List Attached → ℕ
+discoveries list = count_by (λ session. is_none session.host) list

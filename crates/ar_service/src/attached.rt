@@ -1,0 +1,283 @@
+// The iSCSI sessions that are known by their initiators: all whose logins were in order, until they end. A login with the
+// name and ISID of one with the same host takes its place, and ends it (RFC 7143, 6.3.5).
+ghost use Rattle.std.specs.Prelude.{◌≡◌, ◌≤◌, [], IfOk, OnOk, OnErr, length, map, min};
+ghost use Rattle.ar_service.specs.Attached.{added, after_entry, after_login, are_of_one_host, discoveries, place_of};
+ghost use Rattle.ar_service.specs.Attached.{takes_place_of, without};
+
+use crate::initiator_name::InitiatorName;
+use ar_frames::Progress;
+use ar_operator::write_initiator;
+use ar_target::InitiatorLogin;
+use std::alloc::{AllocError, Global};
+use std::marker::Model;
+use std::sync::Arc;
+use std::{fmt, str};
+
+/// An iSCSI session whose login is in order.
+#[derive(Clone, Copy)]
+pub struct Attached {
+    /// The number of its connection, as the log has it.
+    pub number: u64,
+    /// None: it is for discovery.
+    pub host: Option<u8>,
+    pub name: InitiatorName,
+    pub isid_high: u32,
+    pub isid_low: u16,
+    /// The port of 127.0.0.1 that its initiator connects from, over TCP.
+    pub peer: Option<u16>,
+    /// Whether its login was accepted.
+    pub has_entered: bool,
+    /// Whether another has taken its place.
+    pub is_ended: bool,
+}
+
+// A session of the list, and how far it has come.
+#[derive(Drop)]
+struct Entry {
+    session: Attached,
+    progress: Option<Arc<Progress>>,
+}
+
+/// The iSCSI sessions, by number. Their lock is taken while no other is held.
+#[derive(Drop)]
+pub struct Initiators {
+    list: Vec<Entry>,
+}
+
+impl Model for Entry {
+    ghost use Rattle.ar_service.specs.declared.attached.Attached.{Attached};
+
+    ghost Value = { Attached };
+
+    ghost view = { λ entry. entry.session };
+}
+
+impl Model for Initiators {
+    ghost use Rattle.std.specs.Prelude.{List};
+    ghost use Rattle.ar_service.specs.declared.attached.Attached.{Attached};
+
+    ghost Value = { List Attached };
+
+    ghost view = { λ initiators. initiators.list.items };
+}
+
+impl Attached {
+    /// A session whose login has come to the port. One for discovery needs nothing more.
+    pub fn new(number: u64, login: InitiatorLogin<'_>, peer: Option<u16>) -> Attached {
+        Attached {
+            number,
+            host: login.host,
+            name: InitiatorName::new(login.initiator),
+            isid_high: login.isid_high,
+            isid_low: login.isid_low,
+            peer,
+            has_entered: login.host.is_none(),
+            is_ended: false,
+        }
+    }
+
+    // Whether it takes the place of another: it has its initiator's name, its ISID and its host.
+    fn takes_place_of(&self, old: &Attached) -> bool
+        ensures { result ≡ takes_place_of self.now old.now }
+    {
+        are_of_one_host(self.host, old.host)
+            && self.isid_high == old.isid_high
+            && self.isid_low == old.isid_low
+            && self.name.as_slice() == old.name.as_slice()
+    }
+}
+
+/// What the log says of it: `2 of 127.0.0.1:41204: iqn.1993-08.org.debian:01:abc is host 0`, or `.. discovers`.
+impl fmt::Display for Attached {
+    fn fmt<W: fmt::Write>(&self, f: &mut fmt::Formatter<W>) -> fmt::Result {
+        let number = self.number;
+        write!(f, "{number}")?;
+        if let Some(port) = self.peer {
+            write!(f, " of 127.0.0.1:{port}")?;
+        }
+        let name = str::from_utf8(self.name.as_slice()).unwrap_or("?");
+        write!(f, ": {name} ")?;
+        match self.host {
+            Some(host) => write!(f, "is host {host}"),
+            None => f.write_str("discovers"),
+        }
+    }
+}
+
+// Whether both are of one host. Sessions for discovery are of none.
+fn are_of_one_host(one: Option<u8>, other: Option<u8>) -> bool
+    ensures { result ≡ are_of_one_host one other }
+{
+    match (one, other) {
+        (Some(one), Some(other)) => one == other,
+        _ => false,
+    }
+}
+
+impl Entry {
+    // Ends it, if a session that logs in takes its place.
+    fn see_login(&mut self, new: &Attached)
+        ensures { self.new ≡ after_login new.now self.old }
+    {
+        if new.takes_place_of(&self.session) {
+            if let Some(progress) = &self.progress {
+                progress.end();
+            }
+            self.session.is_ended = true;
+        }
+    }
+
+    // Notes that its login was accepted, if it has this number.
+    fn see_entry(&mut self, number: u64)
+        ensures { self.new ≡ after_entry number self.old }
+    {
+        if self.session.number == number {
+            self.session.has_entered = true;
+        }
+    }
+
+    fn session(&self) -> Attached
+        ensures { result ≡ self.now }
+    {
+        self.session
+    }
+}
+
+impl Initiators {
+    /// None, and no memory for any.
+    pub fn none(alloc: Global) -> Initiators
+        ensures { result ≡ [] }
+    {
+        Initiators {
+            list: Vec::new(alloc),
+        }
+    }
+
+    /// None, with memory for `most`.
+    pub fn new(alloc: Global, most: usize) -> Result<Initiators, AllocError>
+        ensures { IfOk result (λ initiators. initiators ≡ []) }
+    {
+        Ok(Initiators {
+            list: Vec::with_capacity(alloc, most)?,
+        })
+    }
+
+    /// Adds a session whose login is in order, and ends those whose place it takes. `Err`: there is no memory for it.
+    pub fn begin(
+        &mut self,
+        session: Attached,
+        progress: Option<Arc<Progress>>,
+    ) -> Result<(), AllocError>
+        ensures added { OnOk result (self.new ≡ added session (map (after_login session) self.old)) }
+        ensures full { OnErr result (self.new ≡ map (after_login session) self.old) }
+    {
+        end_former(&mut self.list, &session);
+        add(&mut self.list, Entry { session, progress })
+    }
+
+    /// Notes that the login of the session of this number was accepted.
+    pub fn enter(&mut self, number: u64)
+        ensures { self.new ≡ map (after_entry number) self.old }
+    {
+        note_entry(&mut self.list, number);
+    }
+
+    /// Removes the session of this number, if there is one.
+    pub fn end(&mut self, number: u64)
+        ensures { self.new ≡ without number self.old }
+    {
+        remove(&mut self.list, number);
+    }
+
+    /// How many are for discovery.
+    pub fn discoveries(&self) -> u8
+        ensures { result ≡ min (discoveries self.now) 255 }
+    {
+        count_discoveries(&self.list)
+    }
+
+    /// The session of this number, if there is one.
+    pub fn session(&self, number: u64) -> Option<Attached> {
+        for entry in &self.list {
+            let session = entry.session();
+            if session.number == number {
+                return Some(session);
+            }
+        }
+        None
+    }
+
+    /// Writes a line for each whose login was accepted.
+    pub fn write(&self, out: &mut Vec<u8>) -> Result<(), AllocError> {
+        for entry in &self.list {
+            let session = entry.session();
+            if session.has_entered {
+                write_session(out, &session)?;
+            }
+        }
+        Ok(())
+    }
+}
+
+// Ends the sessions whose place another takes.
+fn end_former(list: &mut Vec<Entry>, new: &Attached)
+    ensures items { list.new.items ≡ map (after_login new.now) list.old.items }
+{
+    for entry in list.iter_mut() {
+        entry.see_login(new);
+    }
+}
+
+// Notes that the login of a session was accepted.
+fn note_entry(list: &mut Vec<Entry>, number: u64)
+    ensures { list.new.items ≡ map (after_entry number) list.old.items }
+{
+    for entry in list.iter_mut() {
+        entry.see_entry(number);
+    }
+}
+
+// Adds a session after those of lower numbers.
+fn add(list: &mut Vec<Entry>, new: Entry) -> Result<(), AllocError>
+    ensures added { OnOk result (list.new.items ≡ added new list.old.items) }
+    ensures full { OnErr result (list.new.items ≡ list.old.items) }
+{
+    let place = place_of(list, new.session().number);
+    match list.insert(place, new) {
+        Ok(()) => Ok(()),
+        Err(_) => Err(AllocError),
+    }
+}
+
+// How many sessions have lower numbers.
+fn place_of(list: &[Entry], number: u64) -> usize
+    ensures place { result ≡ place_of number list.now }
+    ensures within { result ≤ length list.now }
+{
+    list.iter()
+        .filter(|entry| entry.session().number < number)
+        .count()
+}
+
+// Removes a session.
+fn remove(list: &mut Vec<Entry>, number: u64)
+    ensures { list.new.items ≡ without number list.old.items }
+{
+    list.retain(|entry| entry.session().number != number);
+}
+
+fn count_discoveries(list: &[Entry]) -> u8
+    ensures { result ≡ min (discoveries list.now) 255 }
+{
+    let count = list
+        .iter()
+        .filter(|entry| entry.session().host.is_none())
+        .count();
+    count.min(255) as u8
+}
+
+// Writes the line of a session.
+fn write_session(out: &mut Vec<u8>, session: &Attached) -> Result<(), AllocError> {
+    let name = session.name.as_slice();
+    write_initiator(out, session.number, session.host, session.peer, name).map_err(|_| AllocError)
+}
