@@ -16,7 +16,7 @@ LOGINS = [
     ("a session that isn't there", [NAME, TARGET_0], {"tsih": 5}, "020a"),
     ("an authentication that isn't offered", [NAME, TARGET_0, "AuthMethod=CHAP"], {"flags": 0x81}, "0201"),
     ("a stage that isn't there", [NAME, TARGET_0], {"flags": 0x86}, "0200"),
-    ("the seat of another initiator", [NAME, f"TargetName={TARGET}1"], {}, "0302"),
+    ("the seat of another session", [NAME, f"TargetName={TARGET}1"], {"isid": 0x400001370001}, "0302"),
 ]
 # What is no PDU of a login.
 NO_PDUS = b"GET / HTTP/1.1\r\nHost: a\r\n\r\n" * 4, random.Random(7).randbytes(4096), bytes(48 * 3), b"\xFF" * 480

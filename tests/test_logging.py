@@ -11,7 +11,7 @@ SOURCE = text_of("crates", "ar_logging", "src", "sinks.rt")
 # The lines that may wait in a server, and the seconds for which its end waits for a reader.
 MOST_LINES, LAST_WAIT = (int(re.search(rf"{name}: \w+ = (\d+);", SOURCE)[1]) for name in ("MOST_LINES", "LAST_WAIT"))
 # The bytes that a pipe takes here, and those that each line has at least, with its end.
-PIPE, LEAST = 4096, len("[2026-11-30T00:10:07Z INFO  autoraid] session 1 started\n")
+PIPE, LEAST = 4096, len("[2026-11-30T00:10:07Z INFO  autoraid] session 1 of 127.0.0.1:1 started\n")
 
 
 def time_of(line):
@@ -32,8 +32,10 @@ class Lines(Case):
     def test_times(self):
         """They are of UTC, whatever the server's time zone."""
         begun, server = time.time(), self.serve("0:0:8", "--log", env={**os.environ, "TZ": "Asia/Tokyo"})
+        ports = []
         for number in range(3):
             host = server.log_in(number)
+            ports.append(host.link.getsockname()[1])
             host.is_ready()
             host.close()
             self.wants(server.wait_for_none(), "", "sessions that haven't ended")
@@ -42,9 +44,10 @@ class Lines(Case):
         times = self.are_timed(lines, begun)
         self.wants(times, sorted(times), "the times, in the order of the lines")
         said = [re.sub(", .*", "", LOGGED.fullmatch(line)[3]) for line in lines]
-        wanted = ["session 1 started", "session 1 host 0 ended: End"]
-        wanted += ["session 2 started", "session 2 host 1 ended: End"]
-        wanted += ["session 3 started", "session 3 host 2 ended: End", "disk 1 failed: an operator took it out"]
+        wanted = []
+        for number, port in enumerate(ports, 1):
+            wanted += [f"session {number} of 127.0.0.1:{port} started", f"session {number} host {number - 1} ended: End"]
+        wanted += ["disk 1 failed: an operator took it out"]
         self.wants(said, wanted, "what the lines say")
 
     def unread(self, sessions, *words):

@@ -36,14 +36,15 @@ class Timeouts(Case):
         self.passes(begun, 1, 5, "a slow login ends")
         self.wants(rest_of(host.link), b"", "what a silent session receives")
         self.passes(begun, 2, 6, "a silent session ends")
+        ports = [link.getsockname()[1] for link in (silent, slow, host.link)]
         for link in silent, slow, host:
             link.close()
         self.wants(server.answers_to("stop\n"), "stopped\n", "a stop")
         error = self.ends(server, [0, 0, 0, 0], error=None).error
         said = sorted(line.split("] ")[-1].split(", ")[0] for line in error.splitlines())
-        wanted = ["session 1 ended: Read", "session 1 started", "session 2 ended: Read", "session 2 started"]
-        wanted += ["session 3 host 3 ended: Read", "session 3 started"]
-        self.wants(said, wanted, "the log")
+        wanted = [f"session {number} of 127.0.0.1:{port} started" for number, port in enumerate(ports, 1)]
+        wanted += ["session 1 ended: Read", "session 2 ended: Read", "session 3 host 3 ended: Read"]
+        self.wants(said, sorted(wanted), "the log")
 
     def test_silent_clients(self):
         """Eight that don't log in, and a session of each host that says nothing or stops in the middle of a frame."""

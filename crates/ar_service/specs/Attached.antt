@@ -6,8 +6,8 @@ use Rattle.ar_service.specs.declared.attached.Attached.{Attached}
 use Rattle.ar_service.specs.declared.initiator_name.InitiatorName.{InitiatorName}
 
 -- the text of a name
-abbrev pub text_of : InitiatorName → List ℕ
-text_of name = take name.count name.bytes
+abbrev pub name_text : InitiatorName → List ℕ
+name_text name = take name.count name.bytes
 
 -- both are of one host, as sessions for discovery are not
 abbrev pub are_of_one_host : Option ℕ → Option ℕ → Bool
@@ -18,27 +18,27 @@ are_of_one_host one other = false
 abbrev pub takes_place_of : Attached → Attached → Bool
 takes_place_of new old =
     are_of_one_host new.host old.host && (new.isid_high == old.isid_high && (new.isid_low == old.isid_low
-    && bytes_eq (text_of new.name) (text_of old.name)))
+    && bytes_eq (name_text new.name) (name_text old.name)))
 
 -- a session once another logs in: ended, if that takes its place
 abbrev pub after_login : Attached → Attached → Attached
 after_login new old = if takes_place_of new old then record old { is_ended = true } else old
 
 -- how many sessions of a list have lower numbers
-abbrev pub place_of : ℕ → List Attached → ℕ
-place_of number list = count_by (λ session. nat_lt session.number number) list
+abbrev pub numbers_below : ℕ → List Attached → ℕ
+numbers_below number list = count_by (λ session. nat_lt session.number number) list
 
 -- the sessions of a list, and one more, after those of lower numbers
-abbrev pub added : Attached → List Attached → List Attached
-added new list = insert list (place_of new.number list) new
+abbrev pub attached_with : Attached → List Attached → List Attached
+attached_with new list = insert list (numbers_below new.number list) new
 
 -- a session once the one of this number has logged in
 abbrev pub after_entry : ℕ → Attached → Attached
 after_entry number session = if session.number == number then record session { has_entered = true } else session
 
 -- the sessions but the one of this number
-abbrev pub without : ℕ → List Attached → List Attached
-without number list = filter (λ session. not (session.number == number)) list
+abbrev pub attached_without : ℕ → List Attached → List Attached
+attached_without number list = filter (λ session. not (session.number == number)) list
 
 -- how many sessions of a list are for discovery
 abbrev pub discoveries : List Attached → ℕ

@@ -115,17 +115,17 @@ counters_watched counters = record {
 }
 
 -- a host is logged in: its seat isn't on the desk
-abbrev pub is_out : Places → ℕ → Bool
-is_out places host = not (is_some (seat_at places host))
+abbrev pub is_logged_in : Places → ℕ → Bool
+is_logged_in places host = not (is_some (seat_at places host))
 
 -- which hosts are logged in, by the places of a desk
-abbrev pub hosts_out : Places → List Bool
-hosts_out places = is_out places 0 ∷ is_out places 1 ∷ is_out places 2 ∷ is_out places 3 ∷ []
+abbrev pub hosts_logged_in : Places → List Bool
+hosts_logged_in places = is_logged_in places 0 ∷ is_logged_in places 1 ∷ is_logged_in places 2 ∷ is_logged_in places 3 ∷ []
 
 -- these hosts are logged in, by some desk
 pub record AreHosts (hosts : List Bool) : Type 0 where
   pub places : Places
-  pub are : hosts ≡ hosts_out places
+  pub are : hosts ≡ hosts_logged_in places
 
 -- this is how many sessions of some list are for discovery, up to 255
 pub record AreDiscoveries (count : ℕ) : Type 0 where

@@ -1,8 +1,10 @@
 // The iSCSI sessions that are known by their initiators: all whose logins were in order, until they end. A login with the
 // name and ISID of one with the same host takes its place, and ends it (RFC 7143, 6.3.5).
-ghost use Rattle.std.specs.Prelude.{◌≡◌, ◌≤◌, [], IfOk, OnOk, OnErr, length, map, min};
-ghost use Rattle.ar_service.specs.Attached.{added, after_entry, after_login, are_of_one_host, discoveries, place_of};
-ghost use Rattle.ar_service.specs.Attached.{takes_place_of, without};
+ghost use Rattle.std.specs.Prelude.{◌≡◌, ◌≤◌, [], IfOk, OnOk, OnErr, false, is_none, length, map};
+ghost use Rattle.std.specs.Prelude.{min};
+ghost use Rattle.ar_service.specs.Attached.{after_entry, after_login, are_of_one_host, attached_with, attached_without};
+ghost use Rattle.ar_service.specs.Attached.{discoveries, name_text, numbers_below, takes_place_of};
+ghost use Rattle.ar_service.specs.Names.{shown_name};
 
 use crate::initiator_name::InitiatorName;
 use ar_frames::Progress;
@@ -63,7 +65,14 @@ impl Model for Initiators {
 
 impl Attached {
     /// A session whose login has come to the port. One for discovery needs nothing more.
-    pub fn new(number: u64, login: InitiatorLogin<'_>, peer: Option<u16>) -> Attached {
+    pub fn new(number: u64, login: InitiatorLogin<'_>, peer: Option<u16>) -> Attached
+        ensures number { result.number ≡ number }
+        ensures host { result.host ≡ login.entry.host }
+        ensures name { name_text result.name ≡ shown_name login.entry.initiator.now }
+        ensures isid { (result.isid_high ≡ login.entry.isid_high) × (result.isid_low ≡ login.entry.isid_low) }
+        ensures entered { result.has_entered ≡ is_none login.entry.host }
+        ensures open { result.is_ended ≡ false }
+    {
         Attached {
             number,
             host: login.host,
@@ -168,7 +177,7 @@ impl Initiators {
         session: Attached,
         progress: Option<Arc<Progress>>,
     ) -> Result<(), AllocError>
-        ensures added { OnOk result (self.new ≡ added session (map (after_login session) self.old)) }
+        ensures added { OnOk result (self.new ≡ attached_with session (map (after_login session) self.old)) }
         ensures full { OnErr result (self.new ≡ map (after_login session) self.old) }
     {
         end_former(&mut self.list, &session);
@@ -184,7 +193,7 @@ impl Initiators {
 
     /// Removes the session of this number, if there is one.
     pub fn end(&mut self, number: u64)
-        ensures { self.new ≡ without number self.old }
+        ensures { self.new ≡ attached_without number self.old }
     {
         remove(&mut self.list, number);
     }
@@ -239,10 +248,10 @@ fn note_entry(list: &mut Vec<Entry>, number: u64)
 
 // Adds a session after those of lower numbers.
 fn add(list: &mut Vec<Entry>, new: Entry) -> Result<(), AllocError>
-    ensures added { OnOk result (list.new.items ≡ added new list.old.items) }
+    ensures added { OnOk result (list.new.items ≡ attached_with new list.old.items) }
     ensures full { OnErr result (list.new.items ≡ list.old.items) }
 {
-    let place = place_of(list, new.session().number);
+    let place = numbers_below(list, new.session().number);
     match list.insert(place, new) {
         Ok(()) => Ok(()),
         Err(_) => Err(AllocError),
@@ -250,8 +259,8 @@ fn add(list: &mut Vec<Entry>, new: Entry) -> Result<(), AllocError>
 }
 
 // How many sessions have lower numbers.
-fn place_of(list: &[Entry], number: u64) -> usize
-    ensures place { result ≡ place_of number list.now }
+fn numbers_below(list: &[Entry], number: u64) -> usize
+    ensures place { result ≡ numbers_below number list.now }
     ensures within { result ≤ length list.now }
 {
     list.iter()
@@ -261,7 +270,7 @@ fn place_of(list: &[Entry], number: u64) -> usize
 
 // Removes a session.
 fn remove(list: &mut Vec<Entry>, number: u64)
-    ensures { list.new.items ≡ without number list.old.items }
+    ensures { list.new.items ≡ attached_without number list.old.items }
 {
     list.retain(|entry| entry.session().number != number);
 }

@@ -1,6 +1,6 @@
 // The doors of a service: for hosts, and beside it, each with threads of its own, for operators and for HTTP clients.
 ghost use Rattle.std.specs.Prelude.{◌≡◌, ◌<◌};
-ghost use Rattle.ar_service.specs.Watching.{AreDiscoveries, AreHosts, AreSessions, hosts_out, is_out};
+ghost use Rattle.ar_service.specs.Watching.{AreDiscoveries, AreHosts, AreSessions, hosts_logged_in, is_logged_in};
 
 use crate::attached::Initiators;
 use crate::initiators::{IscsiPort, Targets};
@@ -122,24 +122,24 @@ impl<'a, R: Wait + Clock, A: ControlledArray<L, M> + Drop, L: Ledger, M> Operate
 fn hosts_in<L: Ledger>(desk: &Desk<L>) -> [bool; 4]
     ensures { AreHosts result }
 {
-    hosts_out(desk)
+    hosts_logged_in(desk)
 }
 
-fn hosts_out<L: Ledger>(desk: &Desk<L>) -> [bool; 4]
-    ensures { result ≡ hosts_out desk.now }
+fn hosts_logged_in<L: Ledger>(desk: &Desk<L>) -> [bool; 4]
+    ensures { result ≡ hosts_logged_in desk.now }
 {
     [
-        is_out(desk, 0),
-        is_out(desk, 1),
-        is_out(desk, 2),
-        is_out(desk, 3),
+        is_logged_in(desk, 0),
+        is_logged_in(desk, 1),
+        is_logged_in(desk, 2),
+        is_logged_in(desk, 3),
     ]
 }
 
 // Whether a host is logged in.
-fn is_out<L: Ledger>(desk: &Desk<L>, number: u8) -> bool
+fn is_logged_in<L: Ledger>(desk: &Desk<L>, number: u8) -> bool
     requires { number < 4 }
-    ensures { result ≡ is_out desk.now number }
+    ensures { result ≡ is_logged_in desk.now number }
 {
     match Host::new(number) {
         Some(host) => desk.counts(host).is_some(),

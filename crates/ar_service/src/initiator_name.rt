@@ -1,6 +1,6 @@
 // The names of initiators.
 ghost use Rattle.std.specs.Prelude.{◌≡◌, ◌≤◌, length, map, take};
-ghost use Rattle.ar_service.specs.Names.{shown_byte};
+ghost use Rattle.ar_service.specs.Names.{shown_byte, shown_name};
 
 /// The most bytes of an initiator's name (RFC 7143, 4.2.7.1).
 const MOST_NAME: usize = 223;
@@ -18,7 +18,7 @@ pub struct InitiatorName {
 impl InitiatorName {
     /// A name from its bytes: what isn't printable becomes a question mark, and what is too long is cut.
     pub fn new(name: &[u8]) -> InitiatorName
-        ensures { take result.count result.bytes ≡ map shown_byte (take 223 name.now) }
+        ensures { take result.count result.bytes ≡ shown_name name.now }
     {
         let count = MOST_NAME.min(name.len());
         let mut bytes = front_of(name, count);

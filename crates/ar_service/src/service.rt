@@ -274,7 +274,6 @@ fn serve_array<
 ) -> (TcpStops<'s, R>, Result<(), ServiceFault>, A, Desk<L>)
     requires hosts { map (λ (s : SeatState). s.host.number) begun.seats ≡ 0 ∷ 1 ∷ 2 ∷ 3 ∷ [] }
 {
-    let (fuses, disks) = disks;
     let Begun { made, seats, log } = begun;
     let (array, desk) = (Mutex::new(array), Mutex::new(Desk::new(seats)));
     let (made, initiators) = with_initiators(alloc, made);
@@ -285,8 +284,8 @@ fn serve_array<
         array: &array,
         desk: &desk,
         initiators: &initiators,
-        fuses,
-        disks,
+        fuses: disks.0,
+        disks: disks.1,
         log: &log,
         http_host: plan.http_host,
         began: Instant::now(rt).ok(),
