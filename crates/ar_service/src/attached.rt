@@ -1,10 +1,9 @@
 // The iSCSI sessions that are known by their initiators: all whose logins were in order, until they end. A login with the
 // name and ISID of one with the same host takes its place, and ends it (RFC 7143, 6.3.5).
 ghost use Rattle.std.specs.Prelude.{◌≡◌, ◌≤◌, [], IfOk, OnOk, OnErr, false, is_none, length, map};
-ghost use Rattle.std.specs.Prelude.{min};
+ghost use Rattle.std.specs.Prelude.{min, take};
 ghost use Rattle.ar_service.specs.Attached.{after_entry, after_login, are_of_one_host, attached_with, attached_without};
 ghost use Rattle.ar_service.specs.Attached.{discoveries, name_text, numbers_below, takes_place_of};
-ghost use Rattle.ar_service.specs.Names.{shown_name};
 
 use crate::initiator_name::InitiatorName;
 use ar_frames::Progress;
@@ -68,7 +67,7 @@ impl Attached {
     pub fn new(number: u64, login: InitiatorLogin<'_>, peer: Option<u16>) -> Attached
         ensures number { result.number ≡ number }
         ensures host { result.host ≡ login.entry.host }
-        ensures name { name_text result.name ≡ shown_name login.entry.initiator.now }
+        ensures name { name_text result.name ≡ take 223 login.entry.initiator.now }
         ensures isid { (result.isid_high ≡ login.entry.isid_high) × (result.isid_low ≡ login.entry.isid_low) }
         ensures entered { result.has_entered ≡ is_none login.entry.host }
         ensures open { result.is_ended ≡ false }
@@ -104,7 +103,8 @@ impl fmt::Display for Attached {
         if let Some(port) = self.peer {
             write!(f, " of 127.0.0.1:{port}")?;
         }
-        let name = str::from_utf8(self.name.as_slice()).unwrap_or("?");
+        let name = self.name.shown();
+        let name = str::from_utf8(name.as_slice()).unwrap_or("?");
         write!(f, ": {name} ")?;
         match self.host {
             Some(host) => write!(f, "is host {host}"),
@@ -287,6 +287,7 @@ fn count_discoveries(list: &[Entry]) -> u8
 
 // Writes the line of a session.
 fn write_session(out: &mut Vec<u8>, session: &Attached) -> Result<(), AllocError> {
-    let name = session.name.as_slice();
-    write_initiator(out, session.number, session.host, session.peer, name).map_err(|_| AllocError)
+    let name = session.name.shown();
+    let (number, host, peer) = (session.number, session.host, session.peer);
+    write_initiator(out, number, host, peer, name.as_slice()).map_err(|_| AllocError)
 }

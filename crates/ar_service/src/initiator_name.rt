@@ -1,11 +1,11 @@
 // The names of initiators.
 ghost use Rattle.std.specs.Prelude.{◌≡◌, ◌≤◌, length, map, take};
-ghost use Rattle.ar_service.specs.Names.{shown_byte, shown_name};
+ghost use Rattle.ar_service.specs.Names.{shown_byte};
 
 /// The most bytes of an initiator's name (RFC 7143, 4.2.7.1).
 const MOST_NAME: usize = 223;
 
-/// The name of an initiator, as it is shown.
+/// The name of an initiator. Names differ exactly if their bytes do; they are shown in ASCII alone.
 #[derive(Clone, Copy)]
 pub struct InitiatorName {
     // The first `count` are the name.
@@ -16,14 +16,27 @@ pub struct InitiatorName {
 }
 
 impl InitiatorName {
-    /// A name from its bytes: what isn't printable becomes a question mark, and what is too long is cut.
+    /// A name from its bytes. One that is too long is cut.
     pub fn new(name: &[u8]) -> InitiatorName
-        ensures { take result.count result.bytes ≡ shown_name name.now }
+        ensures { take result.count result.bytes ≡ take 223 name.now }
     {
         let count = MOST_NAME.min(name.len());
-        let mut bytes = front_of(name, count);
+        InitiatorName {
+            bytes: front_of(name, count),
+            count,
+        }
+    }
+
+    /// The name as it is shown: what isn't printable becomes a question mark.
+    pub fn shown(self) -> InitiatorName
+        ensures { take result.count result.bytes ≡ map shown_byte (take self.count self.bytes) }
+    {
+        let mut bytes = self.bytes;
         show(&mut bytes);
-        InitiatorName { bytes, count }
+        InitiatorName {
+            bytes,
+            count: self.count,
+        }
     }
 
     /// Its bytes.
