@@ -413,6 +413,11 @@ block_counted Small rb n within = omega arith
 below : (a b : ℕ) → a < b → nat_lt a b ≡ true
 below a b lt = grind (arith, nat_tests)
 
+-- a unit, with its length in the tables
+pub unit_itself : (s : ArrayState) (addr : Addr) (n : ℕ) → IsUnit s addr n
+    → IsUnit s addr (length_at s.store.book addr)
+unit_itself s addr n unit = subst (λ k. IsUnit s addr k) (sym unit.sectors_same) unit
+
 pub key_known : (s : ArrayState) (addr : Addr) (n rb : ℕ) → IsUnit s addr n → rb * sectors_of (geometry_of s) < n
     → knows_in s.store (key_of addr rb) ≡ true
 key_known s addr n rb unit within =

@@ -13,7 +13,8 @@ ghost use Rattle.ar_unit.specs.Unit.{obeyed, IsGiven, leaving, read_reply, write
 ghost use Rattle.ar_unit.specs.Broken.{broken_obeyed};
 ghost use Rattle.ar_cache.specs.Backing.{InTurn, KeepsBacking, SameBlocks, StopsInTurn, stored};
 ghost use Rattle.ar_cache.specs.Cache.{cached};
-ghost use Rattle.ar_volume.specs.Image.{is_broken, geometry_of, seen_at, unit_sectors, attention_at, with_book};
+ghost use Rattle.ar_volume.specs.Image.{is_broken, geometry_of, seen_at, length_at, unit_sectors};
+ghost use Rattle.ar_volume.specs.Image.{attention_at, with_book};
 ghost use Rattle.ar_volume.specs.Seen.{IsUnit, SameSeen, KeepsCachedBut, WritesSectors, present_at, sectors_read};
 ghost use Rattle.ar_core.specs.Served.{Serves, Settles, ExecutesCommand};
 ghost use Rattle.ar_volume.specs.Following.{ArrayFollows};
@@ -110,7 +111,7 @@ impl<D: Disk> Array<D> {
         ensures few { length result.payload ≤ 65535 * 512 }
     {
         match command {
-            Command::TestReady => self.test_ready(addr),
+            Command::TestReady => self.test_ready(),
             Command::Inquiry { allocation_length } => inquiry(alloc, true, allocation_length),
             Command::Capacity => capacity(alloc, sectors),
             Command::Read { lba, count } => self.read(alloc, addr, sectors, lba, count),
@@ -121,8 +122,8 @@ impl<D: Disk> Array<D> {
     }
 
     // TEST UNIT READY: GOOD unless the array has failed.
-    fn test_ready(&self, addr: Addr) -> Reply
-        ensures serves { Serves self.now addr (leaving (present_at self.now addr) (good []))
+    fn test_ready(&self) -> Reply
+        ensures serves { (addr : Addr) → Serves self.now addr (leaving (present_at self.now addr) (good []))
             (check internal_target_failure) result self.now }
         ensures few { length result.payload ≤ 65535 * 512 }
     {
@@ -150,13 +151,13 @@ impl<D: Disk> Array<D> {
         if self.blocks.is_broken() {
             return Reply::check(Sense::INTERNAL_TARGET_FAILURE);
         }
-        self.read_range(alloc, addr, sectors, lba as u32, u32::from(count))
+        self.read_range(alloc, addr, lba as u32, u32::from(count))
     }
 
     // Executes a READ of `count` sectors within the unit.
-    fn read_range(&mut self, alloc: Global, addr: Addr, sectors: u32, lba: u32, count: u32) -> Reply
-        requires unit { IsUnit self.old addr sectors }
-        requires within { lba + count ≤ sectors }
+    fn read_range(&mut self, alloc: Global, addr: Addr, lba: u32, count: u32) -> Reply
+        requires unit { IsUnit self.old addr (length_at self.old.store.book addr) }
+        requires within { lba + count ≤ length_at self.old.store.book addr }
         requires few { count < 65536 }
         requires sound { is_broken self.old ≡ false }
         requires blocks { (k : Key) → length (seen_at self.old k) ≡ block_len_of (geometry_of self.old) }
@@ -221,7 +222,7 @@ impl<D: Disk> Array<D> {
         if self.blocks.is_broken() {
             return Reply::check(Sense::INTERNAL_TARGET_FAILURE);
         }
-        let stored = self.write_range(addr, sectors, lba as u32, u32::from(count), fua, bytes);
+        let stored = self.write_range(addr, lba as u32, u32::from(count), fua, bytes);
         reply_to_write(stored)
     }
 
@@ -229,14 +230,13 @@ impl<D: Disk> Array<D> {
     fn write_range(
         &mut self,
         addr: Addr,
-        sectors: u32,
         lba: u32,
         count: u32,
         fua: bool,
         bytes: &[u8],
     ) -> Completion
-        requires unit { IsUnit self.old addr sectors }
-        requires within { lba + count ≤ sectors }
+        requires unit { IsUnit self.old addr (length_at self.old.store.book addr) }
+        requires within { lba + count ≤ length_at self.old.store.book addr }
         requires whole { length bytes.now ≡ count * 512 }
         requires sound { is_broken self.old ≡ false }
 
@@ -249,23 +249,16 @@ impl<D: Disk> Array<D> {
         ensures nothing { count ≡ 0 → self.new ≡ self.old }
         ensures follows { ArrayFollows self.old self.new }
     {
-        match self.put_range(addr, sectors, lba, count, bytes) {
-            Completion::Done if fua => self.force_range(addr, sectors, lba, count),
+        match self.put_range(addr, lba, count, bytes) {
+            Completion::Done if fua => self.force_range(addr, lba, count),
             answer => answer,
         }
     }
 
     // Overwrites `count` sectors within the unit.
-    fn put_range(
-        &mut self,
-        addr: Addr,
-        sectors: u32,
-        lba: u32,
-        count: u32,
-        bytes: &[u8],
-    ) -> Completion
-        requires unit { IsUnit self.old addr sectors }
-        requires within { lba + count ≤ sectors }
+    fn put_range(&mut self, addr: Addr, lba: u32, count: u32, bytes: &[u8]) -> Completion
+        requires unit { IsUnit self.old addr (length_at self.old.store.book addr) }
+        requires within { lba + count ≤ length_at self.old.store.book addr }
         requires whole { length bytes.now ≡ count * 512 }
         requires sound { is_broken self.old ≡ false }
 
@@ -289,10 +282,9 @@ impl<D: Disk> Array<D> {
         )
     }
 
-    // Destages the cached blocks of `count` sectors within the unit.
-    fn force_range(&mut self, addr: Addr, sectors: u32, lba: u32, count: u32) -> Completion
-        requires unit { IsUnit self.old addr sectors }
-        requires within { lba + count ≤ sectors }
+    // Destages the cached blocks of `count` sectors.
+    fn force_range(&mut self, addr: Addr, lba: u32, count: u32) -> Completion
+        requires within { lba + count ≤ 1048576 }
         requires sound { is_broken self.old ≡ false }
 
         ensures answer { result ≡ stored (is_broken self.new) }

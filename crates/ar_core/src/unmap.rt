@@ -7,7 +7,7 @@ ghost use Rattle.ar_scsi.specs.Sense.{internal_target_failure, logical_block_add
 ghost use Rattle.ar_unit.specs.Unit.{write_answer};
 ghost use Rattle.ar_cache.specs.Backing.{stored};
 ghost use Rattle.ar_volume.specs.Following.{ArrayFollows};
-ghost use Rattle.ar_volume.specs.Image.{is_broken, unit_sectors, attention_at};
+ghost use Rattle.ar_volume.specs.Image.{is_broken, length_at, unit_sectors, attention_at};
 ghost use Rattle.ar_volume.specs.Seen.{IsUnit, WritesSectors};
 ghost use Rattle.ar_volume.specs.Unmap.{DiscardsBlocks, StopsBlocks};
 ghost use Rattle.ar_core.specs.Served.{Serves, SettlesUnmap};
@@ -50,14 +50,14 @@ impl<D: Disk> Array<D> {
         if self.blocks.is_broken() {
             return Reply::check(Sense::INTERNAL_TARGET_FAILURE);
         }
-        let discarded = self.unmap_range(addr, sectors, lba as u32, count);
+        let discarded = self.unmap_range(addr, lba as u32, count);
         reply_to_write(discarded)
     }
 
     // Discards `count` sectors within the unit.
-    fn unmap_range(&mut self, addr: Addr, sectors: u32, lba: u32, count: u32) -> Completion
-        requires unit { IsUnit self.old addr sectors }
-        requires within { lba + count ≤ sectors }
+    fn unmap_range(&mut self, addr: Addr, lba: u32, count: u32) -> Completion
+        requires unit { IsUnit self.old addr (length_at self.old.store.book addr) }
+        requires within { lba + count ≤ length_at self.old.store.book addr }
         requires sound { is_broken self.old ≡ false }
 
         ensures answer { result ≡ stored (is_broken self.new) }

@@ -21,7 +21,7 @@ returns-in-TestReady-clause-serves g c =
     (Ok command) c.args.bytes.now) (broken_obeyed c.args.sectors (Ok command) (length c.args.bytes.now))
     c.test_ready.result c.args.self.now)
     (sym c.in-TestReady.is)
-    (c.test_ready.ensures.serves)
+    (c.test_ready.ensures.serves c.args.addr)
 
 pub returns-in-TestReady-clause-settles : goal.returns-in-TestReady-clause-settles
 returns-in-TestReady-clause-settles g c =

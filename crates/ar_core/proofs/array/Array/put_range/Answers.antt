@@ -1,7 +1,7 @@
-use Rattle.std.proofs.Common.{◌<◌, ◌*◌, ◌+◌, subst, sym, ap, ◌∙◌, arith}
+use Rattle.std.proofs.Common.{ℕ, ◌<◌, ◌*◌, ◌+◌, subst, sym, ap, ◌∙◌, arith}
 use Rattle.ar_disks.specs.declared.geometry.Geometry.{Geometry}
 use Rattle.ar_disks.specs.Geometry.{sectors_of, block_len_of}
-use Rattle.ar_volume.specs.Image.{ArrayState, is_broken, geometry_of}
+use Rattle.ar_volume.specs.Image.{ArrayState, is_broken, geometry_of, length_at}
 use Rattle.ar_cache.specs.Backing.{InTurn, StopsInTurn}
 use Rattle.ar_volume.specs.Sectors.{keys_in}
 use Rattle.ar_volume.specs.Storing.{BreaksBlock, Overwrites, PutsBlock, PutsBlocks, ReadsBlock, StopsOver, StopsPutting}
@@ -13,17 +13,19 @@ use Rattle.ar_core.proofs.array.Array.put_range.Goals as goal
 
 pub write_sectors-requires-clause-known : goal.write_sectors-requires-clause-known
 write_sectors-requires-clause-known g c = λ rb within.
-    let unit = subst (λ (s : ArrayState). IsUnit s c.args.addr c.args.sectors) (sym c.self.view_is) c.requires.unit in
+    let n : ℕ = length_at c.args.self.now.store.book c.args.addr in
+    let unit = subst (λ (s : ArrayState). IsUnit s c.args.addr n) (sym c.self.view_is) c.requires.unit in
     let below : rb * sectors_of (geometry_of c.self.inside.blocks) < c.args.lba + c.args.count =
     subst (λ (h : Geometry). rb * sectors_of h < c.args.lba + c.args.count) c.geometry-geometry.ensures within in
-    key_known c.self.inside.blocks c.args.addr c.args.sectors rb unit (omega (arith, below, c.requires.within))
+    key_known c.self.inside.blocks c.args.addr n rb unit (omega (arith, below, c.requires.within))
 
 pub invariant_of-self : goal.invariant_of-self
 invariant_of-self g c =
-    let unit = subst (λ (s : ArrayState). IsUnit s c.args.addr c.args.sectors) (sym c.self.view_is) c.requires.unit in
+    let n : ℕ = length_at c.args.self.now.store.book c.args.addr in
+    let unit = subst (λ (s : ArrayState). IsUnit s c.args.addr n) (sym c.self.view_is) c.requires.unit in
     let follows : ArrayFollows c.self.inside.blocks c.write_sectors.new.blocks =
     c.write_sectors.ensures.keeps.joined in (
-      padded_written c.self.inside.blocks c.write_sectors.new.blocks c.args.addr c.args.sectors c.args.lba c.args.count
+      padded_written c.self.inside.blocks c.write_sectors.new.blocks c.args.addr n c.args.lba c.args.count
           c.args.bytes.now c.write_sectors.result c.self.invariant.0 unit c.requires.within
           (ap is_broken c.self.view_is ∙ c.requires.sound) follows c.write_sectors.ensures.answer
           (λ done.

@@ -1,10 +1,20 @@
-use Rattle.std.proofs.Common.{◌≡◌, true, false, ◌+◌, nat_lt, Ok, ap, sym, ◌∙◌}
+use Rattle.std.proofs.Common.{◌≡◌, true, false, ◌+◌, nat_lt, Ok, ap, sym, ◌∙◌, arith}
 use Rattle.ar_scsi.specs.declared.command.Command.TheVariants.{Read}
 use Rattle.ar_scsi.specs.Sense.{internal_target_failure, logical_block_address_out_of_range}
 use Rattle.ar_volume.specs.Image.{is_broken}
 use Rattle.ar_volume.proofs.Images.{length-unit_sectors}
-use Rattle.ar_core.proofs.Serving.{serves_check, settles_check, settles_read, read_past, read_within, not_below}
+use Rattle.ar_core.proofs.Serving.{serves_check, settles_check, settles_read, read_past, read_within, not_below, unit_itself}
 use Rattle.ar_core.proofs.array.Array.read.Goals as goal
+
+pub read_range-requires-clause-unit : goal.read_range-requires-clause-unit
+read_range-requires-clause-unit g c = unit_itself c.args.self.now c.args.addr c.args.sectors c.requires
+
+pub read_range-requires-clause-within : goal.read_range-requires-clause-within
+read_range-requires-clause-within g c =
+    let within : nat_lt c.args.sectors (c.args.lba + c.args.count) ≡ false =
+    sym c.is_past_end.ensures ∙ c.if-is_past_end.false in
+    let fits = not_below c.args.sectors (c.args.lba + c.args.count) within in
+    omega (arith, fits, c.requires.sectors_same, c.from.ensures)
 
 pub returns-then-is_past_end-clause-serves : goal.returns-then-is_past_end-clause-serves
 returns-then-is_past_end-clause-serves g c =

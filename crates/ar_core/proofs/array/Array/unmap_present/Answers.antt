@@ -6,8 +6,19 @@ use Rattle.ar_volume.specs.Image.{is_broken, attention_at}
 use Rattle.ar_volume.proofs.Discarding.{length-zeros}
 use Rattle.ar_volume.proofs.Images.{length-unit_sectors}
 use Rattle.ar_core.proofs.Serving.{serves_check, serves_write, write_past, write_within, same_true, not_below}
+use Rattle.ar_core.proofs.Serving.{unit_itself}
 use Rattle.ar_core.proofs.Unmapping.{settles_refused, settles_unmap}
 use Rattle.ar_core.proofs.array.Array.unmap_present.Goals as goal
+
+pub unmap_range-discarded-requires-clause-unit : goal.unmap_range-discarded-requires-clause-unit
+unmap_range-discarded-requires-clause-unit g c = unit_itself c.args.self.now c.args.addr c.args.sectors c.requires
+
+pub unmap_range-discarded-requires-clause-within : goal.unmap_range-discarded-requires-clause-within
+unmap_range-discarded-requires-clause-within g c =
+    let within : nat_lt c.args.sectors (c.args.lba + c.args.count) ≡ false =
+    sym c.is_past_end.ensures ∙ c.if-is_past_end.false in
+    let fits = not_below c.args.sectors (c.args.lba + c.args.count) within in
+    omega (arith, fits, c.requires.sectors_same)
 
 pub returns-then-is_past_end-clause-serves : goal.returns-then-is_past_end-clause-serves
 returns-then-is_past_end-clause-serves g c =

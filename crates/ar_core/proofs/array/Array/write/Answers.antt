@@ -5,8 +5,18 @@ use Rattle.ar_scsi.specs.Sense.{logical_block_address_out_of_range, data_phase_e
 use Rattle.ar_volume.specs.Image.{is_broken, attention_at}
 use Rattle.ar_volume.proofs.Images.{length-unit_sectors}
 use Rattle.ar_core.proofs.Serving.{serves_check, serves_write, settles_check, settles_write, write_past, write_wrong}
-use Rattle.ar_core.proofs.Serving.{write_within, same_false, same_true, not_below}
+use Rattle.ar_core.proofs.Serving.{write_within, same_false, same_true, not_below, unit_itself}
 use Rattle.ar_core.proofs.array.Array.write.Goals as goal
+
+pub write_range-stored-requires-clause-unit : goal.write_range-stored-requires-clause-unit
+write_range-stored-requires-clause-unit g c = unit_itself c.args.self.now c.args.addr c.args.sectors c.requires
+
+pub write_range-stored-requires-clause-within : goal.write_range-stored-requires-clause-within
+write_range-stored-requires-clause-within g c =
+    let within : nat_lt c.args.sectors (c.args.lba + c.args.count) ≡ false =
+    sym c.is_past_end.ensures ∙ c.if-is_past_end.false in
+    let fits = not_below c.args.sectors (c.args.lba + c.args.count) within in
+    omega (arith, fits, c.requires.sectors_same, c.from-2.ensures)
 
 pub returns-then-is_past_end-clause-serves : goal.returns-then-is_past_end-clause-serves
 returns-then-is_past_end-clause-serves g c =

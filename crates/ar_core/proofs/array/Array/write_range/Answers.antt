@@ -1,7 +1,10 @@
-use Rattle.std.proofs.Common.{◌∙◌}
+use Rattle.std.proofs.Common.{◌∙◌, arith}
 use Rattle.ar_volume.specs.Laws.{follows_then}
 use Rattle.ar_core.proofs.Serving.{writes_then}
 use Rattle.ar_core.proofs.array.Array.write_range.Goals as goal
+
+pub force_range-requires-clause-within : goal.force_range-requires-clause-within
+force_range-requires-clause-within g c = omega (arith, c.requires.unit.few, c.requires.within)
 
 pub returns-in-Done-clause-writes : goal.returns-in-Done-clause-writes
 returns-in-Done-clause-writes g c = λ done.
