@@ -188,6 +188,26 @@ class Reinstatement(NamedCase):
         self.is_refused(0)
         self.wants(host.is_ready(), True, "a session by frames, beside a login over iSCSI")
 
+    def asks_to_wait(self):
+        """A connection that asks to log in, and doesn't wait for the answer."""
+        initiator = self.kept(Initiator(self.server.iscsi_port))
+        pairs = f"InitiatorName={NAME}\0TargetName={TARGET}0\0".encode()
+        initiator.send(0x43, 0x87, (0, initiator.cmd_sn), pairs, place=ISID << 16)
+        return initiator
+
+    def test_login_that_waits(self):
+        """It isn't shown, and waits no longer once another takes its place, which gets the seat."""
+        host = self.kept(self.server.log_in(0))
+        first = self.asks_to_wait()
+        time.sleep(0.3)
+        self.wants(self.server.answers_to("sessions\n"), "host 0 frames 0 read 0 written 0\n", "sessions meanwhile")
+        begun, second = time.monotonic(), self.asks_to_wait()
+        rest_of(first.link)
+        passed = time.monotonic() - begun
+        self.holds(passed < MOST / 2, f"an end within {MOST / 2} s", f"{passed:.2f} s")
+        host.close()
+        self.wants(second.receive().login_status, b"\0\0", "the login that took its place")
+
     def test_discovery(self):
         """It ends no session, and none ends it."""
         first, normal, second = self.logs_in(None), self.logs_in(0), self.logs_in(None)

@@ -1,5 +1,5 @@
 -- A look at a served array, as the pages show it.
-use Rattle.std.specs.Prelude.{◌≡◌, ℕ, ◌-◌, ◌++◌, Bool, true, false, not, List, [], ◌∷◌, length, map, min, Option, Some}
+use Rattle.std.specs.Prelude.{◌≡◌, ℕ, ◌-◌, ◌++◌, Bool, true, false, not, List, [], ◌∷◌, length, map, Option, Some}
 use Rattle.std.specs.Prelude.{None, is_some, option_map}
 use Rattle.std.specs.List.{range_with_len}
 use Rattle.ar_disks.specs.Geometry.{block_len_of}
@@ -21,8 +21,6 @@ use Rattle.ar_picture.specs.Drawings.{svg_text}
 use Rattle.ar_picture.specs.Losses.{health_naming}
 use Rattle.ar_picture.specs.declared.picture.Picture.{Picture}
 use Rattle.ar_script.specs.Pictures.{IsPicture}
-use Rattle.ar_service.specs.Attached.{discoveries}
-use Rattle.ar_service.specs.declared.attached.Attached.{Attached}
 use Rattle.ar_sessions.specs.Desk.{Places, seat_at}
 use Rattle.ar_status.specs.Changes.{between, events_in, listed_with}
 use Rattle.ar_status.specs.declared.changes.EventLog.{EventLog}
@@ -120,22 +118,8 @@ is_logged_in places host = not (is_some (seat_at places host))
 
 -- which hosts are logged in, by the places of a desk
 abbrev pub hosts_logged_in : Places → List Bool
-hosts_logged_in places = is_logged_in places 0 ∷ is_logged_in places 1 ∷ is_logged_in places 2 ∷ is_logged_in places 3 ∷ []
-
--- these hosts are logged in, by some desk
-pub record AreHosts (hosts : List Bool) : Type 0 where
-  pub places : Places
-  pub are : hosts ≡ hosts_logged_in places
-
--- this is how many sessions of some list are for discovery, up to 255
-pub record AreDiscoveries (count : ℕ) : Type 0 where
-  pub list : List Attached
-  pub are : count ≡ min (discoveries list) 255
-
--- The sessions are those of a desk and of a list. That these are the ones behind the locks is not specified.
-pub record AreSessions (numbers : SessionNumbers) : Type 0 where
-  pub hosts : AreHosts numbers.hosts
-  pub discovery : AreDiscoveries numbers.discovery
+hosts_logged_in places =
+    is_logged_in places 0 ∷ is_logged_in places 1 ∷ is_logged_in places 2 ∷ is_logged_in places 3 ∷ []
 
 -- The status is that of this array with these counts, `stored` entries of whose history are stored, with this store, at
 -- this second, with these sessions and events; `lost` are the disks that it has lost, if it has failed. The memory of
@@ -185,8 +169,8 @@ MayDraw true lost array None = ⊥
 MayDraw true lost array (Some drawing) = IsDrawing lost array drawing
 
 -- The status of an array at one moment, and the data of its picture at the same one, both with the same lost disks. One
--- that doesn't persist has no store. The time, the events, how many entries are stored, how the store is, and which
--- disks were lost are not specified.
+-- that doesn't persist has no store. The time, the events, the sessions, how many entries are stored, how the store is,
+-- and which disks were lost are not specified.
 pub record CopiesMoment (persists draws : Bool) (status : ArrayStatus) (drawing : Option Picture) : Type 0 where
   pub state : KeptState
   pub stored : ℕ
@@ -195,7 +179,6 @@ pub record CopiesMoment (persists draws : Bool) (status : ArrayStatus) (drawing 
   pub lost : Option (List ℕ)
   pub is :
       IsStatusOf state.array state.counts stored store lost status.sessions status.uptime_seconds status.events status
-  pub sessions : AreSessions status.sessions
   pub picture : MayDraw draws lost state.array drawing
 
 -- the text of a picture; without one it is empty

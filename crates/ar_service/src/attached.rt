@@ -1,5 +1,5 @@
-// The iSCSI sessions that are known by their initiators: all whose logins were in order, until they end. A login with the
-// name and ISID of one with the same host takes its place, and ends it (RFC 7143, 6.3.5).
+// The iSCSI sessions that are known by their initiators: all whose logins were in order, until they end. A login with
+// the name and ISID of one with the same host takes its place, and ends it (RFC 7143, 6.3.5).
 ghost use Rattle.std.specs.Prelude.{◌≡◌, ◌≤◌, [], IfOk, OnOk, OnErr, false, is_none, length, map};
 ghost use Rattle.std.specs.Prelude.{min, take};
 ghost use Rattle.ar_service.specs.Attached.{after_entry, after_login, are_of_one_host, attached_with, attached_without};
@@ -26,7 +26,7 @@ pub struct Attached {
     pub isid_low: u16,
     /// The port of 127.0.0.1 that its initiator connects from, over TCP.
     pub peer: Option<u16>,
-    /// Whether its login was accepted.
+    /// Whether its login was accepted, or it is for discovery.
     pub has_entered: bool,
     /// Whether another has taken its place.
     pub is_ended: bool,
@@ -153,7 +153,7 @@ impl Entry {
 }
 
 impl Initiators {
-    /// None, and no memory for any.
+    /// An empty list without capacity.
     pub fn none(alloc: Global) -> Initiators
         ensures { result ≡ [] }
     {
@@ -162,7 +162,7 @@ impl Initiators {
         }
     }
 
-    /// None, with memory for `most`.
+    /// An empty list with capacity for `most`.
     pub fn new(alloc: Global, most: usize) -> Result<Initiators, AllocError>
         ensures { IfOk result (λ initiators. initiators ≡ []) }
     {
@@ -171,7 +171,8 @@ impl Initiators {
         })
     }
 
-    /// Adds a session whose login is in order, and ends those whose place it takes. `Err`: there is no memory for it.
+    /// Adds a session whose login is in order, and ends those whose place it takes. `Err`: there is no memory for it;
+    /// those are ended all the same.
     pub fn begin(
         &mut self,
         session: Attached,

@@ -1,6 +1,6 @@
 // The doors of a service: for hosts, and beside it, each with threads of its own, for operators and for HTTP clients.
 ghost use Rattle.std.specs.Prelude.{◌≡◌, ◌<◌};
-ghost use Rattle.ar_service.specs.Watching.{AreDiscoveries, AreHosts, AreSessions, hosts_logged_in, is_logged_in};
+ghost use Rattle.ar_service.specs.Watching.{hosts_logged_in, is_logged_in};
 
 use crate::attached::Initiators;
 use crate::initiators::{IscsiPort, Targets};
@@ -98,12 +98,10 @@ impl<'a, R: Wait + Clock, A: ControlledArray<L, M> + Drop, L: Ledger, M> Operate
         }
     }
 
-    /// Counts the sessions. Each lock is taken for itself.
-    pub fn sessions(&self) -> SessionNumbers
-        ensures { AreSessions result }
-    {
-        let hosts = hosts_in(&self.desk.lock(self.rt));
-        let discovery = discoveries_in(&self.initiators.lock(self.rt));
+    /// Counts the sessions. It takes one lock at a time.
+    pub fn sessions(&self) -> SessionNumbers {
+        let hosts = hosts_logged_in(&self.desk.lock(self.rt));
+        let discovery = self.initiators.lock(self.rt).discoveries();
         SessionNumbers { hosts, discovery }
     }
 
@@ -119,12 +117,6 @@ impl<'a, R: Wait + Clock, A: ControlledArray<L, M> + Drop, L: Ledger, M> Operate
 }
 
 // Which hosts are logged in.
-fn hosts_in<L: Ledger>(desk: &Desk<L>) -> [bool; 4]
-    ensures { AreHosts result }
-{
-    hosts_logged_in(desk)
-}
-
 fn hosts_logged_in<L: Ledger>(desk: &Desk<L>) -> [bool; 4]
     ensures { result ≡ hosts_logged_in desk.now }
 {
@@ -145,13 +137,6 @@ fn is_logged_in<L: Ledger>(desk: &Desk<L>, number: u8) -> bool
         Some(host) => desk.counts(host).is_some(),
         None => false,
     }
-}
-
-// How many sessions are for discovery.
-fn discoveries_in(initiators: &Initiators) -> u8
-    ensures { AreDiscoveries result }
-{
-    initiators.discoveries()
 }
 
 // Looks at an array, and returns its status.

@@ -5,7 +5,7 @@ ghost use Rattle.ar_service.specs.Names.{shown_byte};
 /// The most bytes of an initiator's name (RFC 7143, 4.2.7.1).
 const MOST_NAME: usize = 223;
 
-/// The name of an initiator. Names differ exactly if their bytes do; they are shown in ASCII alone.
+/// The name of an initiator, of which the first 223 bytes count. It is shown in ASCII alone.
 #[derive(Clone, Copy)]
 pub struct InitiatorName {
     // The first `count` are the name.

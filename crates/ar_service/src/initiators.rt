@@ -81,7 +81,7 @@ fn address_of(alloc: Global, port: u16) -> Result<Vec<u8>, AllocError> {
 }
 
 // A port whose login waits for up to two seconds while another session has the host's seat: an initiator may log in
-// again as soon as it has logged out, and its last session is still being closed then. So is one whose place it takes.
+// again as soon as it has logged out, and its last session is still being closed then. So is one that this login ends.
 #[derive(Drop)]
 struct PatientPort<'a, R: Wait, L: Ledger, P: Drop> {
     rt: &'a R,
@@ -110,9 +110,9 @@ fn entered(initiators: &mut Initiators, number: u64) -> Option<Attached> {
 }
 
 impl<'a, R: Wait + Log, L: Ledger, P: Drop> LoginObserver for PatientPort<'a, R, L, P> {
-    // One for discovery has nothing to wait for.
+    // (a session for discovery takes no seat, so that it is logged here)
     fn observe(&self, login: InitiatorLogin<'_>) {
-        let (peer, progress) = shared(&self.progress);
+        let (peer, progress) = peer_and_handle(&self.progress);
         let session = Attached::new(self.number, login, peer);
         let _added = self.initiators.lock(self.rt).begin(session, progress);
         if login.host.is_none() {
@@ -122,7 +122,7 @@ impl<'a, R: Wait + Log, L: Ledger, P: Drop> LoginObserver for PatientPort<'a, R,
 }
 
 // The port of a session's peer, and another handle of how far the session has come.
-fn shared(progress: &Option<Arc<Progress>>) -> (Option<u16>, Option<Arc<Progress>>) {
+fn peer_and_handle(progress: &Option<Arc<Progress>>) -> (Option<u16>, Option<Arc<Progress>>) {
     match progress {
         Some(progress) => (progress.peer(), Arc::try_clone(progress).ok()),
         None => (None, None),
@@ -139,7 +139,7 @@ impl<'a, R: Wait + Clock + Log, L: Ledger, P: Port + Drop> Port for PatientPort<
     ghost refuses = { λ old cdb new. P.refuses old.port cdb new.port };
 
     fn login(&mut self, host: u8) -> Login {
-        wait_for_seat(self.rt, self.desk, host);
+        wait_for_seat(self.rt, self.desk, host, &self.progress);
         let login = self.port.login(host);
         if let Login::Taken = login {
             self.note_entry();
@@ -180,16 +180,29 @@ impl<'a, R: Wait + Clock + Log, L: Ledger, P: DiscardPort + Drop> DiscardPort
     }
 }
 
-// Waits until a host has no session, or for two seconds.
-fn wait_for_seat<R: Wait + Clock, L: Ledger>(rt: &R, desk: &Mutex<Desk<L>>, number: u8) {
+// Waits until a host has no session, or for two seconds. A login whose session another has ended waits no longer.
+fn wait_for_seat<R: Wait + Clock, L: Ledger>(
+    rt: &R,
+    desk: &Mutex<Desk<L>>,
+    number: u8,
+    progress: &Option<Arc<Progress>>,
+) {
     let Some(host) = Host::new(number) else {
         return;
     };
     for _ in 0..LOOKS {
-        if desk.lock(rt).counts(host).is_none() {
+        if is_ended(progress) || desk.lock(rt).counts(host).is_none() {
             return;
         }
         thread::sleep(rt, Duration::from_millis(LOOK_PAUSE));
+    }
+}
+
+// Whether a session is to end.
+fn is_ended(progress: &Option<Arc<Progress>>) -> bool {
+    match progress {
+        Some(progress) => progress.is_ended(),
+        None => false,
     }
 }
 

@@ -1,7 +1,7 @@
 // HTTP clients that watch the array. Its numbers, and the data of its picture, are copied under its lock; all else is
 // done outside.
 ghost use Rattle.std.specs.Prelude.{◌≡◌, IfOk};
-ghost use Rattle.ar_service.specs.Watching.{AreSessions, CopiesMoment, IsDrawing, MayDraw, text_drawn};
+ghost use Rattle.ar_service.specs.Watching.{CopiesMoment, IsDrawing, MayDraw, text_drawn};
 
 use crate::doors::OperatedArray;
 use crate::shown::ControlledArray;
@@ -68,7 +68,6 @@ fn copy_moment<A: ControlledArray<L, M>, L: Ledger, M>(
     seconds: u64,
     draws: bool,
 ) -> Result<(ArrayStatus, Option<Picture>), AllocError>
-    requires { AreSessions sessions }
     ensures { IfOk result (λ copied. CopiesMoment A.persists draws copied.0 copied.1) }
 {
     array.see(seconds, log);

@@ -1,7 +1,7 @@
 // Where the connections of a door come in: a port of 127.0.0.1, or a Unix socket. A connection is a `TcpStream` in both
 // cases, since all calls of its streams are those of a descriptor.
 use std::io;
-use std::net::{Net, TcpListener, TcpStream};
+use std::net::{IpAddr, Ipv4Addr, Net, SocketAddr, TcpListener, TcpStream};
 use std::os::fd::OwnedFd;
 use std::os::unix::net::UnixListener;
 use std::time::Duration;
@@ -30,14 +30,14 @@ impl Listener {
         in_slices(Listener::Unix(socket))
     }
 
-    /// Waits for a connection, for at most `PAUSE`, and returns it with the port of its peer, over TCP. It has no
-    /// Nagle's delay, which a Unix socket doesn't know.
+    /// Waits for a connection, for at most `PAUSE`, and returns it with the port of 127.0.0.1 that its peer connects
+    /// from, if it does. It has no Nagle's delay, which a Unix socket doesn't know.
     pub fn accept(&self) -> io::Result<(TcpStream, Option<u16>)> {
         match self {
             Listener::Port(listener) => {
                 let (stream, peer) = listener.accept()?;
                 stream.set_nodelay(true)?;
-                Ok((stream, Some(peer.port())))
+                Ok((stream, local_port(&peer)))
             }
             Listener::Unix(listener) => {
                 let (stream, _) = listener.accept()?;
@@ -64,6 +64,15 @@ impl Listener {
             }
             Listener::Unix(_) => None,
         }
+    }
+}
+
+// The port of an address, if that is of 127.0.0.1.
+fn local_port(address: &SocketAddr) -> Option<u16> {
+    if address.ip() == IpAddr::V4(Ipv4Addr::LOCALHOST) {
+        Some(address.port())
+    } else {
+        None
     }
 }
 

@@ -88,7 +88,7 @@ const JSON: &str = "\
 \"read\":{\"good\":330,\"check_condition\":331,\"busy\":332},\
 \"write\":{\"good\":340,\"check_condition\":341,\"busy\":342},\
 \"other\":{\"good\":350,\"check_condition\":351,\"busy\":352}}}],\
-\"sessions\":{\"hosts\":[true,false,false,true],\"discovery\":2},\
+\"sessions\":{\"hosts\":[true,false,false,false],\"discovery\":2},\
 \"steps\":{\"flush\":1,\"demote\":2,\"clean\":3,\"balance\":4,\"rebuild\":5},\
 \"counters\":{\"promotions\":11,\"squeezes\":12,\"cache_hits\":13,\"destages\":18446744073709551615,\"discards\":14},\
 \"events\":[{\"seconds\":60,\"kind\":\"disk_replaced\",\"disk\":3},\
@@ -255,7 +255,7 @@ autoraid_host_written_bytes_total{host=\"3\"} 6
 autoraid_host_sessions{host=\"0\"} 1
 autoraid_host_sessions{host=\"1\"} 0
 autoraid_host_sessions{host=\"2\"} 0
-autoraid_host_sessions{host=\"3\"} 1
+autoraid_host_sessions{host=\"3\"} 0
 # HELP autoraid_discovery_sessions iSCSI sessions for discovery.
 # TYPE autoraid_discovery_sessions gauge
 autoraid_discovery_sessions 2

@@ -61,7 +61,7 @@ pub fn array_in(health: ArrayHealth) -> Still {
         store: None,
         hosts: hosts(),
         sessions: SessionNumbers {
-            hosts: [true, false, false, true],
+            hosts: [true, false, false, false],
             discovery: 2,
         },
         counters: ArrayCounters {
