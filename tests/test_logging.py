@@ -46,7 +46,8 @@ class Lines(Case):
         said = [re.sub(", .*", "", LOGGED.fullmatch(line)[3]) for line in lines]
         wanted = []
         for number, port in enumerate(ports, 1):
-            wanted += [f"session {number} of 127.0.0.1:{port} started", f"session {number} host {number - 1} ended: End"]
+            wanted += [f"session {number} of 127.0.0.1:{port} started"]
+            wanted += [f"session {number} host {number - 1} ended: End"]
         wanted += ["disk 1 failed: an operator took it out"]
         self.wants(said, wanted, "what the lines say")
 
