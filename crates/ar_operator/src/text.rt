@@ -65,9 +65,7 @@ pub fn write_initiator<W: Write>(
     host: Option<u8>,
     peer: Option<u16>,
     name: &[u8],
-) -> io::Result<()>
-    ensures adds { OnOk result (AddsSome (W.contents out.old) (W.contents out.new)) }
-{
+) -> io::Result<()> {
     write!(out, "iscsi {number} ")?;
     write_purpose(out, host)?;
     write_peer(out, peer)?;
@@ -75,18 +73,14 @@ pub fn write_initiator<W: Write>(
     out.write_all(b"\n")
 }
 
-fn write_purpose<W: Write>(out: &mut W, host: Option<u8>) -> io::Result<()>
-    ensures adds { OnOk result (AddsSome (W.contents out.old) (W.contents out.new)) }
-{
+fn write_purpose<W: Write>(out: &mut W, host: Option<u8>) -> io::Result<()> {
     match host {
         Some(host) => write!(out, "host {host} "),
         None => out.write_all(b"discovery "),
     }
 }
 
-fn write_peer<W: Write>(out: &mut W, peer: Option<u16>) -> io::Result<()>
-    ensures adds { OnOk result (AddsSome (W.contents out.old) (W.contents out.new)) }
-{
+fn write_peer<W: Write>(out: &mut W, peer: Option<u16>) -> io::Result<()> {
     match peer {
         Some(port) => write!(out, "127.0.0.1:{port} "),
         None => Ok(()),
