@@ -1,5 +1,6 @@
 -- A queue of lines that drops what doesn't fit, and counts it.
-use Rattle.std.specs.Prelude.{ℕ, ◌+◌, ◌-◌, ◌^◌, ◌==◌, ◌&&◌, Bool, List, ◌∷◌, [], ◌++◌, length, drop, map, sum, Option, Some, None, min, nat_lt, if◌then◌else◌}
+use Rattle.std.specs.Prelude.{ℕ, ◌+◌, ◌-◌, ◌^◌, ◌==◌, ◌&&◌, Bool, List, ◌∷◌, [], ◌++◌, length, drop, map, sum}
+use Rattle.std.specs.Prelude.{Option, Some, None, min, nat_lt, if◌then◌else◌}
 use Rattle.ar_logging.specs.declared.queue.QueuedLine.{QueuedLine}
 
 -- what a queue holds: its lines, the oldest first; how many lines were dropped after them; how many it has room for

@@ -155,7 +155,7 @@ pub struct LogThread<R: Wait + Clock> {
 }
 
 impl<R: Wait + Clock> LogThread<R> {
-    /// Starts the thread. All memory of the log is allocated here. `target` is that of the lines that count dropped ones.
+    /// Starts the thread. All memory of the log is allocated here. `target` is that of lines that count dropped ones.
     pub fn start(rt: R, alloc: Global, target: &'static str) -> Result<LogThread<R>, AllocError>
     where
         R: Threads + Eprint + Copy + Send + Sync + 'static,

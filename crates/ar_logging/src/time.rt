@@ -1,7 +1,8 @@
 // Times of UTC, as text: `2026-11-30T00:10:07Z`. A year or a month is found by going over those before it, since a log
 // has few lines.
 ghost use Rattle.std.specs.Prelude.{◌≡◌, ◌+◌, ◌-◌, ◌*◌, ◌/◌, ◌<◌, ◌≤◌, IfNone, IfSome, Some};
-ghost use Rattle.ar_logging.specs.Calendar.{IsDate, IsTimeOfDay, days_in_month, days_in_year, days_of_months, days_of_years, is_leap_year};
+ghost use Rattle.ar_logging.specs.Calendar.{IsDate, IsTimeOfDay, days_in_month, days_in_year, days_of_months};
+ghost use Rattle.ar_logging.specs.Calendar.{days_of_years, is_leap_year};
 ghost use Rattle.std.specs.Int.{IsInRange};
 
 use std::time::{Clock, SystemTime, UNIX_EPOCH};
