@@ -40,7 +40,8 @@ pub record Makes (P : Type 0) (a : ℕ × ℕ) (from : UnitState) (records : Lis
   pub executed : P → AreExecuted a from records
 
 -- a record of an array's disks adds no unit, and a record of a unit no disk
-pub added_disks-append : (records more : List RecordData) → added_disks (records ++ more) ≡ added_disks records ++ added_disks more
+pub added_disks-append : (records more : List RecordData) → added_disks (records ++ more) ≡ added_disks records
+    ++ added_disks more
 added_disks-append [] more = refl
 added_disks-append (Make host lun sectors ∷ records) more = added_disks-append records more
 added_disks-append (Grow host lun sectors ∷ records) more = added_disks-append records more
@@ -49,7 +50,8 @@ added_disks-append (Command host lun cdb payload ∷ records) more = added_disks
 added_disks-append (Unmap host lun lba count ∷ records) more = added_disks-append records more
 added_disks-append (AddDisk extents ∷ records) more = ap (λ (l : List ℕ). extents ∷ l) (added_disks-append records more)
 
-pub fit-append : (records more : List RecordData) → AreEncodable records → AreEncodable more → AreEncodable (records ++ more)
+pub fit-append : (records more : List RecordData) → AreEncodable records → AreEncodable more
+    → AreEncodable (records ++ more)
 fit-append [] more fit also = also
 fit-append (r ∷ records) more fit also = (fit.0, fit-append records more fit.1 also)
 

@@ -41,7 +41,8 @@ cut-append m n front rest len =
     let whole : m * 512 ≤ m * 512 = omega arith in
     cut-add m n (front ++ rest)
     ∙ ap (λ (l : List Sector). l ++ cut 512 n (drop (m * 512) (front ++ rest)))
-    (sym (cut-take m (m * 512) (front ++ rest) whole) ∙ ap (λ (l : List ℕ). cut 512 m l) (take_at front rest (m * 512) len))
+    (sym (cut-take m (m * 512) (front ++ rest) whole)
+    ∙ ap (λ (l : List ℕ). cut 512 m l) (take_at front rest (m * 512) len))
     ∙ ap (λ (l : List ℕ). cut 512 m front ++ cut 512 n l) (drop_at front rest (m * 512) len)
 
 pub take-cut : (m n : ℕ) (bytes : List ℕ) → m ≤ n → take m (cut 512 n bytes) ≡ cut 512 m bytes

@@ -36,7 +36,8 @@ obeyed_other sectors attention (Ok Capacity) bytes e = refl
 obeyed_other sectors attention (Ok (Read lba count)) bytes e = refl
 obeyed_other sectors attention (Ok (Write lba count fua)) bytes e = absurd cc
 
-obeyed_write : (sectors : List Sector) (attention : Bool) (command : Result Command Sense) (bytes : List ℕ) (lba count : ℕ)
+obeyed_write : (sectors : List Sector) (attention : Bool) (command : Result Command Sense) (bytes : List ℕ)
+    (lba count : ℕ)
     → range_in command ≡ Some (lba, count)
     → (obeyed sectors attention command bytes).state ≡ (write_answer sectors attention lba count bytes).state
 unfolding obeyed
@@ -130,7 +131,8 @@ pub write_done : (n : ℕ) (bytes : List ℕ) (attention : Bool) (lba count : �
 write_done n bytes attention lba count sent len within sent_len =
     let inside = le-ltb (length (cut 512 n bytes)) (lba + count) (omega (arith, length-cut 512 n bytes, within)) in
     let whole = eq-eqb (length sent) (count * 512) sent_len in
-    rw (inside, whole) (ap (λ (l : List Sector). Present l attention) (cut-written n lba count bytes sent len within sent_len))
+    rw (inside, whole)
+    (ap (λ (l : List Sector). Present l attention) (cut-written n lba count bytes sent len within sent_len))
 
 -- ---- discards
 
@@ -141,7 +143,8 @@ discard_past n bytes lba count past =
     ∙ sym (ap (λ (a : Answered). a.state) (zeros_written (cut 512 n bytes) lba count))
 
 pub discard_done : (n : ℕ) (bytes : List ℕ) (lba count : ℕ) → length bytes ≡ n * 512 → lba + count ≤ n
-    → Present (cut 512 n (take (lba * 512) bytes ++ (replicate (count * 512) 0 ++ drop ((lba + count) * 512) bytes))) false
+    → Present (cut 512 n (take (lba * 512) bytes ++ (replicate (count * 512) 0 ++ drop ((lba + count) * 512) bytes)))
+    false
     ≡ (unmap_obeyed (cut 512 n bytes) lba count).state
 discard_done n bytes lba count len within =
     write_done n bytes false lba count (replicate (count * 512) 0) len within (length-replicate (count * 512) 0)

@@ -1,6 +1,7 @@
 -- Units that records make as an array executes them: a pending UNIT ATTENTION comes from a growth, and until it is
 -- reported no command is executed.
-use Rattle.std.proofs.Common.{◌≡◌, ◌<◌, ◌≤◌, ◌+◌, ◌-◌, ℕ, Bool, true, false, cond, eqb, List, [], ◌∷◌, ◌++◌, length, drop}
+use Rattle.std.proofs.Common.{◌≡◌, ◌<◌, ◌≤◌, ◌+◌, ◌-◌, ℕ, Bool, true, false, cond, eqb, List, [], ◌∷◌, ◌++◌, length}
+use Rattle.std.proofs.Common.{drop}
 use Rattle.std.proofs.Common.{Result, Ok, Err, refl, sym, ap, subst, ◌∙◌, arith, length-append}
 use Rattle.std.proofs.Math.ListN.{length-replicate}
 use Rattle.std.proofs.lemmas.Bool.{true≢false, cond_both, eqb-true}
@@ -70,7 +71,8 @@ grown : (sectors : List Sector) (n : ℕ) → 1 ≤ length sectors → length se
 grown sectors n some more =
     let k : ℕ = n - length sectors in
     let all : List Sector = sectors ++ zero_sectors k in
-    let len : length all ≡ n = omega (arith, length-append sectors (zero_sectors k), length-replicate k zero_sector, more) in
+    let len : length all ≡ n =
+    omega (arith, length-append sectors (zero_sectors k), length-replicate k zero_sector, more) in
     let last : length all - 1 ≡ length sectors + (k - 1) = omega (arith, len, more) in
     let one : k - (k - 1) ≡ 1 = omega (arith, more) in (
       omega (arith, len, more),

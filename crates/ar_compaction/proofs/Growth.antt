@@ -1,6 +1,7 @@
 -- The last record of a unit with a pending UNIT ATTENTION.
 use Rattle.std.proofs.Common.{◌≡◌, ◌<◌, ◌≤◌, ◌^◌, ◌+◌, ◌-◌, ◌*◌, ℕ, Bool, true, false, cond, ◌&&◌, ltb}
-use Rattle.std.proofs.Common.{List, [], ◌∷◌, ◌++◌, length, take, drop, refl, sym, ap, subst, ◌∙◌, arith, append-nil, length-drop}
+use Rattle.std.proofs.Common.{List, [], ◌∷◌, ◌++◌, length, take, drop, refl, sym, ap, subst, ◌∙◌, arith, append-nil}
+use Rattle.std.proofs.Common.{length-drop}
 use Rattle.std.specs.Prelude.{replicate, get_or}
 use Rattle.std.proofs.lemmas.Bool.{true≢false, ltb-true, lt-ltb, and_parts}
 use Rattle.std.proofs.lemmas.List.{take_all}
@@ -24,7 +25,8 @@ with_last sectors bytes len ends =
     let last_len : length last ≡ 1 * 512 = omega (arith, length-drop ((sectors - 1) * 512) bytes, len, several) in
     let zeros : last ≡ replicate (1 * 512) 0 = zeros-are last two.1 ∙ ap (λ (n : ℕ). replicate n 0) last_len in
     let sum : sectors - 1 + 1 ≡ sectors = omega (arith, several) in
-    ap (λ (l : List Sector). cut 512 (sectors - 1) bytes ++ l) (sym (ap (λ (l : List ℕ). cut 512 1 l) zeros ∙ cut-zeros 1))
+    ap (λ (l : List Sector). cut 512 (sectors - 1) bytes ++ l)
+    (sym (ap (λ (l : List ℕ). cut 512 1 l) zeros ∙ cut-zeros 1))
     ∙ sym (cut-add (sectors - 1) 1 bytes)
     ∙ ap (λ (n : ℕ). cut 512 n bytes) sum
 

@@ -5,7 +5,8 @@ use Rattle.std.proofs.Common.{arith, inl, inr}
 use Rattle.std.specs.Prelude.{IfOk}
 use Rattle.std.specs.Int.{Width, w16, w64, byte_len, from_be_bytes, to_be_bytes}
 use Rattle.std.proofs.lemmas.Bool.{cases_lt, ltb-false, le-ltb, eqb-true, eq-eqb}
-use Rattle.std.proofs.lemmas.List.{take_at, drop_at, take-append-drop, length-append, length-take, get_or-drop, get_or-take, get_or_past}
+use Rattle.std.proofs.lemmas.List.{take_at, drop_at, take-append-drop, length-append, length-take, get_or-drop}
+use Rattle.std.proofs.lemmas.List.{get_or-take, get_or_past}
 use Rattle.std.proofs.lemmas.Nat.{be_bytes_2, from_be_bytes-to_be_bytes_2}
 use Rattle.ar_disks.specs.declared.geometry.Geometry.{Geometry}
 use Rattle.ar_disks.specs.declared.geometry.Geometry.TheVariants.{Paper, Small}
@@ -54,7 +55,8 @@ again_by : (w : Width) (n : ℕ) (rest : List ℕ) → length (to_be_bytes w n) 
 again_by w n rest len back =
     let long : ltb (length (to_be_bytes w n ++ rest)) (byte_len w) ≡ false =
     le-ltb _ _ (omega (arith, len, length-append (to_be_bytes w n) rest)) in
-    rw (long, take_at (to_be_bytes w n) rest (byte_len w) len, drop_at (to_be_bytes w n) rest (byte_len w) len, back) refl
+    rw (long, take_at (to_be_bytes w n) rest (byte_len w) len, drop_at (to_be_bytes w n) rest (byte_len w) len, back)
+    refl
 
 short_again : (n : ℕ) (rest : List ℕ) → n < 2 ^ 16 → number_at w16 (to_be_bytes w16 n ++ rest) ≡ Some (n, rest)
 short_again n rest lt = again_by w16 n rest refl (from_be_bytes-to_be_bytes_2 n lt)
@@ -123,10 +125,18 @@ fields_take : (bytes : List ℕ) (head : HeadData) → IsBytes bytes → fields_
     → IsHead head × (bytes ≡ fields_of head)
 unfolding fields_at
 fields_take bytes head fits e =
-    let a = bind_some (number_at w64 bytes) (λ generation. bytes_at 16 generation.1 >>= λ identity. shape_at identity.1 >>= λ shape. number_at w16 shape.1 >>= λ extents. name_at extents.1 >>= λ name. Some (head_with generation.0 identity.0 shape.0 extents.0 name)) head e in
-    let b = bind_some (bytes_at 16 a.0.1) (λ identity. shape_at identity.1 >>= λ shape. number_at w16 shape.1 >>= λ extents. name_at extents.1 >>= λ name. Some (head_with a.0.0 identity.0 shape.0 extents.0 name)) head a.2 in
-    let c = bind_some (shape_at b.0.1) (λ shape. number_at w16 shape.1 >>= λ extents. name_at extents.1 >>= λ name. Some (head_with a.0.0 b.0.0 shape.0 extents.0 name)) head b.2 in
-    let d = bind_some (number_at w16 c.0.1) (λ extents. name_at extents.1 >>= λ name. Some (head_with a.0.0 b.0.0 c.0.0 extents.0 name)) head c.2 in
+    let a = bind_some (number_at w64 bytes)
+    (λ generation. bytes_at 16 generation.1 >>= λ identity. shape_at identity.1 >>= λ shape. number_at w16 shape.1
+    >>= λ extents. name_at extents.1 >>= λ name. Some
+    (head_with generation.0 identity.0 shape.0 extents.0 name)) head e in
+    let b = bind_some (bytes_at 16 a.0.1)
+    (λ identity. shape_at identity.1 >>= λ shape. number_at w16 shape.1 >>= λ extents. name_at extents.1 >>= λ name.
+    Some (head_with a.0.0 identity.0 shape.0 extents.0 name)) head a.2 in
+    let c = bind_some (shape_at b.0.1)
+    (λ shape. number_at w16 shape.1 >>= λ extents. name_at extents.1 >>= λ name. Some
+    (head_with a.0.0 b.0.0 shape.0 extents.0 name)) head b.2 in
+    let d = bind_some (number_at w16 c.0.1)
+    (λ extents. name_at extents.1 >>= λ name. Some (head_with a.0.0 b.0.0 c.0.0 extents.0 name)) head c.2 in
     let n = bind_some (name_at d.0.1) (λ name. Some (head_with a.0.0 b.0.0 c.0.0 d.0.0 name)) head d.2 in
     let t0 = wide_number_takes bytes a.0 fits a.1 in
     let t1 = bytes_take 16 a.0.1 b.0 t0.0.rest_fits b.1 in

@@ -91,7 +91,8 @@ among-push b a (c ∷ addresses) =
 -- the same seen from the other address
 other_way : (a b : ℕ × ℕ) → is_unit_at a b.0 b.1 ≡ false → is_unit_at b a.0 a.1 ≡ false
 other_way a b e =
-    is_unit_at-other a b (λ same. true≢false (sym (ap (λ (x : ℕ × ℕ). is_unit_at a x.0 x.1) same ∙ is_unit_at-self a) ∙ e))
+    is_unit_at-other a b
+    (λ same. true≢false (sym (ap (λ (x : ℕ × ℕ). is_unit_at a x.0 x.1) same ∙ is_unit_at-self a) ∙ e))
 
 distinct-push : (a : ℕ × ℕ) (addresses : List (ℕ × ℕ)) → AreDistinct addresses → is_among a addresses ≡ false
     → AreDistinct (addresses ++ a ∷ [])
@@ -165,7 +166,8 @@ one_noted records addresses r are = record {
   named = λ a h.
       noted-among a addresses (address_named r) ∙ named_by a (own_of a records) refl (λ e. h (own_more a ∙ e));
   only = λ a e f.
-      only_by a (is_among a addresses) refl (sym (noted-among a addresses (address_named r)) ∙ e) (sym (own_more a) ∙ f);
+      only_by a (is_among a addresses) refl (sym (noted-among a addresses (address_named r)) ∙ e)
+      (sym (own_more a) ∙ f);
 }
   where
     own_more : (a : ℕ × ℕ) → own_of a (records ++ r ∷ []) ≡ own_of a records ++ own_in a r

@@ -49,7 +49,8 @@ zero_piece : (bytes : List ℕ) (lba count rest : ℕ) → length (bytes_of_sect
 zero_piece bytes lba count rest len zeros =
     let piece : List ℕ = bytes_of_sectors lba count bytes in
     let cut_is : cut 512 count piece ≡ zero_sectors count =
-    ap (λ (l : List ℕ). cut 512 count l) (zeros-are piece zeros ∙ ap (λ (n : ℕ). replicate n 0) len) ∙ cut-zeros count in
+    ap (λ (l : List ℕ). cut 512 count l) (zeros-are piece zeros ∙ ap (λ (n : ℕ). replicate n 0) len)
+    ∙ cut-zeros count in
     ap (λ (l : List Sector). cut 512 lba bytes ++ l) (sym (replicate-append-replicate count rest zero_sector))
     ∙ sym (append_assoc (cut 512 lba bytes) (zero_sectors count) (zero_sectors rest))
     ∙ ap (λ (l : List Sector). (cut 512 lba bytes ++ l) ++ zero_sectors rest) (sym cut_is)
@@ -64,7 +65,8 @@ written_piece bytes lba count rest =
     let before : List Sector = so_far bytes lba (count + rest) in
     let behind : drop (lba + count) before ≡ zero_sectors rest =
     sym (drop-drop count lba before)
-    ∙ ap (λ (l : List Sector). drop count l) (drop_at (cut 512 lba bytes) (zero_sectors (count + rest)) lba (length-cut 512 lba bytes))
+    ∙ ap (λ (l : List Sector). drop count l)
+    (drop_at (cut 512 lba bytes) (zero_sectors (count + rest)) lba (length-cut 512 lba bytes))
     ∙ drop-replicate count (count + rest) zero_sector
     ∙ ap (λ (n : ℕ). zero_sectors n) (omega arith) in
     ap (λ (l : List Sector). (l ++ piece) ++ drop (lba + count) before)
@@ -202,7 +204,8 @@ all_steps P unit to is some last =
     ∙ ap (λ (n : ℕ). Present (so_far unit.bytes unit.base n) false) none
     ∙ ap (λ (l : List Sector). Present l false) (append-nil (cut 512 unit.base unit.bytes)) in
     let made = makes_one P unit.addr Absent (before_piece unit 0) (Make unit.addr.0 unit.addr.1 unit.base)
-    (UnitMake unit.base) (λ b. refl) refl (is.known, omega (arith, is.within, is.fits)) (λ p. (refl, some p)) (sym first) in
+    (UnitMake unit.base) (λ b. refl) refl (is.known, omega (arith, is.within, is.fits)) (λ p. (refl, some p))
+    (sym first) in
     subst (λ (n : ℕ). Makes P unit.addr Absent (steps_from unit n 0) to) (sym count)
     (makes_append P unit.addr Absent (before_piece unit 0) to
     (Make unit.addr.0 unit.addr.1 unit.base ∷ []) (steps_from unit (suc pieces) (0 + 1))

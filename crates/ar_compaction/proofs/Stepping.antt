@@ -6,7 +6,8 @@ use Rattle.ar_unit.specs.Sectors.{cut}
 use Rattle.ar_unit.specs.Unit.{Absent, Present}
 use Rattle.ar_record.specs.Record.{RecordData, HasUnitNumbers}
 use Rattle.ar_compaction.specs.Bytes.{bytes_of_sectors}
-use Rattle.ar_compaction.specs.Checkpoint.{UnitParts, base_of, piece_len, pieces_of, step_record, steps_from, piece_write}
+use Rattle.ar_compaction.specs.Checkpoint.{UnitParts, base_of, piece_len, pieces_of, step_record, steps_from}
+use Rattle.ar_compaction.specs.Checkpoint.{piece_write}
 use Rattle.ar_compaction.specs.Checkpoint.{IsCheckpoint}
 use Rattle.ar_compaction.proofs.Checkpoints.{absent_checkpoint, present_checkpoint}
 

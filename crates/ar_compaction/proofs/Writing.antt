@@ -53,7 +53,8 @@ pub writes_change : (sectors : List Sector) (lba count : ℕ) (bytes : List ℕ)
     → lba + count ≤ length sectors → length bytes ≡ count * 512
     → changes_unit (write_block lba count) (answer (Present sectors false) (write_block lba count) bytes).reply ≡ true
 writes_change sectors lba count bytes fits few within len =
-    ap (λ (a : Answered). changes_unit (write_block lba count) a.reply) (writes sectors lba count bytes fits few within len)
+    ap (λ (a : Answered). changes_unit (write_block lba count) a.reply)
+    (writes sectors lba count bytes fits few within len)
     ∙ good_write lba count fits few
   where
     good_write : (lba count : ℕ) → lba < 2 ^ 32 → count < 2 ^ 16 → changes_unit (write_block lba count) (good []) ≡ true

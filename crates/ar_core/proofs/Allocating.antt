@@ -31,7 +31,8 @@ one_more array addr written rb most i again true true full there low = last (eqb
     last (inl at) = subst (λ (n : ℕ). IsAsFirst array addr written rb n) (sym at.1) there
     last (inr before) =
         again i
-        (subst (λ (n : ℕ). i < n) (sym (eqb-true (alike array addr written rb most) most full)) (omega (arith, before.1)))
+        (subst (λ (n : ℕ). i < n) (sym (eqb-true (alike array addr written rb most) most full))
+        (omega (arith, before.1)))
 one_more array addr written rb most i again true false full there low = again i low
 one_more array addr written rb most i again false is full there low = again i low
 

@@ -139,11 +139,13 @@ failure_reported false old cdb bytes reply new sound is =
     (sym ((sound refl).given.answered (check_not_busy reply internal_target_failure is)) ∙ is))
 
 -- no attention was reported
-reported_same : (s : ArrayState) (addr : Addr) (cdb : List ℕ) → tells s addr cdb ≡ false → once_reported_to s addr cdb ≡ s
+reported_same : (s : ArrayState) (addr : Addr) (cdb : List ℕ) → tells s addr cdb ≡ false
+    → once_reported_to s addr cdb ≡ s
 reported_same s addr cdb quiet = ap (λ b. with_book s (cond b (unmarked s.store.book addr) s.store.book)) quiet
 
 -- where nothing has changed but the mark, nothing has moved
-moves_reported : (old : ArrayState) (addr : Addr) (cdb : List ℕ) (new : ArrayState) → new ≡ once_reported_to old addr cdb
+moves_reported : (old : ArrayState) (addr : Addr) (cdb : List ℕ) (new : ArrayState)
+    → new ≡ once_reported_to old addr cdb
     → MovesNothing old addr cdb new
 moves_reported old addr cdb new only =
     subst (MovesNothing old addr cdb) (sym only)
@@ -326,7 +328,8 @@ commands_reported old new addr n cdb bytes reply unit tells is cleared seen =
         lost = λ _. only;
         reads = λ _. quiet;
         busy = λ _. quiet;
-        begun = λ lba count _. subst (ReadsFirst ReadsBlock (geometry_of old) addr lba count (once_reported_to old addr cdb))
+        begun = λ lba count _. subst
+            (ReadsFirst ReadsBlock (geometry_of old) addr lba count (once_reported_to old addr cdb))
             (sym only) (first_none (once_reported_to old addr cdb) addr lba count);
         got = λ lba count _ good. (let status = sym (ap (λ (r : Reply). r.status) is) ∙ good in absurd (cc));
         busy_read = λ lba count _ _. inl only;

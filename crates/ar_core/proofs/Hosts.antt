@@ -27,7 +27,8 @@ use Rattle.ar_volume.specs.Sectors.{Address}
 use Rattle.ar_core.proofs.Isolation.{unit_run-shape}
 
 -- what a unit is that began so and met these
-pub same_reply : (one other : RunOf) (k j : ℕ) (host : Host) (lun : ℕ) (cdb payload : List ℕ) (reply reported_to : Reply)
+pub same_reply : (one other : RunOf) (k j : ℕ) (host : Host) (lun : ℕ) (cdb payload : List ℕ)
+    (reply reported_to : Reply)
     → IsIsolated one.first one.turns one.states → IsIsolated other.first other.turns other.states
     → IsAlikeAt (host.number, lun) one k other j
     → IsAnsweredSoundly one k host lun cdb payload reply → IsAnsweredSoundly other j host lun cdb payload reported_to

@@ -185,7 +185,9 @@ pub unmaps_reported : (old new : ArrayState) (addr : Addr) (n lba count : ℕ) (
     → ExecutesUnmap old addr lba count reply new
 unfolding answer
 unmaps_reported old new addr n lba count reply unit tells is cleared seen =
-    let reported_to = commands_reported old new addr n [] [] reply unit (ap (λ (b : Bool). b && not (operation_code [] == 0x12)) tells) is cleared seen in
+    let reported_to =
+    commands_reported old new addr n [] [] reply unit
+    (ap (λ (b : Bool). b && not (operation_code [] == 0x12)) tells) is cleared seen in
     let sectors : List (List ℕ) = unit_sectors old addr in
     let before : image_at old addr ≡ Present sectors true =
     image_present old addr unit.there ∙ ap (λ m. Present sectors m) tells in

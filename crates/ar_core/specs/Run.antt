@@ -85,9 +85,9 @@ IsUnmapped turns k addr lba count reply =
     slice_get turns k ≡ Some (Did (UnmapEvent addr lba count) (UnmapOutcome reply))
 
 -- Every reply other than BUSY is that of the unit's own list of sectors: the list that the unit's own create, resize,
--- delete, I/O commands and discards before it have made, whatever all other steps did. If the array has failed after the
--- command, the reply is that of a failed array in its place. After each step every unit is that list; on a failed array only its
--- presence, length and pending UNIT ATTENTION are.
+-- delete, I/O commands and discards before it have made, whatever all other steps did. If the array has failed after
+-- the command, the reply is that of a failed array in its place. After each step every unit is that list; on a failed
+-- array only its presence, length and pending UNIT ATTENTION are.
 pub record IsIsolated (old : ArrayState) (turns : List Turn) (states : List ArrayState) : Type 0 where
   pub sound :
       (k : ℕ) (host : Host) (lun : ℕ) (cdb payload : List ℕ) (reply : Reply) (new : ArrayState)

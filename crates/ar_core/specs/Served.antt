@@ -75,8 +75,8 @@ pub record SettlesUnmap (old : ArrayState) (addr : Addr) (lba count : ℕ) (repl
   pub discarded : reply.status ≡ Good → DiscardsBlocks addr lba count old new
   pub stopped : is_broken old ≡ false → IsTrue (is_broken new) → StopsBlocks addr lba count old new
 
--- What a discard does to the array: `Unmaps` holds of its unit, until data loss no other unit changes, and the presence,
--- length and pending UNIT ATTENTION of every unit are what it makes of them.
+-- What a discard does to the array: `Unmaps` holds of its unit, until data loss no other unit changes, and the
+-- presence, length and pending UNIT ATTENTION of every unit are what it makes of them.
 pub record ExecutesUnmap (old : ArrayState) (addr : Addr) (lba count : ℕ) (reply : Reply) (new : ArrayState)
     : Type 0 where
   pub unmaps : Unmaps old addr lba count reply new

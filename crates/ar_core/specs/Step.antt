@@ -147,7 +147,8 @@ pub record Obeys (old : ArrayState) (addr : Addr) (cdb bytes : List ℕ) (reply 
   -- a command without a sector to transfer, a refused one, and one to a failed array access no disk and change nothing
   -- but the UNIT ATTENTION
   pub still : moves_sectors (reading cdb) ≡ false → new ≡ once_reported_to old addr cdb
-  pub refused : reply.status ≡ CheckCondition → reply ≢ check internal_target_failure → new ≡ once_reported_to old addr cdb
+  pub refused : reply.status ≡ CheckCondition → reply ≢ check internal_target_failure
+      → new ≡ once_reported_to old addr cdb
   pub lost : IsTrue (is_broken old) → new ≡ once_reported_to old addr cdb
   -- only a WRITE places or caches a block, and no command with BUSY does
   pub reads : is_write (reading cdb) ≡ false → MovesNothing old addr cdb new

@@ -1,5 +1,6 @@
-//! The disk array: each unit is to its host a plain list of sectors that only the unit's own create, resize, delete, I/O
-//! commands and discards change, whatever happens to other units and to any one disk. `Array::run` has this as its contract.
+//! The disk array: each unit is to its host a plain list of sectors that only the unit's own create, resize, delete,
+//! I/O commands and discards change, whatever happens to other units and to any one disk. `Array::run` has this as its
+//! contract.
 #![tactic(auto)]
 
 mod allocation;

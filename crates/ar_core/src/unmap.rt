@@ -1,5 +1,5 @@
-// Discards of sectors (UNMAP). The checks come in the order of a WRITE's: presence, UNIT ATTENTION, range, health; a disk
-// is accessed only after all of them.
+// Discards of sectors (UNMAP). The checks come in the order of a WRITE's: presence, UNIT ATTENTION, range, health; a
+// disk is accessed only after all of them.
 ghost use Rattle.std.specs.Prelude.{◌≡◌, ◌+◌, ◌*◌, ◌≤◌, false, nat_lt, if◌then◌else◌};
 ghost use Rattle.ar_disks.specs.Block.{zeros};
 ghost use Rattle.ar_scsi.specs.Reply.{check};
@@ -61,7 +61,8 @@ impl<D: Disk> Array<D> {
         requires sound { is_broken self.old ≡ false }
 
         ensures answer { result ≡ stored (is_broken self.new) }
-        ensures zeroed { result ≡ Completion.Done → WritesSectors self.old addr lba count (zeros (count * 512)) self.new }
+        ensures zeroed { result ≡ Completion.Done
+            → WritesSectors self.old addr lba count (zeros (count * 512)) self.new }
         ensures discards { result ≡ Completion.Done → DiscardsBlocks addr lba count self.old self.new }
         ensures stopped { result ≡ Completion.Broken → StopsBlocks addr lba count self.old self.new }
         ensures follows { ArrayFollows self.old self.new }

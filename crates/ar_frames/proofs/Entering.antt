@@ -105,7 +105,8 @@ reported_as logins commands source source' sink sink' port port' login admission
       read = read;
       written = tells.1;
     }
-reported_as logins commands source source' sink sink' port port' login admission (LoginEnded reason.BadLogin) read opening
+reported_as logins commands source source' sink sink' port port' login admission
+    (LoginEnded reason.BadLogin) read opening
     named tells = record {
       stage = refused;
       login = login;
@@ -122,7 +123,8 @@ reported_as logins commands source source' sink sink' port port' login admission
       ended = tt;
       written = tells.1;
     }
-reported_as logins commands source source' sink sink' port port' login admission (LoginEnded reason.HostInUse) read opening
+reported_as logins commands source source' sink sink' port port' login admission
+    (LoginEnded reason.HostInUse) read opening
     named tells = record {
       stage = in_use;
       login = login;
@@ -139,7 +141,8 @@ reported_as logins commands source source' sink sink' port port' login admission
       ended = tt;
       written = tells.1;
     }
-reported_as logins commands source source' sink sink' port port' login admission (LoginEnded reason.Write) read opening named
+reported_as logins commands source source' sink sink' port port' login admission
+    (LoginEnded reason.Write) read opening named
     tells = record {
       stage = stage_of admission;
       login = login;
@@ -158,17 +161,23 @@ reported_as logins commands source source' sink sink' port port' login admission
           let whole : length (greeting ++ []) ≤ 0 + length greeting = omega (arith, ap length (append-nil greeting)) in
           record { part = record { n = 0; proper = omega arith; written = tells }; whole = whole };
     }
-reported_as logins commands source source' sink sink' port port' login admission (LoginEnded reason.End) read opening named
+reported_as logins commands source source' sink sink' port port' login admission
+    (LoginEnded reason.End) read opening named
     tells = absurd tells
-reported_as logins commands source source' sink sink' port port' login admission (LoginEnded (reason.TooShort n)) read opening
+reported_as logins commands source source' sink sink' port port' login admission
+    (LoginEnded (reason.TooShort n)) read opening
     named tells = absurd tells
-reported_as logins commands source source' sink sink' port port' login admission (LoginEnded (reason.TooLong n)) read opening
+reported_as logins commands source source' sink sink' port port' login admission
+    (LoginEnded (reason.TooLong n)) read opening
     named tells = absurd tells
-reported_as logins commands source source' sink sink' port port' login admission (LoginEnded reason.Cut) read opening named
+reported_as logins commands source source' sink sink' port port' login admission
+    (LoginEnded reason.Cut) read opening named
     tells = absurd tells
-reported_as logins commands source source' sink sink' port port' login admission (LoginEnded reason.Read) read opening named
+reported_as logins commands source source' sink sink' port port' login admission
+    (LoginEnded reason.Read) read opening named
     tells = absurd tells
-reported_as logins commands source source' sink sink' port port' login admission (LoginEnded reason.Bound) read opening named
+reported_as logins commands source source' sink sink' port port' login admission
+    (LoginEnded reason.Bound) read opening named
     tells = absurd tells
 
 -- what the port said of a login of the right name

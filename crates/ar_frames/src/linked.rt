@@ -34,8 +34,8 @@ impl PairWrite for &TcpStream {
 }
 
 /// A source over a std reader, or a sink over a std writer. A fault is an error other than an interruption, the 1,001st
-/// interruption in a row, or a write that takes no byte of a piece that isn't empty, and each read once the session is to
-/// end. Read faults and write faults are counted apart.
+/// interruption in a row, or a write that takes no byte of a piece that isn't empty, and each read once the session is
+/// to end. Read faults and write faults are counted apart.
 #[derive(Drop)]
 pub struct Linked<S> {
     stream: S,

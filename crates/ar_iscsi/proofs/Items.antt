@@ -36,13 +36,16 @@ split_last byte text end at whole =
 -- the answers to what came and to what is left, one item further
 pub answer_more : (burst : ℕ) (out out' all text rest : List ℕ) (end : ℕ) → rest ≡ drop (end + 1) text
     → end ≡ position_or_len (λ b. b == 0) text → end < length text
-    → out' ≡ out ++ item_answer burst (take end text) → out ++ text_answer burst text ≡ all → out' ++ text_answer burst rest ≡ all
+    → out' ≡ out ++ item_answer burst (take end text) → out ++ text_answer burst text ≡ all → out'
+    ++ text_answer burst rest ≡ all
 answer_more burst out out' all text rest end is at within e h =
-    ap (λ (l : List ℕ). out' ++ text_answer burst l) is ∙ ap (λ (l : List ℕ). l ++ text_answer burst (drop (end + 1) text)) e
+    ap (λ (l : List ℕ). out' ++ text_answer burst l) is
+    ∙ ap (λ (l : List ℕ). l ++ text_answer burst (drop (end + 1) text)) e
     ∙ append_assoc out (item_answer burst (take end text)) (text_answer burst (drop (end + 1) text))
     ∙ ap (λ (l : List ℕ). out ++ l) (sym (ap (items_answer burst) (split_first 0 text end at within))) ∙ h
 
-pub answer_last : (burst : ℕ) (out out' all text : List ℕ) (end : ℕ) → end ≡ position_or_len (λ b. b == 0) text → length text ≤ end
+pub answer_last : (burst : ℕ) (out out' all text : List ℕ) (end : ℕ) → end ≡ position_or_len (λ b. b == 0) text
+    → length text ≤ end
     → out' ≡ out ++ item_answer burst text → out ++ text_answer burst text ≡ all → out' ≡ all
 answer_last burst out out' all text end at whole e h =
     e ∙ ap (λ (l : List ℕ). out ++ l) (sym (append-nil (item_answer burst text))
@@ -75,7 +78,8 @@ named_last old new all text end at whole e h =
     e ∙ sym (ap (name_after_items old) (split_last 0 text end at whole)) ∙ h
 
 -- the same for the targets that are asked for
-pub targets_more : (address : List ℕ) (host : Option ℕ) (out out' all text rest : List ℕ) (end : ℕ) → rest ≡ drop (end + 1) text
+pub targets_more : (address : List ℕ) (host : Option ℕ) (out out' all text rest : List ℕ) (end : ℕ)
+    → rest ≡ drop (end + 1) text
     → end ≡ position_or_len (λ b. b == 0) text → end < length text
     → out' ≡ out ++ asked_answer address host (take end text) → out ++ targets_answer address host text ≡ all
     → out' ++ targets_answer address host rest ≡ all
@@ -85,7 +89,8 @@ targets_more address host out out' all text rest end is at within e h =
     ∙ append_assoc out (asked_answer address host (take end text)) (targets_answer address host (drop (end + 1) text))
     ∙ ap (λ (l : List ℕ). out ++ l) (sym (ap (asked_answers address host) (split_first 0 text end at within))) ∙ h
 
-pub targets_last : (address : List ℕ) (host : Option ℕ) (out out' all text : List ℕ) (end : ℕ) → end ≡ position_or_len (λ b. b == 0) text
+pub targets_last : (address : List ℕ) (host : Option ℕ) (out out' all text : List ℕ) (end : ℕ)
+    → end ≡ position_or_len (λ b. b == 0) text
     → length text ≤ end
     → out' ≡ out ++ asked_answer address host text → out ++ targets_answer address host text ≡ all → out' ≡ all
 targets_last address host out out' all text end at whole e h =
@@ -93,7 +98,8 @@ targets_last address host out out' all text end at whole e h =
     ∙ sym (ap (asked_answers address host) (split_last 0 text end at whole))) ∙ h
 
 -- the members of a list of methods: the first and those of the rest
-pub member_more : (member text rest : List ℕ) (end : ℕ) → rest ≡ drop (end + 1) text → end ≡ position_or_len (λ b. b == 44) text
+pub member_more : (member text rest : List ℕ) (end : ℕ) → rest ≡ drop (end + 1) text
+    → end ≡ position_or_len (λ b. b == 44) text
     → end < length text
     → has_member member text ≡ (bytes_eq (take end text) member || has_member member rest)
 member_more member text rest end is at within =
@@ -104,7 +110,8 @@ member_more member text rest end is at within =
 pub member_found : (member text : List ℕ) (end : ℕ) → end ≡ position_or_len (λ b. b == 44) text → end < length text
     → bytes_eq (take end text) member ≡ true → has_member member text ≡ true
 member_found member text end at within e =
-    member_more member text (drop (end + 1) text) end refl at within ∙ ap (λ (b : Bool). b || has_member member (drop (end + 1) text)) e
+    member_more member text (drop (end + 1) text) end refl at within
+    ∙ ap (λ (b : Bool). b || has_member member (drop (end + 1) text)) e
 
 -- the first is another
 pub member_passed : (member text rest : List ℕ) (end : ℕ) → rest ≡ drop (end + 1) text

@@ -1,6 +1,7 @@
 -- What the items of a login's text say of the session (RFC 7143, 6 and 13).
 use Rattle.std.specs.Prelude.{ℕ, ◌-◌, ◌==◌, nat_le, min, Bool, true, false, not, ◌&&◌, ◌||◌, if◌then◌else◌, List, []}
-use Rattle.std.specs.Prelude.{◌∷◌, length, take, slice_get, slice_index, slice_set, replicate, unwrap_or, codes, bytes_eq}
+use Rattle.std.specs.Prelude.{◌∷◌, length, take, slice_get, slice_index, slice_set, replicate, unwrap_or, codes}
+use Rattle.std.specs.Prelude.{bytes_eq}
 use Rattle.std.specs.Prelude.{Option, Some, None}
 use Rattle.std.specs.Char.{is_ascii_digit}
 use Rattle.std.specs.List.{slice_split}
@@ -117,7 +118,10 @@ limits_after old key.MaxBurstLength offer =
 limits_after old key.FirstBurstLength offer =
     record old { first_burst = limit_after old.first_burst (key_answer key.FirstBurstLength old.max_burst offer) }
 limits_after old key.ImmediateData offer =
-    record old { immediate_data = immediate_after old.immediate_data (key_answer key.ImmediateData old.max_burst offer) }
+    record old {
+      immediate_data =
+          immediate_after old.immediate_data (key_answer key.ImmediateData old.max_burst offer);
+    }
 limits_after old other offer = old
 
 -- what is negotiated after an item of this key

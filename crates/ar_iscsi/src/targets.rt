@@ -7,9 +7,9 @@ use crate::negotiation::{TargetChoice, target_of};
 use crate::text::{behind, item_name, item_value, place_of, put_item};
 use std::alloc::AllocError;
 
-/// Appends the answer to the text of a text request: the targets that each `SendTargets` asks for, in a session with the
-/// target of `host`, or for discovery. `address` is the target's address and port, as `127.0.0.1:3260`. Other keys are
-/// rejected here.
+/// Appends the answer to the text of a text request: the targets that each `SendTargets` asks for, in a session with
+/// the target of `host`, or for discovery. `address` is the target's address and port, as `127.0.0.1:3260`. Other keys
+/// are rejected here.
 pub fn answer_targets(
     out: &mut Vec<u8>,
     address: &[u8],

@@ -7,8 +7,8 @@ use crate::keys::{KeyAnswer, key_answer, key_named};
 use itoa::Buffer;
 use std::alloc::AllocError;
 
-/// Appends the answer to each item of a text to `out`, in order; `burst` is the MaxBurstLength that was agreed on. `Err`
-/// if the allocation fails; `out` then ends in an unspecified part of the answer.
+/// Appends the answer to each item of a text to `out`, in order; `burst` is the MaxBurstLength that was agreed on.
+/// `Err` if the allocation fails; `out` then ends in an unspecified part of the answer.
 pub fn answer_text(out: &mut Vec<u8>, burst: u32, asked: &[u8]) -> Result<(), AllocError>
     ensures { OnOk result (out.new.items ≡ out.old.items ++ text.text_answer burst asked.now) }
 {

@@ -149,7 +149,8 @@ copy_spared from row a b reported broken =
     ap (λ (disk : DiskState). disk.faults) ((reported.unasked broken).disks (rebuilt_disk a.health) refl)
 
 -- the same of a member that is rebuilt next, which its partner isn't on
-pub row_reported : (m : Members) (position row : ℕ) (a c : SetState) → IsGroup a m → position < 4 → IsRebuilding a.health
+pub row_reported : (m : Members) (position row : ℕ) (a c : SetState) → IsGroup a m → position < 4
+    → IsRebuilding a.health
     → member m position ≡ next_place a
     → CarriesOut (copy_row (member m (partner_of position)) (next_place a) row) a c
     → CopyReported (member m (partner_of position)) row a c

@@ -94,7 +94,8 @@ more_by these q row next a b d is before (inl same) = record { between = b; read
 more_by these q row next a b d is before (inr on) = read_next these q row next a b d is before on.health on.carried
 
 -- these two extents are read, and then the plan goes on, or nothing is done any more
-pub two_reported : (these : Place → Type 0) (p q : Place) (row : ℕ) (next : AccessPlan) (a d : SetState) → these p → these q
+pub two_reported : (these : Place → Type 0) (p q : Place) (row : ℕ) (next : AccessPlan) (a d : SetState) → these p
+    → these q
     → CarriesOut (Try (read_at p row) (Try (read_at q row) next Stop) Stop) a d → ReadsThen these next a d
 two_reported these p q row next a d is_p is_q carried =
     let first = read_next these p row (Try (read_at q row) next Stop) a a d is_p (reads_none these a a refl) refl
@@ -329,7 +330,8 @@ lost_by m i j row a b c lt reads (inr on) =
 lost_reported : (m : Members) (i j row : ℕ) (a c : SetState) → j < 4 → CarriesOut (write_lost m i j row) a c
     → Lost m i j row a c
 lost_reported m i j row a c lt carried =
-    let two = two_reported (IsMember m) (member m (low_other i j)) (member m (high_other i j)) row (write_member m j row) a
+    let two =
+    two_reported (IsMember m) (member m (low_other i j)) (member m (high_other i j)) row (write_member m j row) a
     c
     (member_is m (low_other i j)) (member_is m (high_other i j)) carried in
     lost_by m i j row a two.between c lt two.reads two.rest
@@ -379,7 +381,8 @@ stripe_by m i j row false a c hi hj carried =
     let first = went (read_at (member m i) row) (write_known m i j row) (write_lost m i j row) a c carried in
     reading_by m i j row first.done a first.between c hi hj first.tried first.rest
 
-pub stripe_reported : (m : Members) (i j row : ℕ) (a c : SetState) → i < 4 → j < 4 → CarriesOut (stripe_write m i j row) a c
+pub stripe_reported : (m : Members) (i j row : ℕ) (a c : SetState) → i < 4 → j < 4
+    → CarriesOut (stripe_write m i j row) a c
     → StripeReported m i j row a c
 stripe_reported m i j row a c hi hj carried =
     stripe_by m i j row (is_missing a.health (member m j).disk (member m j).extent) a c hi hj
@@ -392,7 +395,8 @@ data_below slot = grind (arith, nat_tests)
 pub slot_reported : (m : Members) (slot : ℕ) (a c : SetState) → CarriesOut (parity_write m slot) a c
     → StripeReported m (data_position slot) (parity_position (row_of slot)) (row_of slot) a c
 slot_reported m slot a c carried =
-    stripe_reported m (data_position slot) (parity_position (row_of slot)) (row_of slot) a c (data_below slot) (omega arith)
+    stripe_reported m (data_position slot) (parity_position (row_of slot)) (row_of slot) a c (data_below slot)
+    (omega arith)
     carried
 
 -- only its row may have changed,
@@ -408,7 +412,8 @@ stripe_keeps m i j row a b hi hj reported = record {
 }
 
 -- and of it only the own member and the parity
-pub stripe_others : (m : Members) (i j row : ℕ) (a b : SetState) → AreApart m → i < 4 → j < 4 → StripeReported m i j row a b
+pub stripe_others : (m : Members) (i j row : ℕ) (a b : SetState) → AreApart m → i < 4 → j < 4
+    → StripeReported m i j row a b
     → (k : ℕ) → k < 4 → k ≢ i → k ≢ j → content b (member m k) row ≡ content a (member m k) row
 stripe_others m i j row a b apart hi hj reported k hk ni nj =
     reported.left.rows (member m k) row

@@ -24,7 +24,8 @@ use Rattle.ar_rebuild.specs.Plans.{IsMemberNext, HasNothingNext, after_answer, C
 use Rattle.ar_rebuild.specs.Rows.{IsBesideNext, HasNotFaulted, StopsWriting}
 use Rattle.ar_rebuild.specs.Rebuild.{NothingToRebuild, RebuildsExtent}
 use Rattle.ar_rebuild.proofs.StepLemmas.{was_rebuilding}
-use Rattle.ar_rebuild.proofs.Reported.{NeedsNext, PlanEffect, plan_effect, StopReported, stop_reported, given_up_changes}
+use Rattle.ar_rebuild.proofs.Reported.{NeedsNext, PlanEffect, plan_effect, StopReported, stop_reported}
+use Rattle.ar_rebuild.proofs.Reported.{given_up_changes}
 use Rattle.ar_rebuild.proofs.Reported.{broken_changes}
 
 -- `Idle` is returned exactly where nothing is to be rebuilt,
@@ -40,14 +41,16 @@ answer_idle Broken a b reported = ((λ e. absurd (cc)), (λ quiet. absurd (repor
 pub answer_broken : (r : Rebuild) (a b : SetState) → RebuildsExtent a b r → (r ≡ Broken) ↔ (b.health ≡ AllBroken)
 answer_broken (Rebuilt extent left) a b reported =
     ((λ e. absurd (cc)), (λ broken. absurd (let k = sym reported.health ∙ broken in cc)))
-answer_broken Finished a b reported = ((λ e. absurd (cc)), (λ broken. absurd (let k = sym reported.health ∙ broken in cc)))
+answer_broken Finished a b reported =
+    ((λ e. absurd (cc)), (λ broken. absurd (let k = sym reported.health ∙ broken in cc)))
 answer_broken Idle a b reported = (
   (λ e. absurd (cc)),
   (λ broken. absurd
       (subst (λ (h : Health). NothingToRebuild h)
       (sym (ap (λ (s : SetState). s.health) reported.same) ∙ broken) reported.quiet)),
 )
-answer_broken GivenUp a b reported = ((λ e. absurd (cc)), (λ broken. absurd (let k = sym reported.given_up.out ∙ broken in cc)))
+answer_broken GivenUp a b reported =
+    ((λ e. absurd (cc)), (λ broken. absurd (let k = sym reported.given_up.out ∙ broken in cc)))
 answer_broken Broken a b reported = ((λ e. reported.failed.broken), (λ broken. refl))
 
 -- and then the replaced disk hasn't faulted.

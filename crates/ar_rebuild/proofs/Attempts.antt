@@ -117,7 +117,8 @@ failed_by ts false a b changed made = made
 
 pub one_stopped : (ts : List Attempt) (a b : SetState) → (b.health ≡ a.health → ⊥) → CarriesOut (all_of ts Stop) a b
     → AttemptsAll ts false a b
-one_stopped ts a b changed carried = let reported = turned ts a b carried in failed_by ts reported.done a b changed reported.made
+one_stopped ts a b changed carried =
+    let reported = turned ts a b carried in failed_by ts reported.done a b changed reported.made
 
 -- the attempts for some rows stopped at one of them
 pub record StopsAt (class : Class) (m : Members) (i n : ℕ) (a c : SetState) : Type 0 where

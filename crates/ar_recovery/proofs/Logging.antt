@@ -1,5 +1,6 @@
 -- The records of a legal history make each unit what the history makes it.
-use Rattle.std.proofs.Common.{◌≡◌, ℕ, Bool, true, false, cond, List, [], ◌∷◌, ◌++◌, refl, sym, ap, subst, ◌∙◌, append_assoc, append-nil, length, Some}
+use Rattle.std.proofs.Common.{◌≡◌, ℕ, Bool, true, false, cond, List, [], ◌∷◌, ◌++◌, refl, sym, ap, subst, ◌∙◌}
+use Rattle.std.proofs.Common.{append_assoc, append-nil, length, Some}
 use Rattle.std.specs.Prelude.{◌==◌, ◌&&◌, slice_get}
 use Rattle.std.proofs.lemmas.List.{take_at}
 use Rattle.std.proofs.lemmas.Bool.{eqb-true}
@@ -29,7 +30,8 @@ same_is (x, y) (u, v) e =
     ap (λ n. (n, y)) (eqb-true x u p.0) ∙ ap (λ n. (u, n)) (eqb-true y v p.1)
 
 -- the records of a history that is put together
-pub records_of-append : (history more : List Entry) → records_of (history ++ more) ≡ records_of history ++ records_of more
+pub records_of-append : (history more : List Entry) → records_of (history ++ more) ≡ records_of history
+    ++ records_of more
 records_of-append [] more = refl
 records_of-append (entry ∷ history) more =
     ap (λ (l : List RecordData). record_of entry ++ l) (records_of-append history more)
@@ -45,7 +47,8 @@ unrecorded false unit cdb payload same = refl
 -- what a command's record is to the unit at an address, by whether it is recorded
 command_own : (recorded : Bool) (a : Address) (unit : UnitState) (host : Host) (exchange : Exchange)
     → changes_unit exchange.cdb exchange.reply ≡ recorded
-    → (same_address (host.number, exchange.lun) a ≡ true → exchange.reply ≡ (answer unit exchange.cdb exchange.payload).reply)
+    → (same_address (host.number, exchange.lun) a ≡ true
+    → exchange.reply ≡ (answer unit exchange.cdb exchange.payload).reply)
     → unit_run unit (own_of a (cond recorded (Command host.number exchange.lun exchange.cdb exchange.payload ∷ []) []))
     ≡ unit_run unit (one_at a (entries.Cmd host exchange))
 command_own true a unit host exchange is fits =
@@ -101,9 +104,11 @@ later_own : (a : Address) (before after : List Entry) → IsLegal (before ++ aft
 later_own a before [] legal = refl
 later_own a before (entry ∷ after) legal =
     let fits : Fits (replay before (address_in entry)) entry = head_fits before entry after legal in
-    let regrouped : before ++ entry ∷ after ≡ (before ++ entry ∷ []) ++ after = sym (append_assoc before (entry ∷ []) after) in
+    let regrouped : before ++ entry ∷ after ≡ (before ++ entry ∷ []) ++ after =
+    sym (append_assoc before (entry ∷ []) after) in
     let rest = later_own a (before ++ entry ∷ []) after (subst (λ (l : List Entry). IsLegal l) regrouped legal) in
-    let next : replay (before ++ entry ∷ []) a ≡ unit_run (replay before a) (one_at a entry) = replay_more before entry a in
+    let next : replay (before ++ entry ∷ []) a ≡ unit_run (replay before a) (one_at a entry) =
+    replay_more before entry a in
     ap (λ (l : List UnitEntry). unit_run (replay before a) l) (own_of-append a (record_of entry) (records_of after))
     ∙ unit_run-append (replay before a) (own_of a (record_of entry)) (own_of a (records_of after))
     ∙ ap (λ (u : UnitState). unit_run u (own_of a (records_of after))) (record_own a before entry fits ∙ sym next)

@@ -1,5 +1,6 @@
 -- Records that are executed again make the units that they made.
-use Rattle.std.proofs.Common.{◌≡◌, ℕ, true, false, cond, List, [], ◌∷◌, ◌++◌, refl, sym, ap, subst, ◌∙◌, append_assoc, append-nil}
+use Rattle.std.proofs.Common.{◌≡◌, ℕ, true, false, cond, List, [], ◌∷◌, ◌++◌, refl, sym, ap, subst, ◌∙◌, append_assoc}
+use Rattle.std.proofs.Common.{append-nil}
 use Rattle.ar_disks.specs.declared.address.Addr.{Addr}
 use Rattle.ar_unit.specs.Unit.{UnitState, UnitEntry}
 use Rattle.ar_volume.specs.Image.{is_broken, image}
@@ -78,7 +79,8 @@ redoes_more old between new records r before one = record {
       one.own a
       ∙ ap (λ (l : List UnitEntry). l ++ own_in a r) (before.own a)
       ∙ append_assoc (own_of a (records_of old)) (own_of a records) (own_in a r)
-      ∙ ap (λ (l : List UnitEntry). own_of a (records_of old) ++ (own_of a records ++ l)) (sym (append-nil (own_in a r)))
+      ∙ ap (λ (l : List UnitEntry). own_of a (records_of old) ++ (own_of a records ++ l))
+      (sym (append-nil (own_in a r)))
       ∙ ap (λ (l : List UnitEntry). own_of a (records_of old) ++ l) (sym (own_of-append a records (r ∷ [])));
 }
 
@@ -91,6 +93,7 @@ recovered_is records k redone kept =
       log = log;
       units = λ now a. kept.images now a ∙ sym (log_suffices records k.history log kept.legal a);
       lengths = λ a.
-          subst (λ (u : UnitState). SameLength (image k.array a) u) (sym (log_suffices records k.history log kept.legal a))
+          subst (λ (u : UnitState). SameLength (image k.array a) u)
+          (sym (log_suffices records k.history log kept.legal a))
           (kept.lengths a);
     }

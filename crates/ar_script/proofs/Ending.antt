@@ -20,7 +20,8 @@ use Rattle.ar_script.specs.Ends.{Ends}
 use Rattle.std.specs.declared.io.traits.Read.{Ghosts}
 use Rattle.ar_language.specs.declared.lines.Lines.{Lines}
 use Rattle.ar_language.specs.Left.{lines_begun, EndsReading}
-use Rattle.ar_script.specs.Plays.{IsReportedAt, IsReportedOf, IsLineThere, IsLostAt, IsUnanswered, NeedsMemory, AreFirst}
+use Rattle.ar_script.specs.Plays.{IsReportedAt, IsReportedOf, IsLineThere, IsLostAt, IsUnanswered, NeedsMemory}
+use Rattle.ar_script.specs.Plays.{AreFirst}
 use Rattle.ar_script.specs.Plays.{AreAll, SaysWrong, IsSo, IsAtNext, Plays, PlaysScript, PlaysAll, PlaysTo}
 use Rattle.ar_script.specs.Plays.{AnswersScript, WritesBefore, WritesScript}
 use Rattle.ar_script.proofs.Appending.{appends_kept, appends_none, appends_then, keeps_same}
@@ -221,7 +222,8 @@ pub answered_unread : (script left : Option (List (List ℕ))) (old new : ArrayS
 answered_unread script left old new n begun (Ok done) before far after written kept is next = absurd (cc)
 answered_unread script left old new n begun (Err Start) before far after written kept is next = absurd next
 answered_unread script left old new n begun (Err (Line m kind)) before far after written kept is (inl next) =
-    λ reported. written_before script left old new new n m kind (Line m kind) before far after written refl kept refl next.1
+    λ reported. written_before script left old new new n m kind (Line m kind) before far after written refl kept refl
+    next.1
 answered_unread script left old new n begun (Err (Line m kind)) before far after written kept is (inr write) =
     λ reported. let yes : is_write_fault {T = Unit {0}} (Err (Line m kind)) ≡ true =
     ap (λ (k : FaultKind). is_write_fault {T = Unit {0}} (Err (Line m k))) write.0 in
@@ -549,7 +551,8 @@ pub reported_last : {R : Type 0} {reads : Ghosts R} (lines : Lines R reads) (kin
     → fault ≡ Line (max (lines_begun lines) 1) kind
     → IsUnanswered lines.line.items kind ⊎ SaysWrong lines.line.items kind → IsReportedAt lines fault
 reported_last lines kind fault closed some is reported =
-    subst (λ (f : Fault). IsReportedAt lines f) (sym is) (inr (last_is lines.given lines.is_begun closed some, reported))
+    subst (λ (f : Fault). IsReportedAt lines f) (sym is)
+    (inr (last_is lines.given lines.is_begun closed some, reported))
 
 reported_then : {R : Type 0} {reads : Ghosts R} (lines : Lines R reads) (fault : Fault) → IsReportedAt lines fault
     → IsReportedOf lines fault

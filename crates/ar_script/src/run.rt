@@ -12,7 +12,8 @@ ghost use Rattle.ar_language.specs.Lines.{IsReached};
 ghost use Rattle.ar_script.specs.Ends.{Ends};
 ghost use Rattle.ar_script.specs.Answers.{AnswersLine};
 ghost use Rattle.ar_script.specs.Orders.{MeetsLine};
-ghost use Rattle.ar_script.specs.Plays.{SaysWrong, IsUnanswered, IsLineThere, IsReportedAt, IsReportedOf, PlaysScript, PlaysTo};
+ghost use Rattle.ar_script.specs.Plays.{SaysWrong, IsUnanswered, IsLineThere, IsReportedAt, IsReportedOf, PlaysScript};
+ghost use Rattle.ar_script.specs.Plays.{PlaysTo};
 ghost use Rattle.ar_script.specs.Plays.{AnswersScript, HasPlayed, HasAnswered};
 ghost use Rattle.ar_script.specs.Setups.{disks_of};
 
@@ -221,7 +222,8 @@ fn answer_line<R: Read + Drop, W: Write + Drop>(
     out: &mut BufWriter<W>,
 ) -> Result<(), FaultKind>
     ensures meets { MeetsLine lines.now.line.items runner.old result runner.new }
-    ensures reported { IfErr result (λ kind. IsUnanswered lines.now.line.items kind ⊎ SaysWrong lines.now.line.items kind) }
+    ensures reported { IfErr result
+        (λ kind. IsUnanswered lines.now.line.items kind ⊎ SaysWrong lines.now.line.items kind) }
     ensures few { IfErr result (λ kind. kind ≢ FaultKind.TooManyLines) }
     ensures adds { OnOk result
         (AnswersLine lines.now.line.items runner.old runner.new (writer_contents W.contents out.old)

@@ -70,7 +70,8 @@ serves_due {commands = commands} {flushes = flushes} {thin = thin} old {lun = lu
 
 -- what came of a report, where the port states that there is a unit
 pub attempted_at_unit :
-    {P : Type 0} (commands : Commands P) {old new : P} {lun : ℕ} {own_reply : Reply} (request : Request) (report : Report)
+    {P : Type 0} (commands : Commands P) {old new : P} {lun : ℕ} {own_reply : Reply} (request : Request)
+    (report : Report)
     → commands old lun inquiry_cdb [] own_reply new → presence_of own_reply ≡ Some true → IsReport request report
     → AttemptsReport commands old lun request report new
 attempted_at_unit commands request NoUnit asked stated is = absurd is

@@ -19,11 +19,13 @@ pub pieces_more :
     {P : Type 0} (does : DoesPiece P) (size : ℕ → ℕ → ℕ) (lba count : ℕ) (old : P) (done at len : ℕ) (own_reply : Reply)
     (mid new : P)
     → PiecesDone does size lba count old done mid → at ≡ lba + done → len ≡ size at (count - done)
-    → does mid at len own_reply new → is_good own_reply.status ≡ true → PiecesDone does size lba count old (done + len) new
+    → does mid at len own_reply new → is_good own_reply.status ≡ true
+    → PiecesDone does size lba count old (done + len) new
 pieces_more does size lba count old done at len own_reply mid new before at_is len_is piece is_done =
     subst (λ (n : ℕ). PiecesDone does size lba count old (done + n) new)
     (sym (len_is ∙ ap (λ (a : ℕ). size a (count - done)) at_is))
-    (one_piece done own_reply mid new before (piece_is does size lba count done at len mid own_reply new at_is len_is piece)
+    (one_piece done own_reply mid new before
+    (piece_is does size lba count done at len mid own_reply new at_is len_is piece)
     is_done)
 
 -- a piece that stops the range

@@ -11,7 +11,8 @@ use Rattle.ar_target.specs.Serving.{Synchronizes, flush_reply, unit_unready, ran
 use Rattle.ar_target.specs.OwnCommands.{handed_on, handed_on_by}
 
 -- a status that is handed on isn't GOOD
-handed_on_by-not_good : (s : Status) (own_reply : Reply) → s ≡ own_reply.status → (handed_on_by s own_reply).status ≡ Good → ⊥
+handed_on_by-not_good : (s : Status) (own_reply : Reply) → s ≡ own_reply.status
+    → (handed_on_by s own_reply).status ≡ Good → ⊥
 handed_on_by-not_good Good own_reply is e = cc
 handed_on_by-not_good CheckCondition own_reply is e = cc
 handed_on_by-not_good Busy own_reply is e = cc

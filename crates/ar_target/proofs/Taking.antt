@@ -1,5 +1,6 @@
 -- Fronts of lists that aren't empty.
-use Rattle.std.proofs.Common.{◌≢◌, ◌<◌, ◌++◌, ℕ, zero, suc, Bool, true, false, List, [], ◌∷◌, length, take, slice_set, arith}
+use Rattle.std.proofs.Common.{◌≢◌, ◌<◌, ◌++◌, ℕ, zero, suc, Bool, true, false, List, [], ◌∷◌, length, take, slice_set}
+use Rattle.std.proofs.Common.{arith}
 use Rattle.std.proofs.lemmas.List.{length-set, length-append}
 use Rattle.ar_target.specs.Answer.{over_target_port, version_descriptors}
 use Rattle.ar_target.specs.declared.request.ModeSense.{ModeSense}

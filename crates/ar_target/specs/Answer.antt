@@ -79,7 +79,8 @@ report_data PortGroups = port_groups
 
 -- to a report on the target, at a unit
 abbrev pub report_answer : TargetReport → ℕ → Reply → Reply
-report_answer report len own_reply = from_last_block (λ last. good (take len (report_data report))) (last_block own_reply) own_reply
+report_answer report len own_reply =
+    from_last_block (λ last. good (take len (report_data report))) (last_block own_reply) own_reply
 
 -- bytes 36 to 73 of standard INQUIRY data: the first of eight VERSION DESCRIPTORS, at 58, are SAM-3 (0060h), iSCSI
 -- (0960h), SPC-3 (0300h) and SBC-3 (04C0h), each with no version claimed (SPC-4, Standard INQUIRY data)

@@ -49,7 +49,8 @@ pub data AfterCapacity {P : Type 0} (commands : Commands P) (executes : ℕ → 
       (own_reply : Reply) (new : P) → commands old lun capacity_cdb [] own_reply new → last_block own_reply ≡ None
       → AfterCapacity commands executes old lun (handed_on own_reply) new
   ready :
-      (own_reply : Reply) (last : ℕ) (mid : P) (reply : Reply) (new : P) → commands old lun capacity_cdb [] own_reply mid
+      (own_reply : Reply) (last : ℕ) (mid : P) (reply : Reply) (new : P)
+      → commands old lun capacity_cdb [] own_reply mid
       → last_block own_reply ≡ Some last → executes last mid reply new
       → AfterCapacity commands executes old lun reply new
 

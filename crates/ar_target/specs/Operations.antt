@@ -98,7 +98,8 @@ one_command operation None = 0x00 ∷ 0x01 ∷ 0x00 ∷ 0x00 ∷ []
 one_command operation (Some usage) =
     0x00 ∷ 0x03 ∷ 0x00 ∷ cdb_len operation.code ∷ take (cdb_len operation.code) usage
 
--- a command descriptor: OPERATION CODE, SERVICE ACTION, SERVACTV, CDB LENGTH (SPC-4, All commands parameter data format)
+-- a command descriptor: OPERATION CODE, SERVICE ACTION, SERVACTV, CDB LENGTH (SPC-4, All commands parameter data
+-- format)
 abbrev pub plain : ℕ → List ℕ
 plain code = code ∷ 0x00 ∷ 0x00 ∷ 0x00 ∷ 0x00 ∷ 0x00 ∷ 0x00 ∷ cdb_len code ∷ []
 

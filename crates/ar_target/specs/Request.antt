@@ -154,8 +154,8 @@ start_stop_unit_request cdb =
     where_fields_valid (not (naca 5 cdb == 1))
     (if stops_flushed cdb then request.Synchronize 0 0 else request.StartStop)
 
--- SEND DIAGNOSTIC, 6 bytes: the default self-test, or nothing; SELF-TEST CODE, bits 7 to 5 of byte 1, and PARAMETER LIST
--- LENGTH are 0 (SPC-4, SEND DIAGNOSTIC command)
+-- SEND DIAGNOSTIC, 6 bytes: the default self-test, or nothing; SELF-TEST CODE, bits 7 to 5 of byte 1, and PARAMETER
+-- LIST LENGTH are 0 (SPC-4, SEND DIAGNOSTIC command)
 abbrev pub send_diagnostic_request : List ℕ → Request
 send_diagnostic_request cdb =
     where_fields_valid (not (naca 5 cdb == 1) && ((byte 1 cdb / 32 == 0) && (number 3 2 cdb == 0))) request.SelfTest

@@ -17,7 +17,8 @@ use Rattle.ar_target.specs.Discarding.{Unmaps, WritesSame}
 use Rattle.ar_target.specs.FlushPort.{UnitFlushes}
 use Rattle.ar_target.specs.Luns.{ReportsLuns, lun_list}
 use Rattle.ar_target.specs.Request.{request_of}
-use Rattle.ar_target.specs.OwnCommands.{ready_cdb, inquiry_cdb, capacity_cdb, last_block, handed_on, IsReturned, ReturnsBy}
+use Rattle.ar_target.specs.OwnCommands.{ready_cdb, inquiry_cdb, capacity_cdb, last_block, handed_on, IsReturned}
+use Rattle.ar_target.specs.OwnCommands.{ReturnsBy}
 
 -- `count` blocks from `lba` on, or all from `lba` on if `count` is 0, aren't on a unit whose last block is `last`
 -- (SBC-2, SYNCHRONIZE CACHE (10) command)
@@ -45,11 +46,13 @@ pub data Synchronizes {P : Type 0} (commands : Commands P) (flushes : UnitFlushe
       (own_reply : Reply) (new : P) → commands old lun capacity_cdb [] own_reply new → last_block own_reply ≡ None
       → Synchronizes commands flushes lba count old lun (handed_on own_reply) new
   range_after :
-      (own_reply : Reply) (last : ℕ) (new : P) → commands old lun capacity_cdb [] own_reply new → last_block own_reply ≡ Some last
+      (own_reply : Reply) (last : ℕ) (new : P) → commands old lun capacity_cdb [] own_reply new
+      → last_block own_reply ≡ Some last
       → IsTrue (is_after last lba count)
       → Synchronizes commands flushes lba count old lun (check logical_block_address_out_of_range) new
   unit_flushed :
-      (own_reply : Reply) (last : ℕ) (mid : P) (reply : Reply) (new : P) → commands old lun capacity_cdb [] own_reply mid
+      (own_reply : Reply) (last : ℕ) (mid : P) (reply : Reply) (new : P)
+      → commands old lun capacity_cdb [] own_reply mid
       → last_block own_reply ≡ Some last → is_after last lba count ≡ false → FlushesAtPort flushes mid lun reply new
       → Synchronizes commands flushes lba count old lun reply new
 

@@ -32,7 +32,8 @@ of_12 code cdb =
 -- a 10-byte CDB with another OPERATION CODE and other low bits of byte 1; bits 7 to 5, PROTECT, are the same
 abbrev pub of_10 : ℕ → ℕ → List ℕ → List ℕ
 of_10 code low cdb =
-    code ∷ (byte 1 cdb / 32 * 32 + low) ∷ byte 2 cdb ∷ byte 3 cdb ∷ byte 4 cdb ∷ byte 5 cdb ∷ 0 ∷ byte 7 cdb ∷ byte 8 cdb
+    code ∷ (byte 1 cdb / 32 * 32 + low) ∷ byte 2 cdb ∷ byte 3 cdb ∷ byte 4 cdb ∷ byte 5 cdb ∷ 0 ∷ byte 7 cdb ∷ byte 8
+    cdb
     ∷ byte 9 cdb ∷ 0 ∷ 0 ∷ 0 ∷ 0 ∷ 0 ∷ 0 ∷ []
 
 -- the same of a 16-byte CDB

@@ -278,9 +278,11 @@ absent-in_place cdb true payload h = let e = h refl in rw e refl
 absent-in_place cdb false payload h = refl
 
 reported_or_not :
-    (cdb : List ℕ) (inquires : Bool) (broken : Reply) (obeyed reported : Answered) → broken ≡ where_broken cdb obeyed.reply
+    (cdb : List ℕ) (inquires : Bool) (broken : Reply) (obeyed reported : Answered)
+    → broken ≡ where_broken cdb obeyed.reply
     → reported.reply ≡ check capacity_data_has_changed
-    → cond (not inquires) (check capacity_data_has_changed) broken ≡ where_broken cdb (cond inquires obeyed reported).reply
+    → cond (not inquires) (check capacity_data_has_changed) broken ≡ where_broken cdb
+    (cond inquires obeyed reported).reply
 reported_or_not cdb true broken obeyed reported h e = h
 reported_or_not cdb false broken obeyed reported h e = rw e refl
 

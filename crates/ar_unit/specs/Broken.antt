@@ -27,8 +27,8 @@ abbrev pub shape_of : UnitState → Shape
 shape_of Absent = record { present = false; sectors = 0; attention = false }
 shape_of (Present sectors attention) = record { present = true; sectors = length sectors; attention = attention }
 
--- the shape after an entry: any command but INQUIRY, and a discard, clears a pending UNIT ATTENTION, and changes nothing
--- else
+-- the shape after an entry: any command but INQUIRY, and a discard, clears a pending UNIT ATTENTION, and changes
+-- nothing else
 abbrev pub shape_after : Shape → UnitEntry → Shape
 shape_after shape (Make n) = record { present = true; sectors = n; attention = false }
 shape_after shape (Grow n) =

@@ -12,7 +12,8 @@ use Rattle.ar_disks.specs.declared.geometry.Geometry.TheVariants.{Paper, Small}
 use Rattle.ar_disks.specs.Geometry.{block_len_of, sectors_of}
 use Rattle.ar_disks.specs.Lending.{refilled}
 use Rattle.ar_disks.specs.Block.{sectors_at}
-use Rattle.ar_disks.proofs.Sectors.{block_len-sectors, sectors_at_is, sectors_at-none, sectors_at-add, sectors_at-sectors_at}
+use Rattle.ar_disks.proofs.Sectors.{block_len-sectors, sectors_at_is, sectors_at-none, sectors_at-add}
+use Rattle.ar_disks.proofs.Sectors.{sectors_at-sectors_at}
 use Rattle.ar_disks.specs.declared.address.Addr.{Addr}
 use Rattle.ar_disks.specs.declared.address.Key.{Key}
 use Rattle.ar_cache.specs.Backing.{stored}

@@ -1,5 +1,5 @@
-// Discards sectors of a unit (UNMAP), block by block in ascending order. A block of which all sectors are discarded loses
-// its home and its cache entry without access to a disk; the others are overwritten with zeros, as by a WRITE.
+// Discards sectors of a unit (UNMAP), block by block in ascending order. A block of which all sectors are discarded
+// loses its home and its cache entry without access to a disk; the others are overwritten with zeros, as by a WRITE.
 ghost use Rattle.std.specs.Prelude.{◌≡◌, ◌≢◌, ◌⊎◌, ◌+◌, ◌-◌, ◌*◌, ◌<◌, ◌≤◌, ◌==◌, ℕ, false, IsTrue, length};
 ghost use Rattle.ar_disks.specs.declared.address.Key.{Key};
 ghost use Rattle.ar_disks.specs.Block.{sectors_at, zeros};
@@ -18,9 +18,9 @@ use ar_disks::{Addr, Block, Completion, Disk, Geometry, Key};
 
 impl<D: Disk> Blocks<D> {
     /// Discards sectors `lba` to `lba + count - 1` of a unit, all below 1,048,576, until a block fails: they read as
-    /// zeros. Each of their blocks is accessed once, in ascending order; one of which all sectors are discarded, and one
-    /// without a home and a cache entry, accesses no disk. Requests no memory but for a new entry of the cache, which
-    /// is written through if that is refused.
+    /// zeros. Each of their blocks is accessed once, in ascending order; one of which all sectors are discarded, and
+    /// one without a home and a cache entry, accesses no disk. Requests no memory but for a new entry of the cache,
+    /// which is written through if that is refused.
     pub fn unmap(
         &mut self,
         geometry: Geometry,
@@ -36,7 +36,8 @@ impl<D: Disk> Blocks<D> {
             → IsTrue (knows_in self.old.store (key_of addr rb)) }
         requires small { lba + count ≤ 1048576 }
 
-        ensures zeroed { result ≡ Completion.Done → WritesSectors self.old addr lba count (zeros (count * 512)) self.new }
+        ensures zeroed { result ≡ Completion.Done
+            → WritesSectors self.old addr lba count (zeros (count * 512)) self.new }
         ensures discards { result ≡ Completion.Done → DiscardsBlocks addr lba count self.old self.new }
         ensures stopped { result ≡ Completion.Broken → StopsBlocks addr lba count self.old self.new }
         ensures answer { result ≡ stored (is_broken self.new) }

@@ -24,7 +24,8 @@ loop-addr-preserved c =
     let are : AreAddresses old (map unit_address items) =
     subst (λ (l : List Addr). AreAddresses old (map unit_address l)) (sym c.deref-addr-items.ensures.value)
     c.in_ok-addresses.ensures in
-    let lt : i < length (map unit_address items) = omega (arith, length-map items unit_address, c.loop-addr-test.true) in
+    let lt : i < length (map unit_address items) =
+    omega (arith, length-map items unit_address, c.loop-addr-test.true) in
     let is : a ≡ get_or (map unit_address items) i a =
     ap unit_address c.addr-item.is ∙ sym (get_or-map unit_address items i c.addr-item.result a c.loop-addr-test.true) in
     record {

@@ -10,4 +10,5 @@ returns-clause-found c =
 
 pub returns-clause-again : goal.returns-clause-again
 returns-clause-again c = λ head fits e.
-    subst (λ r. HeadReadsAs head_data c.whole_head.result r) (ap head_decoded e ∙ head_again head fits) c.whole_head.ensures
+    subst (λ r. HeadReadsAs head_data c.whole_head.result r)
+    (ap head_decoded e ∙ head_again head fits) c.whole_head.ensures

@@ -21,5 +21,6 @@ returns c attention =
     let sent_len : length sent ≡ count * 512 = omega (arith, c.from-2.ensures, c.if-sent-from.false) in
     ap (λ (l : List ℕ). Present (cut 512 c.args.sectors l) attention)
     (mid_is lba count _ bytes c.copy_from_slice.new.self (omega (arith, c.from-3.ensures))
-    ∙ ap (λ (l : List ℕ). take (lba * 512) bytes ++ (l ++ drop ((lba + count) * 512) bytes)) c.copy_from_slice.ensures.after)
+    ∙ ap (λ (l : List ℕ). take (lba * 512) bytes ++ (l ++ drop ((lba + count) * 512) bytes))
+    c.copy_from_slice.ensures.after)
     ∙ write_done c.args.sectors bytes attention lba count sent c.requires within sent_len

@@ -18,7 +18,8 @@ returns-clause-leaves g c =
 pub returns-clause-still : goal.returns-clause-still
 returns-clause-still g c = λ same.
     c.climb.ensures.still
-    (none_reported (node_at c.args.nodes.now.items (c.args.size + c.args.leaf)) c.args.choices.now c.change_at-change.result
+    (none_reported (node_at c.args.nodes.now.items (c.args.size + c.args.leaf)) c.args.choices.now
+    c.change_at-change.result
     (rw c.deref.ensures.value at c.change_at-change.ensures) (sym same))
 
 pub returns-clause-changed : goal.returns-clause-changed

@@ -24,5 +24,6 @@ returns g c =
     record {
       text =
           adds_last c.writeln.result new (codes "</svg>\n")
-          (adds_then (adds_then (adds_then framed_text numbered_text) drawn_text) reported_text) c.writeln.ensures.bytes;
+          (adds_then (adds_then (adds_then framed_text numbered_text) drawn_text) reported_text)
+          c.writeln.ensures.bytes;
     }

@@ -15,4 +15,5 @@ returns-in-Some-clause-synchronizes g c =
 
 pub returns-clause-synchronizes : goal.returns-clause-synchronizes
 returns-clause-synchronizes g c =
-    rw c.handed_on.ensures.answer (unit_unready _ _ c.ask-own_reply.ensures.asked (sym c.last_block.ensures ∙ c.in-None.is))
+    rw c.handed_on.ensures.answer
+    (unit_unready _ _ c.ask-own_reply.ensures.asked (sym c.last_block.ensures ∙ c.in-None.is))

@@ -44,7 +44,8 @@ loop-at-preserved g c =
     let part_is : part
     ≡ min (sectors_of c.args.geometry - at % sectors_of c.args.geometry) (c.args.lba + c.args.count - at) =
     c.min-part.ensures ∙ ap (λ (s : ℕ). min (s - at % s) (c.args.lba + c.args.count - at)) sectors in
-    let part_whole : length piece == block_len_of c.args.geometry ≡ is_whole c.args.geometry c.args.lba c.args.count key =
+    let part_whole : length piece == block_len_of c.args.geometry ≡ is_whole c.args.geometry c.args.lba c.args.count
+    key =
     bytes-whole c.args.geometry (length piece) part long
     ∙ part-whole c.args.geometry c.args.addr c.args.lba c.args.count at part part_is c.loop-at.invariant.from
     (omega arith) edge in
@@ -52,7 +53,8 @@ loop-at-preserved g c =
     c.write_part.new.blocks =
     subst (λ (b : Bool). Replaces g.B.Backing.gets g.B.Backing.puts b c.loop-at.blocks key c.write_part.new.blocks)
     part_whole
-    (subst (λ (s : ℕ). Replaces g.B.Backing.gets g.B.Backing.puts (length piece == block_len_of c.args.geometry) c.loop-at.blocks
+    (subst (λ (s : ℕ). Replaces g.B.Backing.gets g.B.Backing.puts
+    (length piece == block_len_of c.args.geometry) c.loop-at.blocks
     (key_of c.args.addr (at / s)) c.write_part.new.blocks) sectors
     (c.write_part.ensures.puts c.in-Done.is)) in
     let ended : ((at + part ≡ c.args.lba) ⊎ ((at + part) % sectors_of c.args.geometry ≡ 0))
@@ -102,7 +104,8 @@ returns-in-Broken-clause-stopped g c = λ lost.
     let key : Key = key_of c.args.addr (at / sectors_of c.args.geometry) in
     let edge : (at ≡ c.args.lba) ⊎ (at % sectors_of c.args.geometry ≡ 0) =
     elim c.loop-at.invariant.edge [ inl is ↦ is | inr past ↦ absurd (omega (arith, past)) ] in
-    let part_whole : length piece == block_len_of c.args.geometry ≡ is_whole c.args.geometry c.args.lba c.args.count key =
+    let part_whole : length piece == block_len_of c.args.geometry ≡ is_whole c.args.geometry c.args.lba c.args.count
+    key =
     bytes-whole c.args.geometry (length piece) part long
     ∙ part-whole c.args.geometry c.args.addr c.args.lba c.args.count at part part_is c.loop-at.invariant.from
     (omega arith) edge in
@@ -111,7 +114,8 @@ returns-in-Broken-clause-stopped g c = λ lost.
     c.write_part.new.blocks =
     subst (λ (w : Bool). StopsReplacing b.gets b.breaks b.is_broken w c.loop-at.blocks key c.write_part.new.blocks)
     part_whole
-    (subst (λ (s : ℕ). StopsReplacing b.gets b.breaks b.is_broken (length piece == block_len_of c.args.geometry) c.loop-at.blocks
+    (subst (λ (s : ℕ). StopsReplacing b.gets b.breaks b.is_broken
+    (length piece == block_len_of c.args.geometry) c.loop-at.blocks
     (key_of c.args.addr (at / s)) c.write_part.new.blocks) sectors
     (c.write_part.ensures.stopped c.in-Broken.is)) in
     turn-stops (Overwrites b.gets b.puts c.args.geometry c.args.lba c.args.count)

@@ -19,7 +19,8 @@ returns c =
     let is : part ≡ bytes_of_sectors lba count unit.bytes.items =
     ap (λ (n : ℕ). take n (drop (lba * 512) c.deref.result.now)) width
     ∙ ap (λ (l : List ℕ). take (count * 512) (drop (lba * 512) l)) c.deref.ensures.value in
-    let given : IfOk c.piece_write.result (λ found. optional_record found ≡ piece_write (unit_address unit.addr) lba count part) =
+    let given : IfOk c.piece_write.result
+    (λ found. optional_record found ≡ piece_write (unit_address unit.addr) lba count part) =
     c.piece_write.ensures in
     subst (λ (l : List RecordData). IfOk c.piece_write.result (λ found. optional_record found ≡ l))
     (piece_is (unit_address unit.addr) unit.base c.args.piece count unit.bytes.items part many is) given

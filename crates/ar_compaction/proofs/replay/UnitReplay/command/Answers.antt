@@ -21,7 +21,8 @@ returns-then-not-self c =
 pub returns-then-not-is_inquiry : goal.returns-then-not-is_inquiry
 returns-then-not-is_inquiry c =
     let r = c.self.inside in
-    let made : ReplayState = replay_of (unit_address r.addr) (state_of r.present (cut 512 r.sectors r.bytes.items) false) in
+    let made : ReplayState =
+    replay_of (unit_address r.addr) (state_of r.present (cut 512 r.sectors r.bytes.items) false) in
     subst (λ (x : ReplayState). made ≡ with_unit x (answer x.unit c.args.cdb.now c.args.sent.now).state) c.self.view_is
     (command_reported (unit_address r.addr) r.present (cut 512 r.sectors r.bytes.items) r.attention c.args.cdb.now
     c.args.sent.now c.if-not-self.false c.if-self.true (sym c.is_inquiry.ensures ∙ c.if-not-is_inquiry.true))
@@ -49,11 +50,13 @@ returns c =
     let bytes : List ℕ = c.write.new.bytes in
     let kept : (with_items r.bytes bytes).items ≡ bytes = with_items_is r.bytes bytes
     (omega (arith, c.write.auto.bytes, c.deref_mut.ensures.len)) in
-    let made : ReplayState = replay_of (unit_address r.addr) (state_of r.present (cut 512 r.sectors bytes) r.attention) in
+    let made : ReplayState =
+    replay_of (unit_address r.addr) (state_of r.present (cut 512 r.sectors bytes) r.attention) in
     subst (λ (l : List ℕ). replay_of (unit_address r.addr) (state_of r.present (cut 512 r.sectors l) r.attention)
     ≡ with_unit c.args.self.now (answer c.args.self.now.unit c.args.cdb.now c.args.sent.now).state) (sym kept)
     (subst (λ (x : ReplayState). made ≡ with_unit x (answer x.unit c.args.cdb.now c.args.sent.now).state) c.self.view_is
-    (command_write (unit_address r.addr) r.present (cut 512 r.sectors r.bytes.items) (cut 512 r.sectors bytes) r.attention
+    (command_write (unit_address r.addr) r.present (cut 512 r.sectors r.bytes.items)
+    (cut 512 r.sectors bytes) r.attention
     c.args.cdb.now c.args.sent.now c.in-Some.lba c.in-Some.count c.if-not-self.false goes_on
     (sym c.written_range.ensures ∙ c.in-Some.is)
     (subst (λ (l : List ℕ). Present (cut 512 r.sectors bytes) r.attention

@@ -17,4 +17,5 @@ returns-in_ok-resize-clause-applied c =
     (grown_zeros (unit_address r.addr) r.present r.sectors c.args.sectors c.max-sectors.result r.bytes.items
     c.resize.new.self.items r.attention c.if-self.true c.self.invariant c.max-sectors.ensures
     (c.in_ok-resize.ensures.items
-    ∙ ap (λ (n : ℕ). take (c.max-sectors.result * 512) r.bytes.items ++ replicate (c.max-sectors.result * 512 - n) 0) len))
+    ∙ ap (λ (n : ℕ). take (c.max-sectors.result * 512) r.bytes.items ++ replicate (c.max-sectors.result * 512 - n) 0)
+    len))

@@ -14,7 +14,9 @@ returns c =
       bytes = c.args.bytes.items;
     } in
     let based : unit.base ≡ base_of unit.sectors unit.attention unit.bytes =
-    c.base_of-base.ensures.base ∙ ap (λ (l : List ℕ). base_of c.args.sectors c.args.attention l) c.deref.ensures.value in
+    c.base_of-base.ensures.base
+    ∙ ap (λ (l : List ℕ). base_of c.args.sectors c.args.attention l) c.deref.ensures.value in
     let known : HasUnitNumbers unit.addr.0 unit.addr.1 =
     record { host_known = c.args.host.in_range; lun_fits = omega arith } in
-    checkpoint_by c.args.present unit c.steps_of-steps.result based c.requires known (omega arith) c.steps_of-steps.ensures
+    checkpoint_by c.args.present unit c.steps_of-steps.result based c.requires known
+    (omega arith) c.steps_of-steps.ensures

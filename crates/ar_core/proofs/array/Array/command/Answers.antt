@@ -22,7 +22,8 @@ returns-then-not-is_inquiry g c =
     ap (λ (s : ArrayState). attention_at s.store.book c.args.addr) (sym c.self.view_is) ∙ sym c.attention.ensures
     ∙ c.if-attention.true in
     let other : (operation_code c.args.cdb.now == 0x12) ≡ false = sym c.is_inquiry.ensures ∙ c.if-not-is_inquiry.true in
-    commands_reported c.args.self.now c.tell_growth.new.self c.args.addr c.in-Some.sectors c.args.cdb.now c.args.bytes.now
+    commands_reported c.args.self.now c.tell_growth.new.self c.args.addr c.in-Some.sectors c.args.cdb.now
+    c.args.bytes.now
     c.tell_growth.result unit
     (ap (λ (b : Bool). b && not (operation_code c.args.cdb.now == 0x12)) mark ∙ ap not other)
     c.tell_growth.ensures.reported_to c.tell_growth.ensures.cleared c.tell_growth.ensures.seen

@@ -3,7 +3,8 @@ use Rattle.ar_scsi.specs.declared.command.Command.TheVariants.{Read}
 use Rattle.ar_scsi.specs.Sense.{internal_target_failure, logical_block_address_out_of_range}
 use Rattle.ar_volume.specs.Image.{is_broken}
 use Rattle.ar_volume.proofs.Images.{length-unit_sectors}
-use Rattle.ar_core.proofs.Serving.{serves_check, settles_check, settles_read, read_past, read_within, not_below, unit_itself}
+use Rattle.ar_core.proofs.Serving.{serves_check, settles_check, settles_read, read_past, read_within, not_below}
+use Rattle.ar_core.proofs.Serving.{unit_itself}
 use Rattle.ar_core.proofs.array.Array.read.Goals as goal
 
 pub read_range-requires-clause-unit : goal.read_range-requires-clause-unit

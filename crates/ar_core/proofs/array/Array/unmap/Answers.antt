@@ -20,7 +20,8 @@ returns-then-attention g c =
     ∙ c.if-attention.true in
     steps_unmapped c.args.self.now c.tell_growth.new.self c.args.addr c.args.lba c.args.count c.tell_growth.result
     (unmaps_reported c.args.self.now c.tell_growth.new.self c.args.addr c.in-Some.sectors c.args.lba c.args.count
-    c.tell_growth.result unit mark c.tell_growth.ensures.reported_to c.tell_growth.ensures.cleared c.tell_growth.ensures.seen)
+    c.tell_growth.result unit mark c.tell_growth.ensures.reported_to c.tell_growth.ensures.cleared
+    c.tell_growth.ensures.seen)
 
 pub returns : goal.returns
 returns g c =

@@ -49,7 +49,10 @@ returns-in-Mirrored g c =
       keeps = reported.keeps;
       stand = leaves.stand;
       stays = record {
-        ready = record { space = leaves.space; scratch = c.requires.ready.scratch ∙ sym reported.works.follows.geometry };
+        ready = record {
+          space = leaves.space;
+          scratch = c.requires.ready.scratch ∙ sym reported.works.follows.geometry;
+        };
         units = units_refl s.book;
         accessed = access;
       };
