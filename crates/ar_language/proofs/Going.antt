@@ -19,7 +19,8 @@ use Rattle.ar_language.specs.declared.fault.Fault.TheVariants.{Start, Line}
 use Rattle.ar_language.specs.declared.lines.Lines.{Lines}
 use Rattle.ar_language.specs.Lines.{lines_in, lines_of, first_of, front_of, line_fault, bytes_left, Took, HasNoEnd}
 use Rattle.ar_language.specs.Lines.{is_printable, IsLine, IsFirst, IsLacking, IsAllTaken, AreThere, IsFaultFrom}
-use Rattle.ar_language.specs.Lines.{IsUnasked, IsReportedOfFirst, IsReportedOfNext, IsNextLineFault, is_given, IsReached}
+use Rattle.ar_language.specs.Lines.{IsUnasked, IsReportedOfFirst, IsReportedOfNext, IsNextLineFault, is_given}
+use Rattle.ar_language.specs.Lines.{IsReached}
 use Rattle.ar_language.specs.Lines.{IsNumbered, IsOfNext}
 use Rattle.ar_language.specs.Left.{bytes_read, lines_begun, lines_left, IsBegunByByte, IsSettled, HasFault}
 use Rattle.ar_language.specs.Left.{IsLineRefused, GoesOn}

@@ -5,12 +5,13 @@ use Rattle.std.proofs.Common.{append-nil, length-append, inl, inr, take-append-d
 use Rattle.std.specs.Borrow.{Bor}
 use Rattle.std.specs.List.{list_any, slice_split}
 use Rattle.std.proofs.lemmas.List.{length-map, length-take, length-drop, map-append}
-use Rattle.ar_language.specs.Words.{IsNumber}
+use Rattle.ar_numbers.specs.Numbers.{IsDecimal}
 use Rattle.ar_language.specs.declared.fault.FaultKind.{FaultKind}
 use Rattle.ar_language.specs.declared.fault.FaultKind.TheVariants.{BadArgument}
 use Rattle.ar_language.specs.declared.order.Order.{Order}
 use Rattle.ar_language.specs.Forms.{Words, HasUnit, HasUnitAndNumber, HasSectors, HasSectorsAndByte, HasCommandBlock}
-use Rattle.ar_language.specs.Forms.{HasRowAddress, HasDisk, IsNumberOf, ParsesAs, ReadsArrayOrder, ReadsUnitOrder}
+use Rattle.ar_language.specs.Forms.{HasUnitAndSize, HasRowAddress, HasDisk, IsNumberOf}
+use Rattle.ar_language.specs.Forms.{ParsesAs, ReadsArrayOrder, ReadsUnitOrder}
 use Rattle.ar_language.specs.Forms.{ReadsOrder, ReadsNamed, ReadsWords, is_silent, ReadsLine}
 
 -- ---- of seven arguments or more no word has a form
@@ -23,6 +24,9 @@ no_unit words many = λ has. let count = has.count in absurd (omega arith)
 
 no_number : (bits : ℕ) (words : Words) → 7 ≤ length words → ¬ HasUnitAndNumber bits words
 no_number bits words many = λ has. let count = has.count in absurd (omega arith)
+
+no_size : (words : Words) → 7 ≤ length words → ¬ HasUnitAndSize words
+no_size words many = λ has. let count = has.count in absurd (omega arith)
 
 no_sectors : (bits : ℕ) (Lba : List ℕ → Type 0) (words : Words) → 7 ≤ length words → ¬ HasSectors bits Lba words
 no_sectors bits Lba words many = λ has. let count = has.count in absurd (omega arith)
@@ -73,6 +77,9 @@ module _ (name : List ℕ) (xs ys : Words) (r : Result Order FaultKind) (some : 
         bad (HasUnitAndNumber bits xs) (HasUnitAndNumber bits ys) A B r (no_number bits xs some)
         (no_number bits ys more)
 
+    size : (A B : Order → Type 0) → ParsesAs (HasUnitAndSize xs) A r → ParsesAs (HasUnitAndSize ys) B r
+    size A B = bad (HasUnitAndSize xs) (HasUnitAndSize ys) A B r (no_size xs some) (no_size ys more)
+
     sectors : (bits : ℕ) (Lba : List ℕ → Type 0) (A B : Order → Type 0) → ParsesAs (HasSectors bits Lba xs) A r
         → ParsesAs (HasSectors bits Lba ys) B r
     sectors bits Lba A B =
@@ -109,17 +116,17 @@ module _ (name : List ℕ) (xs ys : Words) (r : Result Order FaultKind) (some : 
 
     unit_order : ReadsUnitOrder name xs r → ReadsUnitOrder name ys r
     unit_order =
-        row (bytes_eq name (codes "make")) _ _ _ _ (number 32 _ _)
-        (row (bytes_eq name (codes "grow")) _ _ _ _ (number 32 _ _)
+        row (bytes_eq name (codes "make")) _ _ _ _ (size _ _)
+        (row (bytes_eq name (codes "grow")) _ _ _ _ (size _ _)
         (row (bytes_eq name (codes "drop")) _ _ _ _ (unit _ _)
-        (row (bytes_eq name (codes "unmap")) _ _ _ _ (sectors 32 IsNumber _ _) array_order)))
+        (row (bytes_eq name (codes "unmap")) _ _ _ _ (sectors 32 IsDecimal _ _) array_order)))
 
     any_order : ReadsOrder name xs r → ReadsOrder name ys r
     any_order =
         row (bytes_eq name (codes "read")) _ _ _ _ (sectors 16 (IsNumberOf 32) _ _)
         (row (bytes_eq name (codes "write")) _ _ _ _ (written (IsNumberOf 32) _ _)
-        (row (bytes_eq name (codes "read16")) _ _ _ _ (sectors 16 IsNumber _ _)
-        (row (bytes_eq name (codes "write16")) _ _ _ _ (written IsNumber _ _)
+        (row (bytes_eq name (codes "read16")) _ _ _ _ (sectors 16 IsDecimal _ _)
+        (row (bytes_eq name (codes "write16")) _ _ _ _ (written IsDecimal _ _)
         (row (bytes_eq name (codes "tur")) _ _ _ _ (unit _ _)
         (row (bytes_eq name (codes "inquiry")) _ _ _ _ (number 16 _ _)
         (row (bytes_eq name (codes "capacity")) _ _ _ _ (unit _ _)

@@ -11,19 +11,6 @@ use Rattle.hex.specs.declared.error.FromHexError.{FromHexError}
 use Rattle.hex.specs.Hex.{decode_of, decode_sized, is_hex_digit}
 use Rattle.hex.proofs.HexLemmas.{IsOk-decode_sized, IsOk-written, decode_sized-twice}
 
--- texts of decimal digits, in std's words
-own : IsNumeralModel (λ ds. list_all is_ascii_digit ds ≡ true) (digits_value 10)
-own = numerals_by_value (λ ds. list_all is_ascii_digit ds ≡ true) (search rules)
-
--- what the first of at most ten bytes say, where they are digits
-pub small : (word : List ℕ) (i : ℕ) → list_all is_ascii_digit (take i word) ≡ true → length word ≤ 10
-    → digits_value 10 (take i word) < 10 ^ 10
-small word i digits short = digits_value_short own (take i word) 10 digits (omega (arith, length-take i word))
-
-pub both : (a b : Bool) → a ≡ true → b ≡ true → (a && b) ≡ true
-both true b first next = next
-both false b first next = first
-
 -- which texts are decoded into room for n bytes
 pub decodes : (text out : List ℕ) (n : ℕ) (r : Result Unit FromHexError)
     → MatchResult (decode_sized text n) (λ bytes. (r ≡ Ok tt) × (out ≡ bytes)) (λ e. r ≡ Err e)

@@ -7,12 +7,13 @@ use Rattle.std.specs.Borrow.{Bor}
 use Rattle.std.specs.Str.Parse.{digits_value}
 use Rattle.hex.specs.Hex.{decode_of}
 use Rattle.ar_disks.specs.declared.address.Addr.{Addr}
+use Rattle.ar_numbers.specs.Numbers.{IsDecimal, IsSize, size_sectors}
 use Rattle.ar_scsi.specs.declared.command.Command.{Command}
 use Rattle.ar_scsi.specs.declared.command.Command.TheVariants.{TestReady, Inquiry, Capacity, Read, Write}
 use Rattle.ar_scsi.specs.Block.{Says}
 use Rattle.ar_language.specs.Blocks.{test_unit_ready_block, inquiry_block, read_capacity_block, read_10_block}
 use Rattle.ar_language.specs.Blocks.{read_16_block, write_10_block, write_16_block}
-use Rattle.ar_language.specs.Words.{IsNumber, IsBytePair, IsBlockWord}
+use Rattle.ar_language.specs.Words.{IsBytePair, IsBlockWord}
 use Rattle.ar_language.specs.declared.fault.FaultKind.{FaultKind}
 use Rattle.ar_language.specs.declared.fault.FaultKind.TheVariants.{BadArgument, UnknownWord}
 use Rattle.ar_language.specs.declared.order.Action.TheVariants as actions
@@ -37,7 +38,7 @@ value digits = digits_value 10 digits
 
 -- a number of at most `bits` bits
 pub record IsNumberOf (bits : ℕ) (digits : List ℕ) : Type 0 where
-  pub number : IsNumber digits
+  pub number : IsDecimal digits
   pub fits : value digits < 2 ^ bits
 
 -- the value of two hexadecimal digits
@@ -46,7 +47,7 @@ IsByte digits byte = decode_of digits ≡ Ok (byte ∷ [])
 
 -- the numbers of a host, 0 to 3, and of a LUN, 0 to 255
 pub record AreAddress (host lun : List ℕ) : Type 0 where
-  pub host_number : IsNumber host
+  pub host_number : IsDecimal host
   pub host_below : value host < 4
   pub lun_number : IsNumberOf 8 lun
 
@@ -70,6 +71,12 @@ pub record HasUnitAndNumber (bits : ℕ) (words : Words) : Type 0 where
   pub address : AreAddress (word words 0) (word words 1)
   pub number : IsNumberOf bits (word words 2)
 
+-- a unit and a size
+pub record HasUnitAndSize (words : Words) : Type 0 where
+  pub count : length words ≡ 3
+  pub address : AreAddress (word words 0) (word words 1)
+  pub size : IsSize (word words 2)
+
 -- the unit that the first two words name
 abbrev pub NamesUnit : Words → Addr → Type 0
 NamesUnit words addr = IsAddress (word words 0) (word words 1) addr
@@ -87,13 +94,13 @@ AsksCommand words cdb command sent notation order =
 abbrev pub empty_data : Data
 empty_data = record { len = 0; byte = 0 }
 
--- `make H L SECTORS`
+-- `make H L SIZE`
 abbrev pub AsksMake : Words → Order → Type 0
-AsksMake words = AboutUnit words (λ addr. Act (actions.Make addr (value (word words 2))))
+AsksMake words = AboutUnit words (λ addr. Act (actions.Make addr (size_sectors (word words 2))))
 
--- `grow H L SECTORS`
+-- `grow H L SIZE`
 abbrev pub AsksGrow : Words → Order → Type 0
-AsksGrow words = AboutUnit words (λ addr. Act (actions.Grow addr (value (word words 2))))
+AsksGrow words = AboutUnit words (λ addr. Act (actions.Grow addr (size_sectors (word words 2))))
 
 -- `drop H L`
 abbrev pub AsksDrop : Words → Order → Type 0
@@ -242,10 +249,10 @@ ReadsArrayOrder name words result =
 -- the actions on a unit, and then those
 abbrev pub ReadsUnitOrder : List ℕ → Words → Result Order FaultKind → Type 0
 ReadsUnitOrder name words result =
-    MatchBool (bytes_eq name (codes "make")) (ParsesAs (HasUnitAndNumber 32 words) (AsksMake words) result) (
-    MatchBool (bytes_eq name (codes "grow")) (ParsesAs (HasUnitAndNumber 32 words) (AsksGrow words) result) (
+    MatchBool (bytes_eq name (codes "make")) (ParsesAs (HasUnitAndSize words) (AsksMake words) result) (
+    MatchBool (bytes_eq name (codes "grow")) (ParsesAs (HasUnitAndSize words) (AsksGrow words) result) (
     MatchBool (bytes_eq name (codes "drop")) (ParsesAs (HasUnit words) (AsksDrop words) result) (
-    MatchBool (bytes_eq name (codes "unmap")) (ParsesAs (HasSectors 32 IsNumber words) (AsksUnmap words) result) (
+    MatchBool (bytes_eq name (codes "unmap")) (ParsesAs (HasSectors 32 IsDecimal words) (AsksUnmap words) result) (
     ReadsArrayOrder name words result))))
 
 -- the SCSI commands, and then those
@@ -256,9 +263,9 @@ ReadsOrder name words result =
     MatchBool (bytes_eq name (codes "write"))
     (ParsesAs (HasSectorsAndByte (IsNumberOf 32) words) (AsksWrite write_10_block words) result) (
     MatchBool (bytes_eq name (codes "read16"))
-    (ParsesAs (HasSectors 16 IsNumber words) (AsksRead read_16_block words) result) (
+    (ParsesAs (HasSectors 16 IsDecimal words) (AsksRead read_16_block words) result) (
     MatchBool (bytes_eq name (codes "write16"))
-    (ParsesAs (HasSectorsAndByte IsNumber words) (AsksWrite write_16_block words) result) (
+    (ParsesAs (HasSectorsAndByte IsDecimal words) (AsksWrite write_16_block words) result) (
     MatchBool (bytes_eq name (codes "tur")) (ParsesAs (HasUnit words) (AsksTur words) result) (
     MatchBool (bytes_eq name (codes "inquiry")) (ParsesAs (HasUnitAndNumber 16 words) (AsksInquiry words) result) (
     MatchBool (bytes_eq name (codes "capacity")) (ParsesAs (HasUnit words) (AsksCapacity words) result) (

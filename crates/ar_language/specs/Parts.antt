@@ -1,7 +1,8 @@
 -- Parts of a line's words: sectors, and the data of a command.
 use Rattle.std.specs.Prelude.{◌≡◌, ℕ, ◌==◌, List, length}
 use Rattle.ar_disks.specs.declared.address.Addr.{Addr}
-use Rattle.ar_language.specs.Words.{IsNumber, IsBytePair, IsBlockWord}
+use Rattle.ar_numbers.specs.Numbers.{IsDecimal}
+use Rattle.ar_language.specs.Words.{IsBytePair, IsBlockWord}
 use Rattle.ar_language.specs.Forms.{Words, word, value, IsNumberOf, IsByte, IsBlock, AreAddress, IsAddress}
 use Rattle.ar_language.specs.declared.order.Action.TheVariants as actions
 use Rattle.ar_language.specs.declared.order.Data.{Data}
@@ -14,7 +15,7 @@ use Rattle.ar_language.specs.declared.parse.Written.{Written}
 -- a unit, a logical block address and a number of sectors
 pub record AreSpan (host lun lba count : List ℕ) : Type 0 where
   pub address : AreAddress host lun
-  pub lba_number : IsNumber lba
+  pub lba_number : IsDecimal lba
   pub sectors : IsNumberOf 16 count
 
 -- the sectors that they name

@@ -4,12 +4,6 @@ use Rattle.std.specs.List.{list_all, AllPass}
 use Rattle.std.specs.Char.{is_ascii_digit}
 use Rattle.hex.specs.Hex.{is_hex_digit}
 
--- 1 to 10 decimal digits
-pub record IsNumber (word : List ℕ) : Type 0 where
-  pub some : 1 ≤ length word
-  pub at_most_ten : length word ≤ 10
-  pub digits : IsTrue (list_all is_ascii_digit word)
-
 -- two hexadecimal digits of either case
 pub record IsBytePair (word : List ℕ) : Type 0 where
   pub two : length word ≡ 2

@@ -4,16 +4,20 @@
 #![tactic(auto)]
 
 mod blocks;
+mod explain;
 mod fault;
 mod lines;
 mod next;
 mod order;
 mod parse;
+mod recent;
 mod words;
 
+pub use explain::{Argument, Explanation, LineForm, Wanted, explanation_of, line_forms};
 pub use fault::{Fault, FaultKind};
 pub use lines::Lines;
 pub use next::next_line;
 pub use order::{Action, Data, Notation, Order, Question};
 pub use parse::{order_in, unit_and_number};
-pub use words::{MOST_WORDS, first_words, number};
+pub use recent::{Recent, Remembered};
+pub use words::{MOST_WORDS, first_words};

@@ -2,20 +2,23 @@
 ghost use Rattle.std.specs.Prelude.{◌≡◌, ◌≢◌, ◌⊎◌, true, false, ℕ, ◌+◌, ◌-◌, ◌*◌, ◌<◌, codes, length, IfErr};
 ghost use Rattle.std.specs.Option.{SomeIff};
 ghost use Rattle.ar_language.specs.Blocks.{read_10_block, read_16_block, write_10_block, write_16_block};
-ghost use Rattle.ar_language.specs.Words.{IsNumber};
+ghost use Rattle.ar_numbers.specs.Numbers.{IsDecimal, size_sectors};
 ghost use Rattle.ar_language.specs.Forms.{word, value, IsNumberOf, AreAddress, IsAddress, NamesUnit, HasUnit};
-ghost use Rattle.ar_language.specs.Forms.{HasUnitAndNumber, HasSectors, HasSectorsAndByte, HasCommandBlock};
+ghost use Rattle.ar_language.specs.Forms.{HasUnitAndNumber, HasUnitAndSize, HasSectors, HasSectorsAndByte};
+ghost use Rattle.ar_language.specs.Forms.{HasCommandBlock};
 ghost use Rattle.ar_language.specs.Forms.{HasRowAddress, HasDisk, Gives, ReadsOrder, ReadsUnitOrder, ReadsArrayOrder};
 ghost use Rattle.ar_language.specs.Forms.{ReadsNamed, ReadsLine, empty_data};
 ghost use Rattle.ar_language.specs.Parts.{AreSpan, IsSpan, NamesSpan, SaysWritten, AreData, IsData, AreBlock};
 ghost use Rattle.ar_language.specs.Parts.{AsksBlockWith};
 ghost use Rattle.ar_language.specs.Forms.{AsksMake, AsksGrow, AsksDrop, AsksUnmap, AsksTur, AsksInquiry, AsksCapacity};
-ghost use Rattle.ar_language.specs.Forms.{AsksRead, AsksWrite, AsksBlock, AsksLevels, AsksHome, AsksRow, AsksOut, AsksReplace};
+ghost use Rattle.ar_language.specs.Forms.{AsksRead, AsksWrite, AsksBlock, AsksLevels, AsksHome, AsksRow, AsksOut};
+ghost use Rattle.ar_language.specs.Forms.{AsksReplace};
 ghost use Rattle.ar_language.specs.Forms.{IsDisk};
 
 use crate::order::{Action, Data, Notation, Order, Question};
 use crate::{FaultKind, blocks, words};
 use ar_disks::{Addr, Host, SECTOR_LEN};
+use ar_numbers::number;
 
 const NO_DATA: Data = Data { len: 0, byte: 0 };
 
@@ -124,16 +127,16 @@ fn array_order_of(name: &str, arguments: &[&str]) -> Result<Order, FaultKind>
 }
 
 fn make(arguments: &[&str]) -> Option<Order>
-    ensures { Gives (HasUnitAndNumber 32 arguments.now) (AsksMake arguments.now) result }
+    ensures { Gives (HasUnitAndSize arguments.now) (AsksMake arguments.now) result }
 {
-    let (addr, sectors) = unit_and_number(arguments)?;
+    let (addr, sectors) = unit_and_size(arguments)?;
     Some(Order::Act(Action::Make(addr, sectors)))
 }
 
 fn grow(arguments: &[&str]) -> Option<Order>
-    ensures { Gives (HasUnitAndNumber 32 arguments.now) (AsksGrow arguments.now) result }
+    ensures { Gives (HasUnitAndSize arguments.now) (AsksGrow arguments.now) result }
 {
-    let (addr, sectors) = unit_and_number(arguments)?;
+    let (addr, sectors) = unit_and_size(arguments)?;
     Some(Order::Act(Action::Grow(addr, sectors)))
 }
 
@@ -145,13 +148,13 @@ fn remove(arguments: &[&str]) -> Option<Order>
 }
 
 fn unmap(arguments: &[&str]) -> Option<Order>
-    ensures { Gives (HasSectors 32 IsNumber arguments.now) (AsksUnmap arguments.now) result }
+    ensures { Gives (HasSectors 32 IsDecimal arguments.now) (AsksUnmap arguments.now) result }
 {
     let [host, lun, lba, count] = arguments else {
         return None;
     };
     let addr = address(host, lun)?;
-    let lba = words::number(lba)?;
+    let lba = number(lba)?;
     let count = number_32(count)?;
     Some(Order::Act(Action::Unmap(addr, lba, count)))
 }
@@ -188,7 +191,7 @@ fn read(arguments: &[&str]) -> Option<Order>
 }
 
 fn read_16(arguments: &[&str]) -> Option<Order>
-    ensures { Gives (HasSectors 16 IsNumber arguments.now) (AsksRead read_16_block arguments.now) result }
+    ensures { Gives (HasSectors 16 IsDecimal arguments.now) (AsksRead read_16_block arguments.now) result }
 {
     let span = sectors(arguments)?;
     let cdb = blocks::read_16(span.lba, span.count);
@@ -205,7 +208,7 @@ fn write(arguments: &[&str]) -> Option<Order>
 }
 
 fn write_16(arguments: &[&str]) -> Option<Order>
-    ensures { Gives (HasSectorsAndByte IsNumber arguments.now) (AsksWrite write_16_block arguments.now) result }
+    ensures { Gives (HasSectorsAndByte IsDecimal arguments.now) (AsksWrite write_16_block arguments.now) result }
 {
     let to = written_in(arguments)?;
     let cdb = blocks::write_16(to.span.lba, to.span.count, to.fua);
@@ -214,7 +217,7 @@ fn write_16(arguments: &[&str]) -> Option<Order>
 
 // Parses the arguments of a READ: the sectors that it transfers.
 fn sectors(arguments: &[&str]) -> Option<Span>
-    ensures { Gives (HasSectors 16 IsNumber arguments.now) (NamesSpan arguments.now) result }
+    ensures { Gives (HasSectors 16 IsDecimal arguments.now) (NamesSpan arguments.now) result }
 {
     let [host, lun, lba, count] = arguments else {
         return None;
@@ -224,7 +227,7 @@ fn sectors(arguments: &[&str]) -> Option<Span>
 
 // Parses the arguments of a WRITE.
 fn written_in(arguments: &[&str]) -> Option<Written>
-    ensures { Gives (HasSectorsAndByte IsNumber arguments.now) (SaysWritten arguments.now) result }
+    ensures { Gives (HasSectorsAndByte IsDecimal arguments.now) (SaysWritten arguments.now) result }
 {
     let (fua, arguments) = force_unit_access(arguments);
     let [host, lun, lba, count, byte] = arguments else {
@@ -239,7 +242,7 @@ fn span_in(host: &str, lun: &str, lba: &str, count: &str) -> Option<Span>
     ensures { Gives (AreSpan host.now lun.now lba.now count.now) (IsSpan host.now lun.now lba.now count.now) result }
 {
     let addr = address(host, lun)?;
-    let lba = words::number(lba)?;
+    let lba = number(lba)?;
     let count = number_16(count)?;
     Some(Span { addr, lba, count })
 }
@@ -397,6 +400,17 @@ fn unit(arguments: &[&str]) -> Option<Addr>
     address(host, lun)
 }
 
+// Parses a unit's address and its size in sectors.
+fn unit_and_size(arguments: &[&str]) -> Option<(Addr, u32)>
+    ensures { Gives (HasUnitAndSize arguments.now) (λ both. NamesUnit arguments.now both.0
+        × (both.1 ≡ size_sectors (word arguments.now 2))) result }
+{
+    let [host, lun, size] = arguments else {
+        return None;
+    };
+    Some((address(host, lun)?, ar_numbers::sectors(size)?))
+}
+
 /// Parses three words: a host (0 to 3), a LUN (0 to 255) and a number below 2^32.
 pub fn unit_and_number(arguments: &[&str]) -> Option<(Addr, u32)>
     ensures { Gives (HasUnitAndNumber 32 arguments.now) (λ both. NamesUnit arguments.now both.0
@@ -419,17 +433,17 @@ fn address(host: &str, lun: &str) -> Option<Addr>
 fn number_8(word: &str) -> Option<u8>
     ensures { SomeIff result (IsNumberOf 8 word.now) (value word.now) }
 {
-    u8::try_from(words::number(word)?).ok()
+    u8::try_from(number(word)?).ok()
 }
 
 fn number_16(word: &str) -> Option<u16>
     ensures { SomeIff result (IsNumberOf 16 word.now) (value word.now) }
 {
-    u16::try_from(words::number(word)?).ok()
+    u16::try_from(number(word)?).ok()
 }
 
 fn number_32(word: &str) -> Option<u32>
     ensures { SomeIff result (IsNumberOf 32 word.now) (value word.now) }
 {
-    u32::try_from(words::number(word)?).ok()
+    u32::try_from(number(word)?).ok()
 }

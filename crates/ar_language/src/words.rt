@@ -3,11 +3,8 @@
 ghost use Rattle.std.specs.Prelude.{◌≡◌, ◌∷◌, [], ◌++◌, ◌-◌, ◌↔◌, ℕ, List, length, replicate, true, false, IsSome};
 ghost use Rattle.std.specs.Prelude.{IfSome, IfNone, OnSome, Ok, map, take, min, ◌==◌};
 ghost use Rattle.std.specs.List.{list_all, list_any, position_or_len, slice_split};
-ghost use Rattle.std.specs.Char.{is_ascii_digit};
-ghost use Rattle.std.specs.Option.{SomeIff};
-ghost use Rattle.std.specs.Str.Parse.{digits_value};
 ghost use Rattle.hex.specs.Hex.{decode_of};
-ghost use Rattle.ar_language.specs.Words.{IsNumber, IsBytePair, IsBlockWord};
+ghost use Rattle.ar_language.specs.Words.{IsBytePair, IsBlockWord};
 
 /// The most words that are split off. No order has more than seven, so that an eighth is one too many.
 pub const MOST_WORDS: usize = 8;
@@ -52,23 +49,6 @@ fn word_end(text: &str) -> usize
         .iter()
         .position(|byte| *byte == b' ')
         .unwrap_or(bytes.len())
-}
-
-/// Parses a number: 1 to 10 decimal digits.
-pub fn number(word: &str) -> Option<u64>
-    ensures { SomeIff result (IsNumber word.now) (digits_value 10 word.now) }
-{
-    if word.is_empty() || word.len() > 10 {
-        return None;
-    }
-    let mut number: u64 = 0;
-    for byte in word.as_bytes() {
-        if !byte.is_ascii_digit() {
-            return None;
-        }
-        number = number * 10 + u64::from(*byte - b'0');
-    }
-    Some(number)
 }
 
 /// Parses a byte: two hexadecimal digits of either case.

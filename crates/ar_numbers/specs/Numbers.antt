@@ -1,5 +1,6 @@
 -- Numbers and sizes as words.
-use Rattle.std.specs.Prelude.{◌≤◌, ◌<◌, ◌*◌, ◌/◌, ◌^◌, ◌-◌, ◌==◌, if◌then◌else◌, ℕ, IsTrue, List, Option, Some, None, length, take}
+use Rattle.std.specs.Prelude.{◌≤◌, ◌<◌, ◌*◌, ◌/◌, ◌^◌, ◌-◌, ◌==◌, if◌then◌else◌, ℕ, IsTrue, List, Option, Some, None}
+use Rattle.std.specs.Prelude.{length, take}
 use Rattle.std.specs.List.{list_all, slice_get}
 use Rattle.std.specs.Char.{is_ascii_digit}
 use Rattle.std.specs.Str.Parse.{digits_value}

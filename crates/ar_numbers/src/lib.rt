@@ -15,8 +15,8 @@ pub fn number(word: &str) -> Option<u64>
     digits(word.as_bytes())
 }
 
-/// Parses a size, and returns it in sectors of 512 bytes: 1 to 10 decimal digits, which count KiB (K), MiB (M) or GiB (G)
-/// if that letter follows, and sectors otherwise. `None` also if there are 2^32 sectors or more.
+/// Parses a size, and returns it in sectors of 512 bytes: 1 to 10 decimal digits, which count KiB (K), MiB (M) or GiB
+/// (G) if that letter follows, and sectors otherwise. `None` also if there are 2^32 sectors or more.
 pub fn sectors(word: &str) -> Option<u32>
     ensures { SomeIff result (IsSize word.now) (size_sectors word.now) }
 {
