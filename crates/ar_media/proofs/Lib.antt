@@ -1,3 +1,4 @@
 pub mod Files
 pub mod Kept
 pub mod Moments
+pub mod Pieces

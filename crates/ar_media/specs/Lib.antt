@@ -1,5 +1,6 @@
 pub mod CallLaws
 pub mod Calls
+pub mod Copying
 pub mod Fates
 pub mod Kept
 pub mod Media

@@ -1,5 +1,6 @@
 -- What the calls of a medium do to its bytes, and what a crash may do between two syncs.
-use Rattle.std.specs.Prelude.{◌<◌, ◌≡◌, ◌⊎◌, ℕ, ◌+◌, ◌≤◌, min, max, Bool, true, false, List, ◌++◌, length, take, drop, Result, Err, IfErr, IsErrOf, IsTrue}
+use Rattle.std.specs.Prelude.{◌<◌, ◌≡◌, ◌⊎◌, ℕ, ◌+◌, ◌≤◌, min, max, Bool, true, false, List, ◌++◌, length, take, drop}
+use Rattle.std.specs.Prelude.{Result, Err, IfErr, IsErrOf, IsTrue}
 use Rattle.ar_media.specs.declared.error.MediaError.{MediaError}
 use Rattle.ar_media.specs.declared.error.MediaError.TheVariants.{Memory, Failed, Full, Closed}
 

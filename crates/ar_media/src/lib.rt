@@ -2,6 +2,7 @@
 //! earlier one, may leave. What was synced stays, and between two syncs anything may be left of what was written.
 #![tactic(auto)]
 
+mod copying;
 mod error;
 mod media;
 mod memory;
@@ -9,6 +10,7 @@ mod open;
 mod record;
 mod regular;
 
+pub use copying::{are_same, copy_bytes};
 pub use error::MediaError;
 pub use media::Media;
 pub use memory::{Fate, MemoryFile};

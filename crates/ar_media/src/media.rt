@@ -93,6 +93,11 @@ pub trait Media {
         ensures closed { ClosesFor is_usable self.old self.new result }
         ensures usable { is_usable self.new ≡ (is_usable self.old && is_ok result) };
 
+    /// Whether one of its copies is lost. A medium without copies has lost none.
+    fn has_lost_copy(&self) -> bool {
+        false
+    }
+
     /// A process that ends leaves what it had written, so that is one of the outcomes.
     ghost seen_may_stay: { (file : Self) → may_leave file (seen file) };
 

@@ -1,6 +1,10 @@
-//! Tests of files in memory and of regular files: what no contract says.
+//! Tests of files in memory, of regular files and of files in two copies: what no contract says.
 #![tactic(auto)]
 
+#[cfg(test)]
+mod copies;
+#[cfg(test)]
+mod copying;
 #[cfg(test)]
 mod memory;
 #[cfg(test)]

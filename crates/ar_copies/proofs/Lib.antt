@@ -1,0 +1,4 @@
+pub mod Calling
+pub mod Empty
+pub mod Lifting
+pub mod Modelling

@@ -1,0 +1,8 @@
+pub mod Choice
+pub mod Copied
+pub mod Copies
+pub mod Each
+pub mod Laws
+pub mod Model
+pub mod Recorded
+pub mod Steps

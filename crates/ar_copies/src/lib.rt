@@ -1,0 +1,13 @@
+//! A file in two copies, which is a file itself.
+#![tactic(auto)]
+
+mod choice;
+mod copied;
+mod copies;
+mod losses;
+mod past;
+
+pub use choice::Keep;
+pub use copied::CopiedFile;
+pub use copies::{Copies, OtherCopy};
+pub use losses::{Losses, Which};

@@ -1,0 +1,109 @@
+// Which copy of a store is lost. One call that fails decides it for all files of the store, so that none of them goes
+// on with a copy that another has given up. There is no contract: it is a plain number that threads share.
+use ar_media::MediaError;
+use std::io::ErrorKind;
+use std::sync::atomic::{AtomicU64, Ordering};
+
+/// One of the two copies of a store.
+#[derive(Clone, Copy, Debug, PartialEq, Eq)]
+pub enum Which {
+    /// The first.
+    First,
+    /// The second.
+    Second,
+}
+
+impl Which {
+    /// The other one.
+    pub fn other(self) -> Which {
+        match self {
+            Which::First => Which::Second,
+            Which::Second => Which::First,
+        }
+    }
+}
+
+/// The copy of a store that is lost, if one is, and why. The files of the store share it. Once a copy is lost it stays
+/// so, and the other one is not: a store goes on with one copy at least.
+#[derive(Drop)]
+pub struct Losses {
+    // 0 while no copy is lost. Else twice the cause's number and two, and one more for the second copy.
+    loss: AtomicU64,
+}
+
+// The causes that have a number of their own, which is their place. Any other one is stored as the last.
+const CAUSES: [MediaError; 10] = [
+    MediaError::Memory,
+    MediaError::Full,
+    MediaError::Closed,
+    MediaError::Failed(ErrorKind::NotFound),
+    MediaError::Failed(ErrorKind::PermissionDenied),
+    MediaError::Failed(ErrorKind::ReadOnlyFilesystem),
+    MediaError::Failed(ErrorKind::UnexpectedEof),
+    MediaError::Failed(ErrorKind::WriteZero),
+    MediaError::Failed(ErrorKind::TimedOut),
+    MediaError::Failed(ErrorKind::Other),
+];
+
+const UNKNOWN: u64 = 9;
+
+impl Losses {
+    /// No copy is lost.
+    pub fn new() -> Losses {
+        Losses {
+            loss: AtomicU64::new(0),
+        }
+    }
+
+    /// Notes that a copy has failed, and returns whether it is the one that is lost. It is not where the other copy was
+    /// lost before.
+    pub fn note(&self, copy: Which, error: MediaError) -> bool {
+        let loss = number_of(error).min(UNKNOWN) * 2 + 2 + u64::from(copy == Which::Second);
+        let _noted = self
+            .loss
+            .compare_exchange(0, loss, Ordering::SeqCst, Ordering::SeqCst);
+        self.is_lost(copy)
+    }
+
+    /// Whether this copy is lost.
+    pub fn is_lost(&self, copy: Which) -> bool {
+        self.lost() == Some(copy)
+    }
+
+    /// Which copy is lost.
+    pub fn lost(&self) -> Option<Which> {
+        match self.loss.load(Ordering::SeqCst) {
+            0 | 1 => None,
+            loss if loss % 2 == 1 => Some(Which::Second),
+            _ => Some(Which::First),
+        }
+    }
+
+    /// Why this copy is lost. An error of the system that has no number of its own is `Other`.
+    pub fn cause(&self, copy: Which) -> Option<MediaError> {
+        if !self.is_lost(copy) {
+            return None;
+        }
+        let number = self.loss.load(Ordering::SeqCst) / 2;
+        cause_at(number.saturating_sub(1))
+    }
+}
+
+// The place of an error among the causes.
+fn number_of(error: MediaError) -> u64 {
+    let mut number = 0;
+    for cause in CAUSES {
+        if cause == error {
+            return number;
+        }
+        if number < UNKNOWN {
+            number += 1;
+        }
+    }
+    UNKNOWN
+}
+
+// The cause of this number.
+fn cause_at(number: u64) -> Option<MediaError> {
+    CAUSES.get(number as usize).copied()
+}
