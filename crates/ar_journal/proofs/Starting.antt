@@ -1,5 +1,6 @@
 -- Two copies that start.
-use Rattle.std.proofs.Common.{◌≡◌, ◌⊎◌, inl, inr, ℕ, zero, suc, Bool, true, false, if◌then◌else◌, List, [], ◌∷◌, get_or, take, IsTrue, refl, sym, ◌∙◌, ap, subst}
+use Rattle.std.proofs.Common.{◌≡◌, ◌⊎◌, inl, inr, ℕ, zero, suc, Bool, true, false, if◌then◌else◌, List, [], ◌∷◌, get_or}
+use Rattle.std.proofs.Common.{take, IsTrue, refl, sym, ◌∙◌, ap, subst}
 use Rattle.ar_log.specs.Codec.{Batch}
 use Rattle.ar_log.specs.Log.{batches_of}
 use Rattle.ar_journal.specs.Copying.{generation_in, generation, Mirrors, Starts}
@@ -10,9 +11,12 @@ use Rattle.ar_journal.specs.declared.mirrored.MirroredJournal.{MirroredJournal}
 use Rattle.ar_log.proofs.Ahead.{reads_then}
 use Rattle.ar_journal.proofs.Naming.{chosen_named}
 
-module _ {M : Type 0} (seen : M → List ℕ) (may_leave : M → List ℕ → Type 0) (moment : M → ℕ) (left_since : M → ℕ → List ℕ → Type 0) (is_clean : M → Bool)
-    (from taken to : Journal M) (reads : ReadsLog seen may_leave moment left_since is_clean from taken) (ready : IsReady seen may_leave is_clean taken)
-    (is_open : from.active.is_closed ≡ false) (mirrors : Mirrors seen may_leave is_clean taken to) (mirror : MirroredJournal M) where
+module _ {M : Type 0} (seen : M → List ℕ) (may_leave : M → List ℕ → Type 0) (moment : M → ℕ)
+    (left_since : M → ℕ → List ℕ → Type 0) (is_clean : M → Bool)
+    (from taken to : Journal M) (reads : ReadsLog seen may_leave moment left_since is_clean from taken)
+    (ready : IsReady seen may_leave is_clean taken)
+    (is_open : from.active.is_closed ≡ false) (mirrors : Mirrors seen may_leave is_clean taken to)
+    (mirror : MirroredJournal M) where
   R : Journal M → Type 0
   R j = IsReady seen may_leave is_clean j
 
@@ -41,7 +45,8 @@ module _ {M : Type 0} (seen : M → List ℕ) (may_leave : M → List ℕ → Ty
           first = λ now. ap (batches_now seen) first ∙ same;
           second = λ now.
               ap (batches_now seen) second
-              ∙ mirrors.same (sym (ap closed second) ∙ now) (subst C first (sound.first open_first)).active (subst C second (sound.second now)).active
+              ∙ mirrors.same (sym (ap closed second) ∙ now) (subst C first (sound.first open_first)).active
+              (subst C second (sound.second now)).active
               ∙ same;
         };
         clean = λ sound. clean_before (subst C first (sound.first open_first));
@@ -60,7 +65,8 @@ module _ {M : Type 0} (seen : M → List ℕ) (may_leave : M → List ℕ → Ty
         has = λ sound. record {
           first = λ now.
               ap (batches_now seen) first
-              ∙ mirrors.same (sym (ap closed first) ∙ now) (subst C second (sound.second open_second)).active (subst C first (sound.first now)).active
+              ∙ mirrors.same (sym (ap closed first) ∙ now) (subst C second (sound.second open_second)).active
+              (subst C first (sound.first now)).active
               ∙ same;
           second = λ now. ap (batches_now seen) second ∙ same;
         };
@@ -68,14 +74,17 @@ module _ {M : Type 0} (seen : M → List ℕ) (may_leave : M → List ℕ → Ty
       }
 
 -- the batches of the files that it was started from
-pub starts_with : {M : Type 0} (seen : M → List ℕ) (may_leave : M → List ℕ → Type 0) (is_clean : M → Bool) (from : Journal M) (mirror : MirroredJournal M) (batches : List Batch)
-    → (IsClean is_clean from → batches_now seen from ≡ batches) → Starts seen may_leave is_clean from mirror → IsSound is_clean mirror → HasBatches seen batches mirror
+pub starts_with : {M : Type 0} (seen : M → List ℕ) (may_leave : M → List ℕ → Type 0) (is_clean : M → Bool)
+    (from : Journal M) (mirror : MirroredJournal M) (batches : List Batch)
+    → (IsClean is_clean from → batches_now seen from ≡ batches) → Starts seen may_leave is_clean from mirror
+    → IsSound is_clean mirror → HasBatches seen batches mirror
 starts_with seen may_leave is_clean from mirror batches are starts sound =
     let P : List Batch → Type 0 = λ b. HasBatches seen b mirror in
     subst P (are (starts.clean sound)) (starts.has sound)
 
 -- a journal whose first batch is this head is of its generation
-pub generation_is : (batches : List Batch) (n : ℕ) (head : List ℕ) → take n batches ≡ (head ∷ []) ∷ [] → generation batches ≡ generation_in head
+pub generation_is : (batches : List Batch) (n : ℕ) (head : List ℕ) → take n batches ≡ (head ∷ []) ∷ []
+    → generation batches ≡ generation_in head
 generation_is [] zero head is = absurd (cc is)
 generation_is [] (suc n) head is = absurd (cc is)
 generation_is (batch ∷ batches) zero head is = absurd (cc is)
@@ -84,15 +93,20 @@ generation_is (batch ∷ batches) (suc n) head is =
     ap (λ (b : Batch). generation (b ∷ batches)) first
 
 -- the selector names one of two media
-pub chosen_is : {M : Type 0} (seen : M → List ℕ) (is_second : Bool) (s : List ℕ) (first second : M) → Names is_second s → chosen s (seen first) (seen second) ≡ seen (if is_second then second else first)
+pub chosen_is : {M : Type 0} (seen : M → List ℕ) (is_second : Bool) (s : List ℕ) (first second : M) → Names is_second s
+    → chosen s (seen first) (seen second) ≡ seen (if is_second then second else first)
 chosen_is seen true s first second named = chosen_named true s (seen second) (seen first) named
 chosen_is seen false s first second named = chosen_named false s (seen first) (seen second) named
 
 -- one read of the active log after another
-pub reads_log_then : {M : Type 0} (seen : M → List ℕ) (may_leave : M → List ℕ → Type 0) (moment : M → ℕ) (left_since : M → ℕ → List ℕ → Type 0) (is_clean : M → Bool) (old mid new : Journal M)
-    → ReadsLog seen may_leave moment left_since is_clean old mid → ReadsLog seen may_leave moment left_since is_clean mid new → ReadsLog seen may_leave moment left_since is_clean old new
+pub reads_log_then : {M : Type 0} (seen : M → List ℕ) (may_leave : M → List ℕ → Type 0) (moment : M → ℕ)
+    (left_since : M → ℕ → List ℕ → Type 0) (is_clean : M → Bool) (old mid new : Journal M)
+    → ReadsLog seen may_leave moment left_since is_clean old mid
+    → ReadsLog seen may_leave moment left_since is_clean mid new
+    → ReadsLog seen may_leave moment left_since is_clean old new
 reads_log_then seen may_leave moment left_since is_clean old mid new first second = record {
-  media = reads_then seen may_leave moment left_since is_clean old.active.media mid.active.media new.active.media first.media second.media;
+  media = reads_then seen may_leave moment left_since is_clean old.active.media mid.active.media new.active.media
+      first.media second.media;
   end = second.end ∙ first.end;
   number = second.number ∙ first.number;
   is_closed = second.is_closed ∙ first.is_closed;

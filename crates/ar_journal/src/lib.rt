@@ -11,6 +11,7 @@
 #![tactic(auto)]
 
 mod contents;
+mod copied;
 mod copying;
 mod files;
 mod journal;
@@ -22,6 +23,7 @@ mod selector;
 mod switch;
 
 pub use contents::first_place;
+pub use copied::{CopiedStart, open_copies, single_copy};
 pub use files::JournalFiles;
 pub use journal::Journal;
 pub use mirror_start::{CopyState, MirrorStart, open_mirrored};

@@ -1,5 +1,6 @@
 -- Reading a log, batch by batch.
-use Rattle.std.specs.Prelude.{◌≡◌, ◌⊎◌, ℕ, ◌+◌, ◌≤◌, Bool, true, List, [], ◌∷◌, ◌++◌, length, map, take, drop, IsTrue, Vec}
+use Rattle.std.specs.Prelude.{◌≡◌, ◌⊎◌, ℕ, ◌+◌, ◌≤◌, Bool, true, List, [], ◌∷◌, ◌++◌, length, map, take, drop, IsTrue}
+use Rattle.std.specs.Prelude.{Vec}
 use Rattle.std.specs.declared.alloc.Global.{Global}
 use Rattle.ar_log.specs.Codec.{Batch, items_of, number_bytes, encoded}
 use Rattle.ar_log.specs.Log.{AreBatchesFrom, HoldsBatches, batches_len, begins_open, batches_of}

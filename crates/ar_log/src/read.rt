@@ -1,10 +1,12 @@
 //! Reading a log, one batch in memory at a time. Nothing is written. What a clause says of a batch that was read has as
 //! its premise that the medium is clean.
-ghost use Rattle.std.specs.Prelude.{◌≡◌, ◌≢◌, ◌+◌, ◌≤◌, ◌<◌, List, [], ◌∷◌, length, take, drop, OnOk, IfOk, IfErr, IfSome, IfNone, IsTrue, true, false};
+ghost use Rattle.std.specs.Prelude.{◌≡◌, ◌≢◌, ◌+◌, ◌≤◌, ◌<◌, List, [], ◌∷◌, length, take, drop, OnOk, IfOk, IfErr};
+ghost use Rattle.std.specs.Prelude.{IfSome, IfNone, IsTrue, true, false};
 ghost use Rattle.ar_log.specs.Codec.{Batch, number_bytes, encoded, items_of};
 ghost use Rattle.ar_log.specs.Failure.{is_damage, is_of_medium, ReportsMedium};
 ghost use Rattle.ar_log.specs.Log.{magic, BeginsWith, HoldsBatches};
-ghost use Rattle.ar_log.specs.Reading.{OnlyReads, HasHead, IsClosedGate, IsDamage, GoesAfter, batches_before, IsAt, ReadsOn};
+ghost use Rattle.ar_log.specs.Reading.{OnlyReads, HasHead, IsClosedGate, IsDamage, GoesAfter, batches_before, IsAt};
+ghost use Rattle.ar_log.specs.Reading.{ReadsOn};
 
 use crate::codec::{batch_digest, decode, number_of};
 use crate::new_log::MAGIC;

@@ -2,7 +2,7 @@
 ghost use Rattle.std.specs.Prelude.{◌≡◌, false, IsTrue};
 ghost use Rattle.ar_log.specs.Log.{IsSynced};
 
-use ar_log::{Log, LogError, Place, create, cut_torn, next_batch, open};
+use ar_log::{Log, LogError, Place, create, next_batch, open};
 use ar_media::{Fate, Media, MemoryFile};
 use std::alloc::{AllocError, Global};
 use std::process::Abort;
@@ -76,11 +76,10 @@ pub fn read_all(alloc: Global, file: &mut MemoryFile) -> Result<Vec<Vec<Vec<u8>>
     Ok(batches)
 }
 
-/// Reads a log to its end, and cuts off what a crash left after it.
-pub fn recover(alloc: Global, file: &mut MemoryFile) -> Result<(), LogError> {
+/// The closed gate after the last batch of a log.
+pub fn end_of(alloc: Global, file: &mut MemoryFile) -> Result<Place, LogError> {
     let mut batches = Vec::new(alloc);
-    let end = read_on(alloc, file, &mut batches)?;
-    cut_torn(file, end)
+    read_on(alloc, file, &mut batches)
 }
 
 fn read_on(

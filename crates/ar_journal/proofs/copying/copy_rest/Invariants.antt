@@ -4,7 +4,8 @@ use Rattle.ar_journal.proofs.copying.copy_rest.Given as goal
 
 abbrev pub invariant-copying : goal.invariant-copying
 invariant-copying g l = record {
-  from_reads : ReadsLog g.M.Media.seen g.M.Media.may_leave g.M.Media.moment g.M.Media.left_since g.M.Media.is_clean l.fn.from l.from;
+  from_reads : ReadsLog g.M.Media.seen g.M.Media.may_leave g.M.Media.moment g.M.Media.left_since g.M.Media.is_clean
+      l.fn.from l.from;
   from_ready : IsReady g.M.Media.seen g.M.Media.may_leave g.M.Media.is_clean l.from;
   to_ready : IsReady g.M.Media.seen g.M.Media.may_leave g.M.Media.is_clean l.to;
   clean : g.M.Media.is_clean l.to.active.media ≡ g.M.Media.is_clean l.fn.to.active.media;

@@ -10,7 +10,11 @@ returns-in-Ok-start_copy g c =
       ready = ⊎_elim (λ s. s.ready) (λ s. s.ready) how;
       goes_on = ⊎_elim (λ s. s.goes_on) (λ s. s.goes_on) how;
       has = λ sound. ⊎_elim
-          (λ s. inl (starts_with g.M.Media.seen g.M.Media.may_leave g.M.Media.is_clean c.in-Ok.one start.journal _ c.in-Ok.ensures.batches s sound))
-          (λ s. inr (starts_with g.M.Media.seen g.M.Media.may_leave g.M.Media.is_clean c.in-Ok-start_copy.other start.journal _ c.in-Ok-start_copy.ensures.batches s sound))
+          (λ s. inl
+          (starts_with g.M.Media.seen g.M.Media.may_leave g.M.Media.is_clean c.in-Ok.one start.journal _
+          c.in-Ok.ensures.batches s sound))
+          (λ s. inr
+          (starts_with g.M.Media.seen g.M.Media.may_leave g.M.Media.is_clean c.in-Ok-start_copy.other start.journal
+          _ c.in-Ok-start_copy.ensures.batches s sound))
           how;
     })

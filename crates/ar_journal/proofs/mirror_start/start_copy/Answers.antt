@@ -15,5 +15,6 @@ returns-in-Ok-finish-clause-batches g c clean =
     c.in-Ok-finish.ensures.batches clean.active
     ∙ ap (λ (f : List ℕ). batches_of f) (
     files.active.same
-    ∙ sym (chosen_is g.M.Media.seen reader.is_second (g.M.Media.seen c.args.files.selector) c.args.files.first c.args.files.second (subst N files.selector.same named))
+    ∙ sym (chosen_is g.M.Media.seen reader.is_second (g.M.Media.seen c.args.files.selector) c.args.files.first
+    c.args.files.second (subst N files.selector.same named))
     )

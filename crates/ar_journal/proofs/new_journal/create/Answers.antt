@@ -19,4 +19,5 @@ returns-in-Ok-clause-ready g c =
 
 pub returns-in-Ok-clause-batches : goal.returns-in-Ok-clause-batches
 returns-in-Ok-clause-batches g c =
-    batches_of_stands ((c.args.head.now ∷ []) ∷ []) (g.M.Media.seen c.write_files.new.files.first) c.in-Ok.ensures.made.first
+    batches_of_stands ((c.args.head.now ∷ []) ∷ [])
+    (g.M.Media.seen c.write_files.new.files.first) c.in-Ok.ensures.made.first

@@ -8,11 +8,13 @@ returns-in_default-clause-damaged c _ =
     let fits : length c.args.payload.now < 2 ^ 64 = search rules in
     let some : 0 < length c.loop-rest.rest.now = search (rules, arith) in
     let short : length c.loop-rest.rest.now < 8 = search (rules, arith) in
-    malformed (items_of c.loop-rest.records.items) c.loop-rest.rest.now c.args.payload.now c.loop-rest.invariant fits some (inl short)
+    malformed (items_of c.loop-rest.records.items) c.loop-rest.rest.now c.args.payload.now c.loop-rest.invariant fits
+    some (inl short)
 
 pub returns-then-len-after-clause-damaged : goal.returns-then-len-after-clause-damaged
 returns-then-len-after-clause-damaged c _ =
     let fits : length c.args.payload.now < 2 ^ 64 = search rules in
     let some : 0 < length c.loop-rest.rest.now = search (rules, arith) in
     let less : length (drop 8 c.loop-rest.rest.now) < number_of (take 8 c.loop-rest.rest.now) = search (rules, arith) in
-    malformed (items_of c.loop-rest.records.items) c.loop-rest.rest.now c.args.payload.now c.loop-rest.invariant fits some (inr less)
+    malformed (items_of c.loop-rest.records.items) c.loop-rest.rest.now c.args.payload.now c.loop-rest.invariant fits
+    some (inr less)

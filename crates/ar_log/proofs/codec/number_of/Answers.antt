@@ -8,4 +8,5 @@ unfolding number_of
 returns-clause-number c = search rules
 
 pub returns-clause-back : goal.returns-clause-back
-returns-clause-back c = bytes_back c.args.bytes c.from_le_bytes.result (search rules) (search rules) (returns-clause-number c)
+returns-clause-back c =
+    bytes_back c.args.bytes c.from_le_bytes.result (search rules) (search rules) (returns-clause-number c)

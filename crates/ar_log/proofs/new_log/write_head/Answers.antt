@@ -14,10 +14,14 @@ returns-in_err-write_synced-2-clause-any_moment g c =
     let P : List ℕ → Type 0 = IsBegun c.args.head.now old in
     let at_start = started g.M.Media.moment g.M.Media.left_since media P
     (λ f left. begun_first c.args.head.now old f (g.met.M.Media.only_now media f left)) in
-    let zeros = tears_on g.M.Media.moment g.M.Media.left_since g.M.Media.may_leave _ _ media media c.write_synced.new.media P at_start c.write_synced.ensures.tears
+    let zeros =
+    tears_on g.M.Media.moment g.M.Media.left_since g.M.Media.may_leave _ _ media media c.write_synced.new.media P
+    at_start c.write_synced.ensures.tears
     (begun_torn c.args.head.now old) in
-    tears_on g.M.Media.moment g.M.Media.left_since g.M.Media.may_leave _ _ media c.write_synced.new.media c.write_synced-2.new.media P zeros c.write_synced-2.ensures.tears
-    (begun_zeros c.args.head.now old _ (g.M.Media.seen media) (g.M.Media.seen c.write_synced.new.media) (g.M.Media.may_leave c.write_synced.new.media)
+    tears_on g.M.Media.moment g.M.Media.left_since g.M.Media.may_leave _ _ media c.write_synced.new.media
+    c.write_synced-2.new.media P zeros c.write_synced-2.ensures.tears
+    (begun_zeros c.args.head.now old _ (g.M.Media.seen media) (g.M.Media.seen c.write_synced.new.media)
+    (g.M.Media.may_leave c.write_synced.new.media)
     (c.in_ok-write_synced.ensures.written (omega arith)) c.in_ok-write_synced.ensures.durable)
 
 pub returns-in_err-write_synced-3-clause-any_moment : goal.returns-in_err-write_synced-3-clause-any_moment
@@ -27,16 +31,25 @@ returns-in_err-write_synced-3-clause-any_moment g c =
     let P : List ℕ → Type 0 = IsBegun c.args.head.now old in
     let at_start = started g.M.Media.moment g.M.Media.left_since media P
     (λ f left. begun_first c.args.head.now old f (g.met.M.Media.only_now media f left)) in
-    let zeros = tears_on g.M.Media.moment g.M.Media.left_since g.M.Media.may_leave _ _ media media c.write_synced.new.media P at_start c.write_synced.ensures.tears
+    let zeros =
+    tears_on g.M.Media.moment g.M.Media.left_since g.M.Media.may_leave _ _ media media c.write_synced.new.media P
+    at_start c.write_synced.ensures.tears
     (begun_torn c.args.head.now old) in
-    let second = tears_on g.M.Media.moment g.M.Media.left_since g.M.Media.may_leave _ _ media c.write_synced.new.media c.write_synced-2.new.media P zeros c.write_synced-2.ensures.tears
-    (begun_zeros c.args.head.now old _ (g.M.Media.seen media) (g.M.Media.seen c.write_synced.new.media) (g.M.Media.may_leave c.write_synced.new.media)
+    let second =
+    tears_on g.M.Media.moment g.M.Media.left_since g.M.Media.may_leave _ _ media c.write_synced.new.media
+    c.write_synced-2.new.media P zeros c.write_synced-2.ensures.tears
+    (begun_zeros c.args.head.now old _ (g.M.Media.seen media) (g.M.Media.seen c.write_synced.new.media)
+    (g.M.Media.may_leave c.write_synced.new.media)
     (c.in_ok-write_synced.ensures.written (omega arith)) c.in_ok-write_synced.ensures.durable) in
-    let behind = headed c.args.head.now (g.M.Media.seen media) (g.M.Media.seen c.write_synced.new.media) (g.M.Media.seen c.write_synced-2.new.media) c.deref.result.now
+    let behind =
+    headed c.args.head.now (g.M.Media.seen media) (g.M.Media.seen c.write_synced.new.media)
+    (g.M.Media.seen c.write_synced-2.new.media) c.deref.result.now
     (c.deref.ensures.value ∙ c.in_ok-bytes.ensures.bytes) c.in_ok-bytes.ensures.fits
     (c.in_ok-write_synced.ensures.written (omega arith)) c.in_ok-write_synced-2.ensures.written in
-    tears_on g.M.Media.moment g.M.Media.left_since g.M.Media.may_leave _ _ media c.write_synced-2.new.media c.write_synced-3.new.media P second c.write_synced-3.ensures.tears
-    (begun_head c.args.head.now old (g.M.Media.seen c.write_synced-2.new.media) (g.M.Media.may_leave c.write_synced-2.new.media) behind c.in_ok-write_synced-2.ensures.durable)
+    tears_on g.M.Media.moment g.M.Media.left_since g.M.Media.may_leave _ _ media c.write_synced-2.new.media
+    c.write_synced-3.new.media P second c.write_synced-3.ensures.tears
+    (begun_head c.args.head.now old (g.M.Media.seen c.write_synced-2.new.media)
+    (g.M.Media.may_leave c.write_synced-2.new.media) behind c.in_ok-write_synced-2.ensures.durable)
 
 pub returns-clause-any_moment : goal.returns-clause-any_moment
 returns-clause-any_moment g c =
@@ -45,24 +58,36 @@ returns-clause-any_moment g c =
     let P : List ℕ → Type 0 = IsBegun c.args.head.now old in
     let at_start = started g.M.Media.moment g.M.Media.left_since media P
     (λ f left. begun_first c.args.head.now old f (g.met.M.Media.only_now media f left)) in
-    let zeros = tears_on g.M.Media.moment g.M.Media.left_since g.M.Media.may_leave _ _ media media c.write_synced.new.media P at_start c.write_synced.ensures.tears
+    let zeros =
+    tears_on g.M.Media.moment g.M.Media.left_since g.M.Media.may_leave _ _ media media c.write_synced.new.media P
+    at_start c.write_synced.ensures.tears
     (begun_torn c.args.head.now old) in
-    let second = tears_on g.M.Media.moment g.M.Media.left_since g.M.Media.may_leave _ _ media c.write_synced.new.media c.write_synced-2.new.media P zeros c.write_synced-2.ensures.tears
-    (begun_zeros c.args.head.now old _ (g.M.Media.seen media) (g.M.Media.seen c.write_synced.new.media) (g.M.Media.may_leave c.write_synced.new.media)
+    let second =
+    tears_on g.M.Media.moment g.M.Media.left_since g.M.Media.may_leave _ _ media c.write_synced.new.media
+    c.write_synced-2.new.media P zeros c.write_synced-2.ensures.tears
+    (begun_zeros c.args.head.now old _ (g.M.Media.seen media) (g.M.Media.seen c.write_synced.new.media)
+    (g.M.Media.may_leave c.write_synced.new.media)
     (c.in_ok-write_synced.ensures.written (omega arith)) c.in_ok-write_synced.ensures.durable) in
-    let behind = headed c.args.head.now (g.M.Media.seen media) (g.M.Media.seen c.write_synced.new.media) (g.M.Media.seen c.write_synced-2.new.media) c.deref.result.now
+    let behind =
+    headed c.args.head.now (g.M.Media.seen media) (g.M.Media.seen c.write_synced.new.media)
+    (g.M.Media.seen c.write_synced-2.new.media) c.deref.result.now
     (c.deref.ensures.value ∙ c.in_ok-bytes.ensures.bytes) c.in_ok-bytes.ensures.fits
     (c.in_ok-write_synced.ensures.written (omega arith)) c.in_ok-write_synced-2.ensures.written in
-    tears_on g.M.Media.moment g.M.Media.left_since g.M.Media.may_leave _ _ media c.write_synced-2.new.media c.write_synced-3.new.media P second c.write_synced-3.ensures.tears
-    (begun_head c.args.head.now old (g.M.Media.seen c.write_synced-2.new.media) (g.M.Media.may_leave c.write_synced-2.new.media) behind c.in_ok-write_synced-2.ensures.durable)
+    tears_on g.M.Media.moment g.M.Media.left_since g.M.Media.may_leave _ _ media c.write_synced-2.new.media
+    c.write_synced-3.new.media P second c.write_synced-3.ensures.tears
+    (begun_head c.args.head.now old (g.M.Media.seen c.write_synced-2.new.media)
+    (g.M.Media.may_leave c.write_synced-2.new.media) behind c.in_ok-write_synced-2.ensures.durable)
 
 pub returns-clause-stands : goal.returns-clause-stands
 returns-clause-stands g c =
     let media = c.args.media.now in
-    let behind = headed c.args.head.now (g.M.Media.seen media) (g.M.Media.seen c.write_synced.new.media) (g.M.Media.seen c.write_synced-2.new.media) c.deref.result.now
+    let behind =
+    headed c.args.head.now (g.M.Media.seen media) (g.M.Media.seen c.write_synced.new.media)
+    (g.M.Media.seen c.write_synced-2.new.media) c.deref.result.now
     (c.deref.ensures.value ∙ c.in_ok-bytes.ensures.bytes) c.in_ok-bytes.ensures.fits
     (c.in_ok-write_synced.ensures.written (omega arith)) c.in_ok-write_synced-2.ensures.written in
-    created c.args.head.now (g.M.Media.seen c.write_synced-2.new.media) (g.M.Media.seen c.write_synced-3.new.media) behind (c.in_ok-write_synced-3.ensures.written (omega arith))
+    created c.args.head.now (g.M.Media.seen c.write_synced-2.new.media)
+    (g.M.Media.seen c.write_synced-3.new.media) behind (c.in_ok-write_synced-3.ensures.written (omega arith))
 
 pub returns-clause-end : goal.returns-clause-end
 returns-clause-end g c =

@@ -13,37 +13,48 @@ pub returns-in-Err-clause-any_moment : goal.returns-in-Err-clause-any_moment
 returns-in-Err-clause-any_moment g c is_open clean =
     let journal = c.args.self.now in
     let media = journal.active.media in
-    let len = only_read g.M.Media.seen g.M.Media.may_leave g.M.Media.moment g.M.Media.left_since g.M.Media.is_clean media c.len.new.self c.len.ensures.seen c.len.ensures.crash c.len.ensures.time c.len.ensures.clean in
+    let len =
+    only_read g.M.Media.seen g.M.Media.may_leave g.M.Media.moment g.M.Media.left_since g.M.Media.is_clean media
+    c.len.new.self c.len.ensures.seen c.len.ensures.crash c.len.ensures.time c.len.ensures.clean in
     let synced = c.requires.ready.log is_open (len.clean clean.active) in
     let P : List ℕ → Type 0 = HoldsBatches (batches_of (g.M.Media.seen media)) in
     leaves_journal g.M.Media.moment g.M.Media.left_since journal _ P refl
     (λ s left. c.requires.ready.named is_open clean.selector s (g.met.M.Media.only_now journal.selector s left))
-    (read_run g.M.Media.seen g.M.Media.may_leave g.M.Media.moment g.M.Media.left_since g.M.Media.is_clean media c.len.new.self P len
+    (read_run g.M.Media.seen g.M.Media.may_leave g.M.Media.moment g.M.Media.left_since g.M.Media.is_clean media
+    c.len.new.self P len
     (λ f left. synced.durable f (g.met.M.Media.only_now media f left)) (λ f left. synced.durable f left))
 
 pub returns-in-None-clause-any_moment : goal.returns-in-None-clause-any_moment
 returns-in-None-clause-any_moment g c is_open clean =
     let journal = c.args.self.now in
     let media = journal.active.media in
-    let len = only_read g.M.Media.seen g.M.Media.may_leave g.M.Media.moment g.M.Media.left_since g.M.Media.is_clean media c.len.new.self c.len.ensures.seen c.len.ensures.crash c.len.ensures.time c.len.ensures.clean in
+    let len =
+    only_read g.M.Media.seen g.M.Media.may_leave g.M.Media.moment g.M.Media.left_since g.M.Media.is_clean media
+    c.len.new.self c.len.ensures.seen c.len.ensures.crash c.len.ensures.time c.len.ensures.clean in
     let synced = c.requires.ready.log is_open (len.clean clean.active) in
     let P : List ℕ → Type 0 = HoldsBatches (batches_of (g.M.Media.seen media)) in
     leaves_journal g.M.Media.moment g.M.Media.left_since journal _ P refl
     (λ s left. c.requires.ready.named is_open clean.selector s (g.met.M.Media.only_now journal.selector s left))
-    (read_run g.M.Media.seen g.M.Media.may_leave g.M.Media.moment g.M.Media.left_since g.M.Media.is_clean media c.len.new.self P len
+    (read_run g.M.Media.seen g.M.Media.may_leave g.M.Media.moment g.M.Media.left_since g.M.Media.is_clean media
+    c.len.new.self P len
     (λ f left. synced.durable f (g.met.M.Media.only_now media f left)) (λ f left. synced.durable f left))
 
 pub returns-in-Some-clause-any_moment : goal.returns-in-Some-clause-any_moment
 returns-in-Some-clause-any_moment g c is_open clean =
     let journal = c.args.self.now in
     let media = journal.active.media in
-    let len = only_read g.M.Media.seen g.M.Media.may_leave g.M.Media.moment g.M.Media.left_since g.M.Media.is_clean media c.len.new.self c.len.ensures.seen c.len.ensures.crash c.len.ensures.time c.len.ensures.clean in
-    let reads = reads_then g.M.Media.seen g.M.Media.may_leave g.M.Media.moment g.M.Media.left_since g.M.Media.is_clean media c.len.new.self c.next_batch.new.media len c.next_batch.ensures.reads in
+    let len =
+    only_read g.M.Media.seen g.M.Media.may_leave g.M.Media.moment g.M.Media.left_since g.M.Media.is_clean media
+    c.len.new.self c.len.ensures.seen c.len.ensures.crash c.len.ensures.time c.len.ensures.clean in
+    let reads =
+    reads_then g.M.Media.seen g.M.Media.may_leave g.M.Media.moment g.M.Media.left_since g.M.Media.is_clean media
+    c.len.new.self c.next_batch.new.media len c.next_batch.ensures.reads in
     let synced = c.requires.ready.log is_open (reads.clean clean.active) in
     let P : List ℕ → Type 0 = HoldsBatches (batches_of (g.M.Media.seen media)) in
     leaves_journal g.M.Media.moment g.M.Media.left_since journal _ P refl
     (λ s left. c.requires.ready.named is_open clean.selector s (g.met.M.Media.only_now journal.selector s left))
-    (read_run g.M.Media.seen g.M.Media.may_leave g.M.Media.moment g.M.Media.left_since g.M.Media.is_clean media c.next_batch.new.media P reads
+    (read_run g.M.Media.seen g.M.Media.may_leave g.M.Media.moment g.M.Media.left_since g.M.Media.is_clean media
+    c.next_batch.new.media P reads
     (λ f left. synced.durable f (g.met.M.Media.only_now media f left)) (λ f left. synced.durable f left))
 
 pub returns-in-None-clause-sound : goal.returns-in-None-clause-sound
@@ -51,15 +62,26 @@ returns-in-None-clause-sound g c is clean =
     let first = c.len.ensures.clean clean in
     let media = c.args.self.now.active.media in
     let synced = c.requires.ready.log c.if-self.false first in
-    omega (arith, c.in-None.ensures.inside, c.in-Ok.ensures.len clean, inside (g.M.Media.seen media) synced.file c.args.place (c.requires.place first))
+    omega (
+      arith,
+      c.in-None.ensures.inside,
+      c.in-Ok.ensures.len clean,
+      inside
+          (g.M.Media.seen media) synced.file c.args.place (c.requires.place first),
+    )
 
 pub returns-in-Some-clause-ready : goal.returns-in-Some-clause-ready
 returns-in-Some-clause-ready g c =
     let journal = c.args.self.now in
     let media = journal.active.media in
-    let len = only_read g.M.Media.seen g.M.Media.may_leave g.M.Media.moment g.M.Media.left_since g.M.Media.is_clean media c.len.new.self c.len.ensures.seen c.len.ensures.crash c.len.ensures.time c.len.ensures.clean in
-    let reads = reads_then g.M.Media.seen g.M.Media.may_leave g.M.Media.moment g.M.Media.left_since g.M.Media.is_clean media c.len.new.self c.next_batch.new.media len c.next_batch.ensures.reads in
-    ready_read g.M.Media.seen g.M.Media.may_leave g.M.Media.moment g.M.Media.left_since g.M.Media.is_clean journal _ record {
+    let len =
+    only_read g.M.Media.seen g.M.Media.may_leave g.M.Media.moment g.M.Media.left_since g.M.Media.is_clean media
+    c.len.new.self c.len.ensures.seen c.len.ensures.crash c.len.ensures.time c.len.ensures.clean in
+    let reads =
+    reads_then g.M.Media.seen g.M.Media.may_leave g.M.Media.moment g.M.Media.left_since g.M.Media.is_clean media
+    c.len.new.self c.next_batch.new.media len c.next_batch.ensures.reads in
+    ready_read g.M.Media.seen g.M.Media.may_leave g.M.Media.moment g.M.Media.left_since g.M.Media.is_clean journal _
+    record {
       media = reads;
       end = refl;
       number = refl;
@@ -82,7 +104,8 @@ returns-in-Some-clause-batch g c =
     let left : now.at + now.left ≡ length file = c.in-Some.ensures.rest ∙ c.in-Ok.ensures.len back in
     let here = is_at file synced.file c.args.place behind now same.0 same.1 left in
     let P : List ℕ → Type 0 = λ f. IsAt f now → ReadsOn f (items_of read.records.items) now read.next in
-    reads_next file synced.file c.args.place behind (items_of read.records.items) now read.next same.0 (subst P c.len.ensures.seen (reads clean) here))
+    reads_next file synced.file c.args.place behind (items_of read.records.items) now read.next same.0
+    (subst P c.len.ensures.seen (reads clean) here))
 
 pub returns-in-Some-clause-last : goal.returns-in-Some-clause-last
 returns-in-Some-clause-last g c =

@@ -17,7 +17,8 @@ returns-in-Err-clause-any_moment g c is_open also_open =
           (λ before. named_some journal.is_second s (named s (g.met.M.Media.only_now journal.selector s before)))
           (λ torn. torn_some journal.is_second torn.0 s (named torn.0 torn.1) torn.2)
           (c.write_selector.ensures.tears.since (g.M.Media.moment journal.selector) s (omega arith) left) in
-          of_either journal.is_second s active next (HoldsBatches (batches_of (g.M.Media.seen journal.active.media))) (HoldsBatches (batches_of (g.M.Media.seen successor.media))) some
+          of_either journal.is_second s active next (HoldsBatches (batches_of (g.M.Media.seen journal.active.media)))
+          (HoldsBatches (batches_of (g.M.Media.seen successor.media))) some
           ((c.requires.ready.log is_open clean.active).durable active was)
           ((c.requires.successor also_open next_clean).durable next is);
     }
@@ -34,14 +35,16 @@ returns-clause-any_moment g c is_open also_open =
           (λ before. named_some journal.is_second s (named s (g.met.M.Media.only_now journal.selector s before)))
           (λ torn. torn_some journal.is_second torn.0 s (named torn.0 torn.1) torn.2)
           (c.write_selector.ensures.tears.since (g.M.Media.moment journal.selector) s (omega arith) left) in
-          of_either journal.is_second s active next (HoldsBatches (batches_of (g.M.Media.seen journal.active.media))) (HoldsBatches (batches_of (g.M.Media.seen successor.media))) some
+          of_either journal.is_second s active next (HoldsBatches (batches_of (g.M.Media.seen journal.active.media)))
+          (HoldsBatches (batches_of (g.M.Media.seen successor.media))) some
           ((c.requires.ready.log is_open clean.active).durable active was)
           ((c.requires.successor also_open next_clean).durable next is);
     }
 
 pub returns-in-Err-clause-kept : goal.returns-in-Err-clause-kept
 returns-in-Err-clause-kept g c =
-    let final : is_final c.closing.result ≡ true = ap is_final c.closing.ensures ∙ final_closes c.in-Err.error c.in-Err.ensures.error in
+    let final : is_final c.closing.result ≡ true = ap is_final c.closing.ensures
+    ∙ final_closes c.in-Err.error c.in-Err.ensures.error in
     record {
       back_is = refl;
       closes = λ is. refl;

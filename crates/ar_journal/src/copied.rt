@@ -1,0 +1,193 @@
+//! A journal whose files are kept in two copies of the same bytes.
+ghost use Rattle.std.specs.Prelude.{IfOk, OnOk};
+ghost use Rattle.ar_media.specs.Media.{Only};
+ghost use Rattle.ar_copies.specs.Copied.{copied_may_leave, copied_seen};
+ghost use Rattle.ar_journal.specs.Files.{AreDurable};
+
+use crate::{CopyState, Journal, JournalFiles, MirroredJournal, open_mirrored};
+use ar_copies::{CopiedFile, Losses, Which};
+use ar_log::LogError;
+use ar_media::{Media, MediaError, are_same, copy_bytes};
+use std::alloc::Global;
+
+/// The files of a journal in one copy or two of the same bytes, and what a start made of each copy.
+#[derive(Drop)]
+pub struct CopiedStart<'a, M: Media> {
+    pub files: JournalFiles<CopiedFile<'a, M>>,
+    pub first: CopyState,
+    pub second: CopyState,
+}
+
+/// The files of a journal that has one copy.
+pub fn single_copy<'a, M: Media + Drop>(
+    files: JournalFiles<M>,
+    losses: &'a Losses,
+) -> JournalFiles<CopiedFile<'a, M>>
+    requires { AreDurable M.seen M.may_leave files }
+    ensures { AreDurable (copied_seen M.seen) (copied_may_leave M.seen M.may_leave) result }
+{
+    JournalFiles {
+        selector: CopiedFile::single(files.selector, losses),
+        first: CopiedFile::single(files.first, losses),
+        second: CopiedFile::single(files.second, losses),
+    }
+}
+
+/// Takes the further of two copies of a journal, as `open_mirrored` does, and makes the files of the other the same. A
+/// copy that can't be written is given up, and noted in `losses`.
+pub fn open_copies<'a, M: Media + Drop>(
+    alloc: Global,
+    first: JournalFiles<M>,
+    second: JournalFiles<M>,
+    losses: &'a Losses,
+) -> Result<CopiedStart<'a, M>, LogError>
+    requires first { AreDurable M.seen M.may_leave first }
+    requires second { AreDurable M.seen M.may_leave second }
+    ensures durable { IfOk result (λ start.
+        AreDurable (copied_seen M.seen) (copied_may_leave M.seen M.may_leave) start.files) }
+{
+    let start = open_mirrored(alloc, first, second)?;
+    let (first, second) = (start.first, start.second);
+    let MirroredJournal {
+        first: one,
+        second: other,
+        ..
+    } = start.journal;
+    let one = files_of(one)?;
+    let other = files_of(other)?;
+    match (first, second) {
+        (CopyState::GivenUp(_), _) => alone(other, losses, Which::First, (first, second)),
+        (_, CopyState::GivenUp(_)) => alone(one, losses, Which::Second, (first, second)),
+        _ => both(alloc, one, other, losses, (first, second)),
+    }
+}
+
+// Both copies, once the files of the one that wasn't taken are the same as those of the other.
+fn both<'a, M: Media + Drop>(
+    alloc: Global,
+    one: JournalFiles<M>,
+    other: JournalFiles<M>,
+    losses: &'a Losses,
+    states: (CopyState, CopyState),
+) -> Result<CopiedStart<'a, M>, LogError>
+    ensures durable { IfOk result (λ start.
+        AreDurable (copied_seen M.seen) (copied_may_leave M.seen M.may_leave) start.files) }
+{
+    let (mut one, mut other) = (one, other);
+    let is_first_taken = states.0 == CopyState::Taken;
+    let made = if is_first_taken {
+        make_same(alloc, &mut one, &mut other)
+    } else {
+        make_same(alloc, &mut other, &mut one)
+    };
+    match made {
+        Ok(()) => {
+            sync_all(&mut one).map_err(LogError::Failed)?;
+            sync_all(&mut other).map_err(LogError::Failed)?;
+            Ok(CopiedStart {
+                files: pair(one, other, losses),
+                first: states.0,
+                second: states.1,
+            })
+        }
+        Err(MediaError::Memory) => Err(LogError::Memory),
+        Err(error) if is_first_taken => {
+            let given_up = CopyState::GivenUp(LogError::Failed(error));
+            alone(one, losses, Which::Second, (states.0, given_up))
+        }
+        Err(error) => {
+            let given_up = CopyState::GivenUp(LogError::Failed(error));
+            alone(other, losses, Which::First, (given_up, states.1))
+        }
+    }
+}
+
+// One copy, of which the other is given up.
+fn alone<'a, M: Media + Drop>(
+    files: JournalFiles<M>,
+    losses: &'a Losses,
+    lost: Which,
+    states: (CopyState, CopyState),
+) -> Result<CopiedStart<'a, M>, LogError>
+    ensures durable { IfOk result (λ start.
+        AreDurable (copied_seen M.seen) (copied_may_leave M.seen M.may_leave) start.files) }
+{
+    let mut files = files;
+    sync_all(&mut files).map_err(LogError::Failed)?;
+    let state = match lost {
+        Which::First => states.0,
+        Which::Second => states.1,
+    };
+    losses.note(lost, cause_of(state));
+    Ok(CopiedStart {
+        files: single_copy(files, losses),
+        first: states.0,
+        second: states.1,
+    })
+}
+
+// The files of two copies.
+fn pair<'a, M: Media + Drop>(
+    one: JournalFiles<M>,
+    other: JournalFiles<M>,
+    losses: &'a Losses,
+) -> JournalFiles<CopiedFile<'a, M>>
+    requires one { AreDurable M.seen M.may_leave one }
+    requires other { AreDurable M.seen M.may_leave other }
+    ensures { AreDurable (copied_seen M.seen) (copied_may_leave M.seen M.may_leave) result }
+{
+    JournalFiles {
+        selector: CopiedFile::pair(one.selector, other.selector, losses),
+        first: CopiedFile::pair(one.first, other.first, losses),
+        second: CopiedFile::pair(one.second, other.second, losses),
+    }
+}
+
+// Makes files the same as others, unless they are. The selector is empty meanwhile, so that a crash leaves no journal
+// that is complete in part.
+fn make_same<M: Media>(
+    alloc: Global,
+    from: &mut JournalFiles<M>,
+    to: &mut JournalFiles<M>,
+) -> Result<(), MediaError> {
+    let has_selector = are_same(alloc, &mut from.selector, &mut to.selector)?;
+    let has_first = are_same(alloc, &mut from.first, &mut to.first)?;
+    let has_second = are_same(alloc, &mut from.second, &mut to.second)?;
+    if has_selector && has_first && has_second {
+        return Ok(());
+    }
+    to.selector.cut(0)?;
+    to.selector.sync()?;
+    if !has_first {
+        copy_bytes(alloc, &mut from.first, &mut to.first)?;
+    }
+    if !has_second {
+        copy_bytes(alloc, &mut from.second, &mut to.second)?;
+    }
+    copy_bytes(alloc, &mut from.selector, &mut to.selector)
+}
+
+// Syncs the files, so that a crash leaves what is read.
+fn sync_all<M: Media>(files: &mut JournalFiles<M>) -> Result<(), MediaError>
+    ensures durable { OnOk result (AreDurable M.seen M.may_leave files.new) }
+{
+    files.selector.sync()?;
+    files.first.sync()?;
+    files.second.sync()
+}
+
+// The files of a journal, of which none is out at a start.
+fn files_of<M: Media + Drop>(journal: Journal<M>) -> Result<JournalFiles<M>, LogError> {
+    match journal.into_files() {
+        Ok(files) => Ok(files),
+        Err(_journal) => Err(LogError::Closed),
+    }
+}
+
+// Why a copy is given up.
+fn cause_of(state: CopyState) -> MediaError {
+    match state {
+        CopyState::GivenUp(LogError::Failed(error) | LogError::Refused(error)) => error,
+        _ => MediaError::Closed,
+    }
+}
