@@ -400,7 +400,8 @@ fn switch_to<M: Media + Drop>(
     requires is_open { journal.old.active.is_closed ≡ false }
     requires appendable { IsAppendable M.seen M.may_leave M.is_clean successor }
     ensures switched { OnOk result (Switches journal.old successor journal.new) }
-    ensures either { LeavesEither M.seen M.may_leave M.moment M.left_since M.is_clean journal.old successor journal.new }
+    ensures either { LeavesEither M.seen M.may_leave M.moment M.left_since M.is_clean journal.old successor
+        journal.new }
     ensures failed { IfErr result (λ _. journal.new.active.is_closed ≡ false
         → journal.new ≡ record journal.old { spare = Some successor.media }) }
     ensures ready { IsReady M.seen M.may_leave M.is_clean journal.new }

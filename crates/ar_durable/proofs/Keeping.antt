@@ -2,8 +2,8 @@
 use Rattle.std.proofs.Common.{◌≡◌, ◌≢◌, inl, inr, ℕ, Bool, true, false, cond, ◌&&◌, List, [], ◌∷◌, ◌++◌, Option, Some}
 use Rattle.std.proofs.Common.{None, IsTrue, Vec}
 use Rattle.std.specs.Option.{is_some}
-use Rattle.std.proofs.Common.{Result, Ok, Err, OnOk, IfErr, IfNone, not, refl, sym, ◌∙◌, ap, subst, append_assoc}
-use Rattle.std.proofs.Common.{append-nil}
+use Rattle.std.proofs.Common.{Result, Ok, Err, OnOk, IfErr, IfNone, IfSome, not, refl, sym, ◌∙◌, ap, subst}
+use Rattle.std.proofs.Common.{append_assoc, append-nil}
 use Rattle.std.specs.List.{flat_map}
 use Rattle.std.specs.declared.alloc.Global.{Global}
 use Rattle.std.proofs.lemmas.Grind.{flat_map-append}
@@ -65,7 +65,8 @@ module _ {M : Type 0} (seen : M → List ℕ) (may_leave : M → List ℕ → Ty
   stored_more old bytes r fits is =
       ap (λ (l : List RecordData). log_records (batches_now seen old.journal) ++ l)
       (all_decoded-append old.waiting (bytes ∷ [])
-      ∙ ap (λ (o : Option RecordData). all_decoded old.waiting ++ with_record o []) (ap decoded is ∙ decoded_again r fits))
+      ∙ ap (λ (o : Option RecordData). all_decoded old.waiting ++ with_record o [])
+      (ap decoded is ∙ decoded_again r fits))
       ∙ sym (append_assoc (log_records (batches_now seen old.journal)) (all_decoded old.waiting) (r ∷ []))
 
   -- A record is noted where it is that of the entries by which the history grows.
@@ -74,10 +75,11 @@ module _ {M : Type 0} (seen : M → List ℕ) (may_leave : M → List ℕ → Ty
       → AreRecords seen is_clean old history → EncodesTo r encoded → NotesIf done encoded old new
       → ((a : Address) → own_of a (cond done (r ∷ []) []) ≡ own_of a (records_of more))
       → AreRecords seen is_clean new (history ++ more)
-  noted true None r old new history more before encodes up same = λ going clean. absurd (not_both _ up going)
+  noted true None r old new history more before encodes up same = λ going clean.
+      absurd (not_both _ (ap (λ (s : RecordStore M). is_given_up s) up) going)
   noted true (Some bytes) r old new history more before encodes waits same =
       elim waits [
-        | inl up ↦ λ going clean. absurd (not_both _ up going)
+        | inl up ↦ λ going clean. absurd (not_both _ (ap (λ (s : RecordStore M). is_given_up s) up) going)
         | inr is ↦ subst (λ (s : RecordStore M). AreRecords seen is_clean s (history ++ more)) (sym is) (λ going clean.
             (let was = before going (record { active = clean.active; other = clean.other }) in
             record {
@@ -112,7 +114,8 @@ module _ {M : Type 0} (seen : M → List ℕ) (may_leave : M → List ℕ → Ty
       }))
 
   -- the records that waited are in the journal, and none waits
-  pub committed : (old new : Journal M) (waiting : Batch) → HasFirstBatch seen is_clean old → old.active.is_closed ≡ false
+  pub committed : (old new : Journal M) (waiting : Batch) → HasFirstBatch seen is_clean old
+      → old.active.is_closed ≡ false
       → IsTrue (is_clean old.active.media)
       → batches_now seen new ≡ batches_now seen old ++ waiting ∷ []
       → log_records (batches_now seen new) ++ all_decoded []
@@ -221,8 +224,16 @@ where_none None none X is holds given = given
 where_none (Some x) none X is holds given =
     absurd (let e : true ≡ false = is ∙ ap not holds in cc e)
 
+-- what holds where there is one, if there is one
+pub where_some : {T : Type 0} (found : Option T) (none : Bool) (X : Type 0) → is_some found ≡ not none → none ≡ false
+    → IfSome found (λ _. X) → X
+where_some None none X is holds given =
+    absurd (let e : false ≡ true = is ∙ ap not holds in cc e)
+where_some (Some x) none X is holds given = given
+
 -- the record of a command, if it is noted, is that of its entry
-pub command_same : (recorded changes : Bool) (a : Address) (host : Host) (lun : ℕ) (cdb payload : List ℕ) (reply : Reply)
+pub command_same : (recorded changes : Bool) (a : Address) (host : Host) (lun : ℕ) (cdb payload : List ℕ)
+    (reply : Reply)
     → changes_unit cdb reply ≡ changes
     → own_of a (cond (recorded && changes) (Command host.number lun cdb payload ∷ []) [])
     ≡ own_of a (records_of (cond recorded (entries.Cmd host (exchange_of lun cdb payload reply) ∷ []) []))

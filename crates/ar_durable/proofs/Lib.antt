@@ -1,3 +1,4 @@
+pub mod Crashing
 pub mod Discarding
 pub mod Keeping
 pub mod Replaying

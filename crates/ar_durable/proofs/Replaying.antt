@@ -1,5 +1,6 @@
 -- Batches of records that are executed again, one after another.
-use Rattle.std.proofs.Common.{◌≡◌, ◌≢◌, ◌<◌, ◌+◌, ℕ, List, [], ◌∷◌, ◌++◌, Vec, length, take, get_or, sym, ◌∙◌, ap, subst, append_assoc}
+use Rattle.std.proofs.Common.{◌≡◌, ◌≢◌, ◌<◌, ◌+◌, ℕ, List, [], ◌∷◌, ◌++◌, Vec, length, take, get_or, sym, ◌∙◌, ap}
+use Rattle.std.proofs.Common.{subst, append_assoc}
 use Rattle.std.specs.declared.alloc.Global.{Global}
 use Rattle.std.proofs.lemmas.List.{map_push, take_more}
 use Rattle.ar_unit.specs.Unit.{UnitEntry}
@@ -44,7 +45,8 @@ replayed_head batches history only none =
 pub replayed_more : (batches now : List Batch) (batch : Batch) (old new : List Entry) → IsReplayed batches old
     → now ≡ batches ++ batch ∷ [] → RedoesAll old (all_decoded batch) new → IsReplayed now new
 replayed_more batches now batch old new before is one =
-    let some : batches ≢ [] = λ none. (let e : before.head ∷ before.more ≡ [] = sym before.batches_are ∙ none in cc e) in
+    let some : batches ≢ [] =
+    λ none. (let e : before.head ∷ before.more ≡ [] = sym before.batches_are ∙ none in cc e) in
     record {
       head = before.head;
       more = before.more ++ batch ∷ [];

@@ -35,12 +35,24 @@ pub record IsAllClean {M : Type 0} (is_clean : M → Bool) (store : RecordStore 
 abbrev pub stored_records : {M : Type 0} → (M → List ℕ) → RecordStore M → List RecordData
 stored_records seen store = log_records (batches_now seen store.journal) ++ all_decoded store.waiting
 
+-- the same store, to which nothing is written any more
+abbrev pub closed_store : {M : Type 0} → RecordStore M → RecordStore M
+closed_store store =
+    record store { journal = record store.journal { active = record store.journal.active { is_closed = true } } }
+
 -- A record waits, after the others, or the store is given up: it is where there is no encoding.
 abbrev pub Waits : {M : Type 0} → Option (Vec ℕ Global) → RecordStore M → RecordStore M → Type 0
-Waits None old new = is_given_up new ≡ true
+Waits None old new = new ≡ closed_store old
 Waits (Some encoded) old new =
-    (is_given_up new ≡ true)
+    (new ≡ closed_store old)
     ⊎ (new ≡ record old { waiting = old.waiting ++ encoded.items ∷ [] })
+
+-- no medium was touched
+pub record KeepsMedia {M : Type 0} (old new : RecordStore M) : Type 0 where
+  pub selector : new.journal.selector ≡ old.journal.selector
+  pub active : new.journal.active.media ≡ old.journal.active.media
+  pub is_second : new.journal.is_second ≡ old.journal.is_second
+  pub other : new.other ≡ old.other
 
 -- the store has the same records, unless it is given up
 abbrev pub KeepsRecords : {M : Type 0} → (M → List ℕ) → (M → Bool) → RecordStore M → RecordStore M → Type 0
@@ -57,6 +69,13 @@ pub record KeepsStoredUnits {M : Type 0} (seen : M → List ℕ) (is_clean : M �
   pub units : is_given_up new ≡ false → IsAllClean is_clean new → (a : Address)
       → unit_of (log_records (batches_now seen new.journal)) a ≡ unit_of (log_records (batches_now seen old.journal)) a
   pub waiting : new.waiting ≡ old.waiting
+
+-- Unless the store is given up, its log has the batches from before, with the waiting records as one more or without.
+abbrev pub AppendsOrKeeps : {M : Type 0} → (M → List ℕ) → (M → Bool) → RecordStore M → RecordStore M → Type 0
+AppendsOrKeeps seen is_clean old new =
+    is_given_up new ≡ false → IsTrue (is_clean old.journal.active.media)
+    → (batches_now seen new.journal ≡ batches_now seen old.journal)
+    ⊎ (batches_now seen new.journal ≡ batches_now seen old.journal ++ old.waiting ∷ [])
 
 -- A crash at any moment from old to new leaves the batches of the journal from before, with the waiting records as one
 -- more or without.

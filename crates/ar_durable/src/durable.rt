@@ -9,6 +9,7 @@ ghost use Rattle.ar_history.specs.Kept.{HistoryAgrees};
 ghost use Rattle.ar_history.specs.Seat.{SeatState};
 ghost use Rattle.ar_history.specs.Served.{AnswersCommand, DestagesPart, DiscardsSectors, Maintains, Operates};
 ghost use Rattle.ar_history.specs.Served.{acknowledges, after_refusal, asks_commit};
+ghost use Rattle.ar_durable.specs.Crashes.{AreCommitted, KeepsCommitted};
 ghost use Rattle.ar_durable.specs.Durable.{AreRecords};
 ghost use Rattle.ar_durable.specs.Store.{Lasts};
 
@@ -215,6 +216,8 @@ impl<'a, D: Disk, L: Ledger, M: Media, R> DurableArray<'a, D, L, M, R> {
             StoreState::GivenUp
         } else if self.failure.is_some() {
             StoreState::Failing
+        } else if self.store.has_lost_copy() {
+            StoreState::Degraded
         } else {
             StoreState::Sound
         };
@@ -231,7 +234,8 @@ impl<'a, D: Disk, L: Ledger, M: Media, R> DurableArray<'a, D, L, M, R> {
 impl<'a, D: Disk + Drop, L: Ledger, M: Media, R> DurableArray<'a, D, L, M, R> {
     /// Executes a command of the seat's host as `CountedArray::host` does, and notes what changes its unit.
     pub fn host(&mut self, seat: &mut Seat<L>, lun: u8, cdb: [u8; 16], payload: Bytes) -> Reply
-        ensures { AnswersCommand false self.old.kept seat.old lun cdb payload result self.new.kept seat.new }
+        ensures answers { AnswersCommand false self.old.kept seat.old lun cdb payload result self.new.kept seat.new }
+        ensures keeps { KeepsCommitted M.seen M.may_leave M.moment M.left_since M.is_clean self.old self.new }
     {
         let addr = Addr {
             host: seat.host(),
@@ -247,7 +251,8 @@ impl<'a, D: Disk + Drop, L: Ledger, M: Media, R> DurableArray<'a, D, L, M, R> {
 
     /// Creates a unit of a length in sectors.
     pub fn make(&mut self, addr: Addr, sectors: u32) -> Outcome<D>
-        ensures { Operates (events.Make addr sectors) self.old.kept result self.new.kept }
+        ensures operates { Operates (events.Make addr sectors) self.old.kept result self.new.kept }
+        ensures keeps { KeepsCommitted M.seen M.may_leave M.moment M.left_since M.is_clean self.old self.new }
     {
         let encoding = encoded(self.alloc, &Record::Make(addr, sectors));
         let outcome = self.counted.operate(OperationOf::Make(addr, sectors));
@@ -257,7 +262,8 @@ impl<'a, D: Disk + Drop, L: Ledger, M: Media, R> DurableArray<'a, D, L, M, R> {
 
     /// Extends a unit to a length in sectors.
     pub fn grow(&mut self, addr: Addr, sectors: u32) -> Outcome<D>
-        ensures { Operates (events.Grow addr sectors) self.old.kept result self.new.kept }
+        ensures operates { Operates (events.Grow addr sectors) self.old.kept result self.new.kept }
+        ensures keeps { KeepsCommitted M.seen M.may_leave M.moment M.left_since M.is_clean self.old self.new }
     {
         let encoding = encoded(self.alloc, &Record::Grow(addr, sectors));
         let outcome = self.counted.operate(OperationOf::Grow(addr, sectors));
@@ -267,7 +273,8 @@ impl<'a, D: Disk + Drop, L: Ledger, M: Media, R> DurableArray<'a, D, L, M, R> {
 
     /// Deletes a unit.
     pub fn remove(&mut self, addr: Addr) -> Outcome<D>
-        ensures { Operates (events.Remove addr) self.old.kept result self.new.kept }
+        ensures operates { Operates (events.Remove addr) self.old.kept result self.new.kept }
+        ensures keeps { KeepsCommitted M.seen M.may_leave M.moment M.left_since M.is_clean self.old self.new }
     {
         let encoding = encoded(self.alloc, &Record::Remove(addr));
         let outcome = self.counted.operate(OperationOf::Remove(addr));
@@ -278,7 +285,8 @@ impl<'a, D: Disk + Drop, L: Ledger, M: Media, R> DurableArray<'a, D, L, M, R> {
     /// Adds a disk, whose fault count must be below its maximum.
     pub fn add_disk(&mut self, disk: D) -> Outcome<D>
         requires { CanCount (D.state disk) }
-        ensures { Operates (events.AddDisk (D.state disk)) self.old.kept result self.new.kept }
+        ensures operates { Operates (events.AddDisk (D.state disk)) self.old.kept result self.new.kept }
+        ensures keeps { KeepsCommitted M.seen M.may_leave M.moment M.left_since M.is_clean self.old self.new }
     {
         let extents = u32::from(self.counted.array().extents());
         let encoding = encoded(self.alloc, &Record::AddDisk(extents));
@@ -291,7 +299,8 @@ impl<'a, D: Disk + Drop, L: Ledger, M: Media, R> DurableArray<'a, D, L, M, R> {
 
     /// Takes a disk out, by its number. No unit depends on it, so that nothing is noted.
     pub fn take_out(&mut self, number: u8) -> Outcome<D>
-        ensures { Operates (events.DiskOut number) self.old.kept result self.new.kept }
+        ensures operates { Operates (events.DiskOut number) self.old.kept result self.new.kept }
+        ensures keeps { KeepsCommitted M.seen M.may_leave M.moment M.left_since M.is_clean self.old self.new }
     {
         self.counted.operate(OperationOf::DiskOut(number))
     }
@@ -299,7 +308,8 @@ impl<'a, D: Disk + Drop, L: Ledger, M: Media, R> DurableArray<'a, D, L, M, R> {
     /// Replaces the failed disk of this number by one whose fault count must be below its maximum.
     pub fn replace(&mut self, number: u8, disk: D) -> Outcome<D>
         requires { CanCount (D.state disk) }
-        ensures { Operates (events.Replace number (D.state disk)) self.old.kept result self.new.kept }
+        ensures operates { Operates (events.Replace number (D.state disk)) self.old.kept result self.new.kept }
+        ensures keeps { KeepsCommitted M.seen M.may_leave M.moment M.left_since M.is_clean self.old self.new }
     {
         self.counted
             .operate(OperationOf::Replace(number, NewDisk::new(disk)))
@@ -307,21 +317,24 @@ impl<'a, D: Disk + Drop, L: Ledger, M: Media, R> DurableArray<'a, D, L, M, R> {
 
     /// Executes one piece of background work.
     pub fn background(&mut self, task: Task) -> Outcome<D>
-        ensures { Maintains task self.old.kept result self.new.kept }
+        ensures maintains { Maintains task self.old.kept result self.new.kept }
+        ensures keeps { KeepsCommitted M.seen M.may_leave M.moment M.left_since M.is_clean self.old self.new }
     {
         self.counted.background(task)
     }
 
     /// Destages those of 64 blocks of a unit that are cached, from block `first` on. Only a commit makes them last.
     pub fn flush_part(&mut self, addr: Addr, first: u32) -> PartFlush
-        ensures { DestagesPart self.old.kept addr first result self.new.kept }
+        ensures destages { DestagesPart self.old.kept addr first result self.new.kept }
+        ensures keeps { KeepsCommitted M.seen M.may_leave M.moment M.left_since M.is_clean self.old self.new }
     {
         self.counted.flush_part(addr, first)
     }
 
     /// Discards `count` sectors of a host's LUN from `lba` on as `CountedArray::discard` does, and notes it.
     pub fn discard(&mut self, host: Host, lun: u8, lba: u64, count: u32) -> Reply
-        ensures { DiscardsSectors self.old.kept (addr_in host lun) lba count result self.new.kept }
+        ensures discards { DiscardsSectors self.old.kept (addr_in host lun) lba count result self.new.kept }
+        ensures keeps { KeepsCommitted M.seen M.may_leave M.moment M.left_since M.is_clean self.old self.new }
     {
         let encoding = encoded(self.alloc, &Record::Unmap(Addr { host, lun }, lba, count));
         let reply = self.counted.discard(host, lun, lba, count);
@@ -337,6 +350,9 @@ impl<'a, D: Disk, L: Ledger, M: Media, R: Clock + Log> DurableArray<'a, D, L, M,
     pub fn commit(&mut self) -> bool
         ensures same { self.new.kept ≡ self.old.kept }
         ensures committed { result ≡ true → Lasts M.may_leave M.is_clean self.new.store self.new.kept.history }
+        ensures all { result ≡ true
+            → AreCommitted M.seen M.may_leave M.is_clean self.new.store self.new.kept.history self.new.kept.history }
+        ensures keeps { KeepsCommitted M.seen M.may_leave M.moment M.left_since M.is_clean self.old self.new }
     {
         let _kept = self.counted.array();
         let (is_waiting, began) = (self.store.is_waiting(), Instant::now(self.rt).ok());
@@ -365,6 +381,9 @@ impl<'a, D: Disk, L: Ledger, M: Media, R: Clock + Log> DurableArray<'a, D, L, M,
         ensures always { self.old.always ≡ true → result ≡ true → acknowledges cdb.now reply.now ≡ true
             → Lasts M.may_leave M.is_clean self.new.store self.new.kept.history }
         ensures failed { result ≡ false → acknowledges cdb.now reply.now ≡ true }
+        ensures all { result ≡ true → asks_commit cdb.now reply.now ≡ true
+            → AreCommitted M.seen M.may_leave M.is_clean self.new.store self.new.kept.history self.new.kept.history }
+        ensures keeps { KeepsCommitted M.seen M.may_leave M.moment M.left_since M.is_clean self.old self.new }
     {
         if !is_acknowledged(cdb, reply) {
             return true;
@@ -377,7 +396,8 @@ impl<'a, D: Disk, L: Ledger, M: Media, R: Clock + Log> DurableArray<'a, D, L, M,
 
     /// Commits what was noted, if the last commit was long ago.
     pub fn commit_if_due(&mut self)
-        ensures { self.new.kept ≡ self.old.kept }
+        ensures same { self.new.kept ≡ self.old.kept }
+        ensures keeps { KeepsCommitted M.seen M.may_leave M.moment M.left_since M.is_clean self.old self.new }
     {
         if self.has_work() && is_due(self.rt, self.committed, self.policy.every) {
             self.commit();

@@ -8,8 +8,8 @@ ghost use Rattle.ar_journal.specs.Reader.{IsReading, batches_read};
 ghost use Rattle.ar_checkpoint.specs.Successor.{IsHeadAlone};
 
 use crate::{RestartError, open_store};
-use ar_checkpoint::{CheckpointError, checkpoint};
-use ar_compaction::{HeadError, MAX_NAME, StoreHead, encode_head};
+use ar_checkpoint::CheckpointError;
+use ar_compaction::{StoreHead, encode_head};
 use ar_journal::{JournalFiles, JournalReader, create};
 use ar_media::RegularFile;
 use std::alloc::{AllocError, Global};
@@ -47,6 +47,8 @@ pub enum FolderError {
     Files(ErrorKind),
     /// Its files hold no store that this program reads.
     Contents(RestartError),
+    /// They hold the store of another array than those of the other copy.
+    OtherArray,
 }
 
 // The paths of the files.
@@ -140,6 +142,21 @@ pub fn open_in(
     ensures head { IfOk result (λ r. IsTrue (regular_is_clean r.1.active)
         → IsHeadAlone (batches_read regular_seen r.1)) }
 {
+    let files = store_files(rt, alloc, folder)?;
+    match open_store(alloc, files) {
+        Ok(opened) => Ok(opened),
+        Err(error) => Err(FolderError::Contents(error)),
+    }
+}
+
+/// The files of the store in a folder. None is created or written.
+pub(crate) fn store_files(
+    rt: &HostRuntime,
+    alloc: Global,
+    folder: &str,
+) -> Result<JournalFiles<RegularFile>, FolderError>
+    ensures { IfOk result (AreDurable regular_seen regular_may_leave) }
+{
     let paths = Paths::new(alloc, folder)?;
     if !paths.have_store(rt)? {
         return Err(FolderError::NoStore);
@@ -147,24 +164,25 @@ pub fn open_in(
     if !paths.have_logs(rt)? {
         return Err(FolderError::Incomplete);
     }
-    let files = paths.open(rt)?;
-    match open_store(alloc, files) {
-        Ok(opened) => Ok(opened),
-        Err(error) => Err(FolderError::Contents(error)),
-    }
+    paths.open(rt)
 }
 
-/// Replaces the log of the store in a folder by a compaction of it. A crash at any moment leaves the one or the
-/// other, and an error the log.
-pub fn checkpoint_in(rt: &HostRuntime, alloc: Global, folder: &str) -> Result<(), FolderError> {
-    let (head, reader) = open_in(rt, alloc, folder)?;
-    if head.name.len() > MAX_NAME {
-        return Err(FolderError::Contents(RestartError::Head(HeadError::Invalid)));
-    }
-    match checkpoint(alloc, reader, &head) {
-        Ok(_journal) => Ok(()),
-        Err((error, _files)) => Err(FolderError::Checkpoint(error)),
-    }
+/// The files of a store in a folder. What isn't there is made.
+pub(crate) fn made_files(
+    rt: &HostRuntime,
+    alloc: Global,
+    folder: &str,
+) -> Result<JournalFiles<RegularFile>, FolderError>
+    ensures { IfOk result (AreDurable regular_seen regular_may_leave) }
+{
+    make_folder(rt, folder)?;
+    Paths::new(alloc, folder)?.open(rt)
+}
+
+/// Whether there is a store in a folder.
+pub fn has_store(rt: &HostRuntime, alloc: Global, folder: &str) -> Result<bool, FolderError> {
+    let found = Paths::new(alloc, folder)?.have_store(rt)?;
+    Ok(found)
 }
 
 // Makes a folder, whose name lasts, unless it is there.

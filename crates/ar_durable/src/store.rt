@@ -3,7 +3,8 @@ ghost use Rattle.std.specs.Prelude.{◌≡◌, ◌≤◌, ◌++◌, ◌∷◌, [
 ghost use Rattle.ar_log.specs.Failure.{is_final};
 ghost use Rattle.ar_journal.specs.Journal.{IsReady};
 ghost use Rattle.ar_checkpoint.specs.Gradual.{HasFirstBatch, IsReplaced, LeavesLogs};
-ghost use Rattle.ar_durable.specs.Store.{KeepsRecords, KeepsStoredUnits, MayLeave, RecordStore, Waits, is_given_up};
+ghost use Rattle.ar_durable.specs.Store.{AppendsOrKeeps, KeepsMedia, KeepsRecords, KeepsStoredUnits, MayLeave};
+ghost use Rattle.ar_durable.specs.Store.{RecordStore, Waits, closed_store, is_given_up};
 
 use ar_checkpoint::{CheckpointError, GradualCheckpoint, make_piece};
 use ar_compaction::StoreHead;
@@ -92,6 +93,11 @@ impl<M: Media> Store<M> {
         self.journal.len()
     }
 
+    /// Whether one of the copies of its files is lost.
+    pub fn has_lost_copy(&self) -> bool {
+        self.journal.active.media.has_lost_copy()
+    }
+
     /// Whether a checkpoint is being made.
     pub fn has_checkpoint(&self) -> bool {
         self.checkpoint.is_some()
@@ -99,7 +105,7 @@ impl<M: Media> Store<M> {
 
     /// Gives the store up: nothing is written to it any more.
     pub fn give_up(&mut self)
-        ensures { is_given_up self.new ≡ true }
+        ensures { self.new ≡ closed_store self.old }
     {
         self.journal.active.is_closed = true;
     }
@@ -140,6 +146,9 @@ impl<M: Media> Store<M> {
         // A crash at any moment of the call leaves the records of the journal from before, with those that waited or
         // without.
         ensures any_moment { MayLeave M.seen M.moment M.left_since M.is_clean self.old self.new }
+        ensures log { AppendsOrKeeps M.seen M.is_clean self.old self.new }
+        ensures first { HasFirstBatch M.seen M.is_clean self.old.journal }
+        ensures untouched { is_given_up self.old ≡ true → (is_given_up self.new ≡ true) × KeepsMedia self.old self.new }
     {
         if self.waiting.is_empty() && !self.journal.is_closed() {
             return Ok(());

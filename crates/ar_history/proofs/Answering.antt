@@ -1,5 +1,7 @@
--- That both served arrays answer a command as `AnswersCommand` says, and what operations leave of the number of commands.
-use Rattle.std.proofs.Common.{◌≡◌, ℕ, Bool, true, false, cond, Option, Some, None, List, [], ◌∷◌, ◌++◌, length, refl, sym}
+-- That both served arrays answer a command as `AnswersCommand` says, and what operations leave of the number of
+-- commands.
+use Rattle.std.proofs.Common.{◌≡◌, ℕ, Bool, true, false, cond, Option, Some, None, List, [], ◌∷◌, ◌++◌, length, refl}
+use Rattle.std.proofs.Common.{sym}
 use Rattle.std.proofs.Common.{ap, ◌∙◌, inl, append-nil, arith}
 use Rattle.std.specs.Prelude.{◌&&◌, ◌+◌, not, count_by}
 use Rattle.ar_disks.specs.Disk.{DiskState}

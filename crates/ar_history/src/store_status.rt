@@ -5,6 +5,8 @@
 pub enum StoreState {
     /// The last commit has succeeded, or there was none.
     Sound,
+    /// The same, with one of two copies lost.
+    Degraded,
     /// The last commit has failed, and a later one may succeed.
     Failing,
     /// It is given up until a new start.

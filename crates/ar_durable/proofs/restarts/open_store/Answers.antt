@@ -16,5 +16,6 @@ returns-in_ok-head-in-Ok-Some-clause-head g c clean =
     c.in-Ok-Some.field-0-is c.in-Ok-Some.ensures.batch clean in (
       batch,
       read
-          ∙ ap (λ (l : List Batch). l ++ batch ∷ []) (c.in-Ok.ensures.none (c.next_batch.ensures.reads.active.clean clean)),
+          ∙ ap (λ (l : List Batch). l ++ batch ∷ [])
+          (c.in-Ok.ensures.none (c.next_batch.ensures.reads.active.clean clean)),
     )

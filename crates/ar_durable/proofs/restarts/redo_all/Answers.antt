@@ -21,7 +21,8 @@ returns-in-Ok-None-clause-replayed g c clean =
     let reads = c.next_batch.ensures.reads.active in
     let was = reads.clean clean in
     let held : HoldsBatches (batches_read seen new) (seen old.active) =
-    subst (λ o. IfNone o (IsTrue (g.M.Media.is_clean new.active) → HoldsBatches (batches_read seen new) (seen old.active)))
+    subst (λ o. IfNone o
+    (IsTrue (g.M.Media.is_clean new.active) → HoldsBatches (batches_read seen new) (seen old.active)))
     c.in-Ok-None.field-0-is c.in-Ok-None.ensures.last clean in
     let stays : new.place ≡ old.place =
     subst (λ o. IfNone o (new.place ≡ old.place)) c.in-Ok-None.field-0-is c.in-Ok-None.ensures.end in

@@ -6,8 +6,10 @@ use Rattle.ar_durable.proofs.restarts.redo_all.Given as goal
 abbrev pub invariant-reading : goal.invariant-reading
 invariant-reading g l = record {
   reading : IsReading g.M.Media.seen g.M.Media.may_leave g.M.Media.is_clean l.reader;
-  reads : ReadsActive g.M.Media.seen g.M.Media.may_leave g.M.Media.moment g.M.Media.left_since g.M.Media.is_clean l.fn.reader l.reader;
-  replayed : IsTrue (g.M.Media.is_clean l.reader.active) → IsReplayed (batches_read g.M.Media.seen l.reader) l.recovery.history;
+  reads : ReadsActive g.M.Media.seen g.M.Media.may_leave g.M.Media.moment g.M.Media.left_since g.M.Media.is_clean
+      l.fn.reader l.reader;
+  replayed : IsTrue (g.M.Media.is_clean l.reader.active)
+      → IsReplayed (batches_read g.M.Media.seen l.reader) l.recovery.history;
 }
 
 abbrev pub decreases-reading : goal.decreases-reading

@@ -26,7 +26,8 @@ returns-in-Ok-clause-records g c =
       full = log_records (batches_now seen journal) ++ [];
       log = record {
         own = λ a.
-            ap (λ (l : List RecordData). own_of a l) (append-nil (log_records (batches_now seen journal)) ∙ ap log_records same)
+            ap (λ (l : List RecordData). own_of a l)
+            (append-nil (log_records (batches_now seen journal)) ∙ ap log_records same)
             ∙ sym (replayed.redone.own a);
       };
       same = λ a. refl;

@@ -4,6 +4,7 @@ use Rattle.ar_history.specs.Kept.{history_entry}
 use Rattle.ar_core.specs.declared.event.EventOf.TheVariants as events
 use Rattle.ar_record.specs.Record.{AddDisk}
 use Rattle.ar_durable.specs.Durable.{AreRecords}
+use Rattle.ar_durable.proofs.Crashing.{noted_call}
 use Rattle.ar_durable.proofs.Keeping.{disk_same, noted}
 use Rattle.ar_durable.proofs.durable.DurableArray.add_disk.Goals as goal
 
@@ -17,3 +18,10 @@ invariant_of-self g c =
     (AddDisk c.from-extents.result) c.self.inside.store c.note_if.new.store c.self.inside.counted.history
     (history_entry (events.AddDisk disk) outcome) c.self.invariant c.encoded-encoding.ensures c.note_if.ensures
     (λ a. disk_same c.is_added.result a c.from-extents.result disk outcome))
+
+pub returns-clause-keeps : goal.returns-clause-keeps
+returns-clause-keeps g c =
+    noted_call g.M.Media.seen g.M.Media.may_leave g.M.Media.moment g.M.Media.left_since g.M.Media.is_clean
+    g.met.M.Media.only_now _ _ _ c.is_added.result
+    c.encoded-encoding.result _ c.self.view_is c.note_if.ensures
+    c.operate-outcome.ensures.recorded

@@ -1,8 +1,5 @@
-use Rattle.std.proofs.Common.{List, IsTrue, sym, subst}
-use Rattle.ar_record.specs.Record.{RecordData}
-use Rattle.ar_checkpoint.specs.Gradual.{is_other_clean}
-use Rattle.ar_durable.specs.Durable.{AreRecords, MakesUnits}
-use Rattle.ar_durable.specs.Store.{IsAllClean}
+use Rattle.std.proofs.Common.{refl}
+use Rattle.ar_durable.proofs.Crashing.{all_committed, commit_call, records_after}
 use Rattle.ar_durable.proofs.Keeping.{lasts}
 use Rattle.ar_durable.proofs.durable.DurableArray.commit.Goals as goal
 
@@ -10,12 +7,32 @@ pub returns-in-Ok-clause-committed : goal.returns-in-Ok-clause-committed
 returns-in-Ok-clause-committed g c is =
     let history = c.self.inside.counted.history in
     let new = c.commit-done.new.self in
-    let are : AreRecords g.M.Media.seen g.M.Media.is_clean new history = λ going all.
-    (let was : IsAllClean g.M.Media.is_clean c.self.inside.store = record {
-      active = subst IsTrue c.commit-done.ensures.clean all.active;
-      other = subst (λ o. IsTrue (is_other_clean g.M.Media.is_clean o)) c.commit-done.ensures.other all.other;
-    } in
-    let kept = c.commit-done.ensures.records going was.active in
-    subst (λ (l : List RecordData). MakesUnits l history) (sym kept.1) (c.self.invariant kept.0 was)) in
+    let done = c.commit-done.ensures in
+    let are = records_after g.M.Media.seen g.M.Media.may_leave g.M.Media.moment g.M.Media.left_since g.M.Media.is_clean
+    c.self.inside.store new history done.records done.clean done.other c.self.invariant in
     lasts g.M.Media.seen g.M.Media.may_leave g.M.Media.is_clean new history c.commit-done.ensures.ready
     c.in-Ok.ensures.done.1 c.in-Ok.ensures.done.0 are c.array-kept.ensures.kept.legal
+
+pub returns-in-Ok-clause-all : goal.returns-in-Ok-clause-all
+returns-in-Ok-clause-all g c is =
+    let done = c.commit-done.ensures in
+    let history = c.self.inside.counted.history in
+    all_committed g.M.Media.seen g.M.Media.may_leave g.M.Media.moment g.M.Media.left_since g.M.Media.is_clean
+    c.commit-done.new.self history done.ready c.in-Ok.ensures.done.0
+    (records_after g.M.Media.seen g.M.Media.may_leave g.M.Media.moment g.M.Media.left_since g.M.Media.is_clean
+    c.self.inside.store c.commit-done.new.self history done.records done.clean done.other c.self.invariant)
+    c.array-kept.ensures.kept.legal
+
+pub returns-in-Ok-clause-keeps : goal.returns-in-Ok-clause-keeps
+returns-in-Ok-clause-keeps g c =
+    let done = c.commit-done.ensures in
+    commit_call g.M.Media.seen g.M.Media.may_leave g.M.Media.moment g.M.Media.left_since g.M.Media.is_clean _ _ _
+    c.self.view_is refl c.array-kept.ensures.kept.legal c.self.invariant done.first done.ready done.records done.clean
+    done.other done.log done.any_moment done.untouched
+
+pub returns-in-Err-clause-keeps : goal.returns-in-Err-clause-keeps
+returns-in-Err-clause-keeps g c =
+    let done = c.commit-done.ensures in
+    commit_call g.M.Media.seen g.M.Media.may_leave g.M.Media.moment g.M.Media.left_since g.M.Media.is_clean _ _ _
+    c.self.view_is refl c.array-kept.ensures.kept.legal c.self.invariant done.first done.ready done.records done.clean
+    done.other done.log done.any_moment done.untouched

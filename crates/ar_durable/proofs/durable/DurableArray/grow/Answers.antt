@@ -5,6 +5,7 @@ use Rattle.ar_core.specs.declared.event.EventOf.TheVariants as events
 use Rattle.ar_record.specs.Record.{RecordData, Grow}
 use Rattle.ar_record.specs.Replay.{own_of}
 use Rattle.ar_durable.specs.Durable.{AreRecords}
+use Rattle.ar_durable.proofs.Crashing.{noted_call}
 use Rattle.ar_durable.proofs.Keeping.{grow_same, noted}
 use Rattle.ar_durable.proofs.durable.DurableArray.grow.Goals as goal
 
@@ -17,5 +18,14 @@ invariant_of-self g c =
     (sym c.operate-outcome.ensures.recorded)
     (noted g.M.Media.seen g.M.Media.may_leave g.M.Media.is_clean c.is_grown.result c.encoded-encoding.result r
     c.self.inside.store c.note_if.new.store c.self.inside.counted.history
-    (history_entry (events.Grow addr c.args.sectors) outcome) c.self.invariant c.encoded-encoding.ensures c.note_if.ensures
-    (λ a. ap (λ (b : Bool). own_of a (cond b (r ∷ []) [])) c.is_grown.ensures ∙ grow_same a addr c.args.sectors outcome))
+    (history_entry (events.Grow addr c.args.sectors) outcome) c.self.invariant c.encoded-encoding.ensures
+    c.note_if.ensures
+    (λ a. ap (λ (b : Bool). own_of a (cond b (r ∷ []) [])) c.is_grown.ensures
+    ∙ grow_same a addr c.args.sectors outcome))
+
+pub returns-clause-keeps : goal.returns-clause-keeps
+returns-clause-keeps g c =
+    noted_call g.M.Media.seen g.M.Media.may_leave g.M.Media.moment g.M.Media.left_since g.M.Media.is_clean
+    g.met.M.Media.only_now _ _ _ c.is_grown.result
+    c.encoded-encoding.result _ c.self.view_is c.note_if.ensures
+    c.operate-outcome.ensures.recorded

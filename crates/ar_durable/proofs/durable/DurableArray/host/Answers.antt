@@ -8,6 +8,7 @@ use Rattle.ar_history.specs.Serving.{is_recorded}
 use Rattle.ar_record.specs.Record.{RecordData, Command}
 use Rattle.ar_record.specs.Replay.{changes_unit, own_of}
 use Rattle.ar_durable.specs.Durable.{AreRecords}
+use Rattle.ar_durable.proofs.Crashing.{noted_call}
 use Rattle.ar_durable.proofs.Keeping.{command_same, noted}
 use Rattle.ar_durable.proofs.durable.DurableArray.host.Goals as goal
 
@@ -22,7 +23,8 @@ invariant_of-self g c =
     let more : List Entry = cond recorded (entry ∷ []) [] in
     subst (λ (h : List Entry). AreRecords g.M.Media.seen g.M.Media.is_clean c.note_if.new.store h)
     (sym c.host-reply.ensures.serves.history)
-    (noted g.M.Media.seen g.M.Media.may_leave g.M.Media.is_clean c.is_noted-noted.result c.encoded_command-encoding.result
+    (noted g.M.Media.seen g.M.Media.may_leave g.M.Media.is_clean c.is_noted-noted.result
+    c.encoded_command-encoding.result
     (r c.host.result) c.self.inside.store c.note_if.new.store c.self.inside.counted.history more c.self.invariant
     c.encoded_command-encoding.ensures c.note_if.ensures
     (λ a.
@@ -30,3 +32,10 @@ invariant_of-self g c =
     (c.is_noted-noted.ensures ∙ ap (λ (s : ArrayState). is_recorded s reply && changes) c.array.ensures.array)
     ∙ ap (λ (h : Host). own_of a (cond (recorded && changes) (r h ∷ []) [])) c.host.ensures
     ∙ command_same recorded changes a seat.host c.args.lun c.args.cdb c.args.payload reply refl))
+
+pub returns-clause-keeps : goal.returns-clause-keeps
+returns-clause-keeps g c =
+    noted_call g.M.Media.seen g.M.Media.may_leave g.M.Media.moment g.M.Media.left_since g.M.Media.is_clean
+    g.met.M.Media.only_now _ _ _ c.is_noted-noted.result
+    c.encoded_command-encoding.result _ c.self.view_is c.note_if.ensures
+    c.host-reply.ensures.serves.history

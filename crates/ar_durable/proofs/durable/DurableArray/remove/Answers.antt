@@ -5,6 +5,7 @@ use Rattle.ar_core.specs.declared.event.EventOf.TheVariants as events
 use Rattle.ar_record.specs.Record.{RecordData, Remove}
 use Rattle.ar_record.specs.Replay.{own_of}
 use Rattle.ar_durable.specs.Durable.{AreRecords}
+use Rattle.ar_durable.proofs.Crashing.{noted_call}
 use Rattle.ar_durable.proofs.Keeping.{remove_same, noted}
 use Rattle.ar_durable.proofs.durable.DurableArray.remove.Goals as goal
 
@@ -19,3 +20,10 @@ invariant_of-self g c =
     c.self.inside.store c.note_if.new.store c.self.inside.counted.history
     (history_entry (events.Remove addr) outcome) c.self.invariant c.encoded-encoding.ensures c.note_if.ensures
     (λ a. ap (λ (b : Bool). own_of a (cond b (r ∷ []) [])) c.is_removed.ensures ∙ remove_same a addr outcome))
+
+pub returns-clause-keeps : goal.returns-clause-keeps
+returns-clause-keeps g c =
+    noted_call g.M.Media.seen g.M.Media.may_leave g.M.Media.moment g.M.Media.left_since g.M.Media.is_clean
+    g.met.M.Media.only_now _ _ _ c.is_removed.result
+    c.encoded-encoding.result _ c.self.view_is c.note_if.ensures
+    c.operate-outcome.ensures.recorded

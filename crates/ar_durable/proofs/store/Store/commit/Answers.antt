@@ -1,4 +1,4 @@
-use Rattle.std.proofs.Common.{◌≡◌, inl, inr, false, List, [], ◌∷◌, ◌++◌, ℕ, Vec, IsTrue, refl, ap, subst, ◌∙◌}
+use Rattle.std.proofs.Common.{◌≡◌, ◌⊎◌, inl, inr, false, List, [], ◌∷◌, ◌++◌, ℕ, Vec, IsTrue, refl, ap, subst, ◌∙◌}
 use Rattle.std.specs.declared.alloc.Global.{Global}
 use Rattle.std.proofs.lemmas.Bool.{cases_Bool}
 use Rattle.ar_media.proofs.Moments.{started}
@@ -38,7 +38,8 @@ returns-clause-records g c =
       going,
       ap (λ (w : List (Vec ℕ Global)). log_records (batches_now seen c.append.new.self) ++ all_decoded (items_of w))
           c.clear.ensures.items
-          ∙ committed seen g.M.Media.may_leave g.M.Media.is_clean journal c.append.new.self waiting c.self.invariant.1 going clean
+          ∙ committed seen g.M.Media.may_leave g.M.Media.is_clean journal c.append.new.self waiting c.self.invariant.1
+          going clean
           ((done.acknowledged clean).batches
           ∙ ap (λ (v : List (Vec ℕ Global)). batches_now seen journal ++ items_of v ∷ []) c.deref.ensures.value),
     ))
@@ -83,3 +84,17 @@ returns-then-not-is_closed-clause-any_moment g c =
     (λ s left. ready.named going clean.selector s (g.met.M.Media.only_now journal.selector s left))
     (started moment left_since journal.active.media P
     (λ f left. inl ((ready.log going clean.active).durable f (g.met.M.Media.only_now journal.active.media f left)))))
+
+pub returns-clause-log : goal.returns-clause-log
+returns-clause-log g c =
+    let seen = g.M.Media.seen in
+    let S = RecordStore g.row.M.Denot in
+    let journal = c.self.inside.journal in
+    let done = c.in_ok-append.ensures in
+    let B = batches_now seen c.append.new.self in
+    subst
+    (λ (s : S). c.append.new.self.active.is_closed ≡ false → IsTrue (g.M.Media.is_clean s.journal.active.media)
+    → (B ≡ batches_now seen s.journal) ⊎ (B ≡ batches_now seen s.journal ++ s.waiting ∷ []))
+    c.self.view_is
+    (λ open_now clean. inr ((done.acknowledged clean).batches
+    ∙ ap (λ (v : List (Vec ℕ Global)). batches_now seen journal ++ items_of v ∷ []) c.deref.ensures.value))

@@ -7,7 +7,8 @@ use Rattle.ar_history.proofs.counted.CountedArray.discard.Goals as goal
 
 pub returns : goal.returns
 returns g c =
-    subst (λ (k : KeptState). DiscardsSectors k (addr_in c.args.host c.args.lun) c.args.lba c.args.count c.discard.result
+    subst (λ (k : KeptState). DiscardsSectors k (addr_in c.args.host c.args.lun) c.args.lba c.args.count
+    c.discard.result
     c.discard.new.self) c.self.view_is
     (record {
       does = inl c.discard.ensures.steps;
