@@ -58,7 +58,8 @@ done_recorded : (old new : ArrayState) (host : Host) (lun : ℕ) (cdb payload : 
     (was now : List Entry)
     → ServesCommand old was host lun cdb payload reply new now → is_good_access cdb reply ≡ true
     → is_recorded new reply ≡ true
-done_recorded old new host lun cdb payload reply was now serves done = by (is_broken new) (is_busy reply.status) refl refl
+done_recorded old new host lun cdb payload reply was now serves done =
+    by (is_broken new) (is_busy reply.status) refl refl
   where
     by : (lost quiet : Bool) → is_broken new ≡ lost → is_busy reply.status ≡ quiet → is_recorded new reply ≡ true
     by true quiet lost is =

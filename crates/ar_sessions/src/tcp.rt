@@ -65,7 +65,7 @@ const READ_AHEAD: usize = 8_192;
 pub struct TcpDoor<'a, R: Clock + Log> {
     rt: &'a R,
     alloc: Global,
-    // None: no connection is left to come, or the door is closed.
+    // None: no connection is left to come, the door is closed, or nobody can come by it.
     listener: Option<Listener>,
     left: usize,
     limits: Limits<'a>,
@@ -119,7 +119,14 @@ impl<'a, R: Clock + Log> TcpDoor<'a, R> {
         TcpDoor::at(rt, alloc, Listener::of_socket(socket), sessions)
     }
 
-    // A door without limits at a listener, if there is one.
+    /// A door by which nobody can come: it waits until it is stopped.
+    pub fn without_port(rt: &'a R, alloc: Global, sessions: usize) -> TcpDoor<'a, R>
+        ensures { result ≡ sessions }
+    {
+        TcpDoor::of(rt, alloc, None, sessions)
+    }
+
+    // A door without limits at a listener, if that could be made.
     fn at(
         rt: &'a R,
         alloc: Global,
@@ -129,16 +136,23 @@ impl<'a, R: Clock + Log> TcpDoor<'a, R> {
         ensures { IfOk result (λ door. door ≡ sessions) }
     {
         match listener {
-            Ok(listener) => Ok(TcpDoor {
-                rt,
-                alloc,
-                listener: Some(listener),
-                left: sessions,
-                limits: Limits::NONE,
-                crowd: Crowd::unlimited(alloc),
-                refusals: Refusals::new(rt),
-            }),
+            Ok(listener) => Ok(TcpDoor::of(rt, alloc, Some(listener), sessions)),
             Err(_) => Err(ListenFault),
+        }
+    }
+
+    // A door without limits, at a listener or none.
+    fn of(rt: &'a R, alloc: Global, listener: Option<Listener>, sessions: usize) -> TcpDoor<'a, R>
+        ensures { result ≡ sessions }
+    {
+        TcpDoor {
+            rt,
+            alloc,
+            listener,
+            left: sessions,
+            limits: Limits::NONE,
+            crowd: Crowd::unlimited(alloc),
+            refusals: Refusals::new(rt),
         }
     }
 
@@ -278,7 +292,7 @@ fn unless_refused<R: Clock + Log, T>(
 
 // Waits for a connection and the port of its peer, in slices; between them, those that have ended are forgotten. An
 // accept that fails, as for want of descriptors, is tried again after a pause, with one line of the log until one
-// succeeds. None: the door is closed.
+// succeeds. None: the door is closed or, after a pause, has no listener.
 fn next_stream<R: Clock + Log>(
     rt: &R,
     listener: &Option<Listener>,
@@ -286,6 +300,7 @@ fn next_stream<R: Clock + Log>(
     crowd: &mut Crowd,
 ) -> Option<(TcpStream, Option<u16>)> {
     let Some(listener) = listener else {
+        thread::sleep(rt, Duration::from_millis(PAUSE));
         return None;
     };
     let mut has_failed = false;

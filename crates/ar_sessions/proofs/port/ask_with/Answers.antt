@@ -17,7 +17,8 @@ returns-clause-answers g c =
     record {
       own = c.ask-reply.result;
       answers =
-          subst (λ (k : KeptState). AnswersCommand g.A.ServedArray.stores (state c.args.array.now) c.args.seat.now c.args.lun
+          subst (λ (k : KeptState). AnswersCommand g.A.ServedArray.stores
+          (state c.args.array.now) c.args.seat.now c.args.lun
           c.args.cdb.now c.args.payload c.ask-reply.result k c.ask-reply.new.seat)
           (sym c.settle_now.ensures.same)
           (subst (λ (k : KeptState). AnswersCommand g.A.ServedArray.stores k c.args.seat.now c.args.lun c.args.cdb.now

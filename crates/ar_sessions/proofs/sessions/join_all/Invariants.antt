@@ -11,9 +11,13 @@ invariant-loop-next g l =
       count : vec_len l.ends + deque_len l.pending ≡ deque_len l.fn.pending;
       room : vec_len l.ends + deque_len l.pending ≤ vec_capacity l.ends;
       order : (rest : List ConnectionEnd)
-          → AllZip (EndOf (λ handle. IsPromised g.A.ServedArray.stores g.A.ServedArray.persists g.S.Source.state g.W.Sink.state handle.promise))
+          → AllZip (EndOf
+          (λ handle. IsPromised g.A.ServedArray.stores g.A.ServedArray.persists g.S.Source.state g.W.Sink.state
+          handle.promise))
           l.pending.items rest
-          → AllZip (EndOf (λ handle. IsPromised g.A.ServedArray.stores g.A.ServedArray.persists g.S.Source.state g.W.Sink.state handle.promise))
+          → AllZip (EndOf
+          (λ handle. IsPromised g.A.ServedArray.stores g.A.ServedArray.persists g.S.Source.state g.W.Sink.state
+          handle.promise))
           l.fn.pending.items (l.ends.items ++ rest);
     }
 

@@ -8,7 +8,8 @@ use Rattle.ar_sessions.proofs.sessions.serve_all.Goals as goal
 pub loop-preserved : goal.loop-preserved
 loop-preserved g c =
     let step = Becomes g.O.Door.opens
-    (λ handle. IsPromised g.A.ServedArray.stores g.A.ServedArray.persists g.O.Reader.Source.state g.O.Writer.Sink.state handle.promise)
+    (λ handle. IsPromised g.A.ServedArray.stores g.A.ServedArray.persists g.O.Reader.Source.state g.O.Writer.Sink.state
+    handle.promise)
     (IsServedOver g.A.ServedArray.stores g.A.ServedArray.persists g.O.Reader.Source.state g.O.Writer.Sink.state) in
     let inv = c.loop.invariant in
     let next = c.open_next.ensures in
@@ -27,6 +28,8 @@ loop-preserved g c =
 pub returns-clause-ends : goal.returns-clause-ends
 returns-clause-ends g c =
     all_ended g.O.Door.opens
-    (λ handle. IsPromised g.A.ServedArray.stores g.A.ServedArray.persists g.O.Reader.Source.state g.O.Writer.Sink.state handle.promise)
-    (IsServedOver g.A.ServedArray.stores g.A.ServedArray.persists g.O.Reader.Source.state g.O.Writer.Sink.state) c.loop.pending.items
+    (λ handle. IsPromised g.A.ServedArray.stores g.A.ServedArray.persists g.O.Reader.Source.state g.O.Writer.Sink.state
+    handle.promise)
+    (IsServedOver g.A.ServedArray.stores g.A.ServedArray.persists g.O.Reader.Source.state g.O.Writer.Sink.state)
+    c.loop.pending.items
     c.join_all.result.items c.args.door.now c.loop.door c.loop.invariant.became c.join_all.ensures.order

@@ -9,8 +9,10 @@ invariant-loop g l =
     record {
       became :
           InTurn (Becomes g.O.Door.opens
-          (λ handle. IsPromised g.A.ServedArray.stores g.A.ServedArray.persists g.O.Reader.Source.state g.O.Writer.Sink.state handle.promise)
-          (IsServedOver g.A.ServedArray.stores g.A.ServedArray.persists g.O.Reader.Source.state g.O.Writer.Sink.state)) l.pending.items
+          (λ handle. IsPromised g.A.ServedArray.stores g.A.ServedArray.persists g.O.Reader.Source.state
+          g.O.Writer.Sink.state handle.promise)
+          (IsServedOver g.A.ServedArray.stores g.A.ServedArray.persists g.O.Reader.Source.state g.O.Writer.Sink.state))
+          l.pending.items
           l.initial.door l.door;
       opened : deque_len l.pending ≡ l.counter;
       to_come : l.counter + g.O.Door.to_come l.door ≡ l.left;

@@ -11,7 +11,8 @@ returns g c = record {
   session =
       subst
       (λ (port : Option SeatState).
-      Session (TakesSeat IsFound) (AsksSeat (AsksArray g.A.ServedArray.stores g.A.ServedArray.persists)) (g.S.Source.state c.args.self.reader)
+      Session (TakesSeat IsFound) (AsksSeat (AsksArray g.A.ServedArray.stores g.A.ServedArray.persists))
+      (g.S.Source.state c.args.self.reader)
       (g.S.Source.state c.serve_gated-end.new.reader)
       (g.W.Sink.state c.args.self.writer) (g.W.Sink.state c.serve_gated-end.new.writer) port c.serve_gated-end.new.port
       c.serve_gated-end.result)
