@@ -9,7 +9,8 @@ use Rattle.ar_language.specs.Forms.{Words, is_silent, value}
 use Rattle.ar_operator.specs.declared.order.LineFault.{LineFault}
 use Rattle.ar_operator.specs.declared.order.OperatorOrder.{OperatorOrder}
 use Rattle.ar_operator.specs.declared.order.OperatorOrder.TheVariants.{Fail}
-use Rattle.ar_operator.specs.Orders.{HasForce, HasFuse, IsFuse, AsksFuse, argument, ReadsArguments, ReadsAlone, ReadsOperatorWord}
+use Rattle.ar_operator.specs.Orders.{HasForce, HasFuse, IsFuse, AsksFuse, argument, ReadsArguments, ReadsAlone}
+use Rattle.ar_operator.specs.Orders.{ReadsOperatorWord, ReadsReportWord}
 use Rattle.ar_operator.specs.Orders.{ReadsOperatorWords, ReadsOperatorLine, ReadsFirstWord, ReadsOut, text_of}
 
 -- a name that is this text is read as it
@@ -64,12 +65,18 @@ module _ (line name : List ℕ) (xs ys : List (List ℕ)) (r : Result (Option Op
     shared = λ _. reads.shared (no_force xs some);
   }
 
+  report_word : ReadsReportWord line name xs r → ReadsReportWord line name ys r
+  report_word =
+      row (bytes_eq name (codes "usage")) _ _ _ _ (alone _) (row (bytes_eq name (codes "units")) _ _ _ _ (alone _)
+      (row (bytes_eq name (codes "disks")) _ _ _ _ (alone _)
+      (row (bytes_eq name (codes "version")) _ _ _ _ (alone _) (λ shared. shared))))
+
   any_word : ReadsOperatorWord line name xs r → ReadsOperatorWord line name ys r
   any_word =
       row (bytes_eq name (codes "sessions")) _ _ _ _ (alone _) (row (bytes_eq name (codes "counts")) _ _ _ _ (alone _)
       (row (bytes_eq name (codes "out")) _ _ _ _ out
       (row (bytes_eq name (codes "fail")) _ _ _ _ fuse (row (bytes_eq name (codes "help")) _ _ _ _ (alone _)
-      (row (bytes_eq name (codes "stop")) _ _ _ _ (alone _) (λ shared. shared))))))
+      (row (bytes_eq name (codes "stop")) _ _ _ _ (alone _) report_word)))))
 
 -- the first seven arguments decide
 by_first : (line name : List ℕ) (arguments : List (List ℕ)) (r : Result (Option OperatorOrder) LineFault)

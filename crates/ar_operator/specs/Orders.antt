@@ -10,11 +10,12 @@ use Rattle.ar_language.specs.declared.order.Action.TheVariants as actions
 use Rattle.ar_language.specs.declared.order.Order.{Order}
 use Rattle.ar_language.specs.declared.order.Order.TheVariants as orders
 use Rattle.ar_language.specs.declared.order.Question.TheVariants as questions
-use Rattle.ar_language.specs.Words.{IsNumber}
+use Rattle.ar_numbers.specs.Numbers.{IsDecimal}
 use Rattle.ar_language.specs.Forms.{IsNumberOf, ReadsLine, Words, is_silent, value}
 use Rattle.ar_script.specs.Orders.{IsView}
 use Rattle.ar_operator.specs.declared.order.OperatorOrder.{OperatorOrder}
-use Rattle.ar_operator.specs.declared.order.OperatorOrder.TheVariants.{Act, Ask, ForceOut, Sessions, Counts, Fail, Help, Stop}
+use Rattle.ar_operator.specs.declared.order.OperatorOrder.TheVariants.{Act, Ask, ForceOut, Sessions, Counts, Fail, Help}
+use Rattle.ar_operator.specs.declared.order.OperatorOrder.TheVariants.{Stop, Usage, Units, Disks, Version}
 use Rattle.ar_operator.specs.declared.order.LineFault.{LineFault}
 use Rattle.ar_operator.specs.declared.order.LineFault.TheVariants.{Line, NotOperatorWord}
 
@@ -64,7 +65,7 @@ argument arguments i = slice_index_or arguments i []
 
 -- a number of accesses, or `off`
 abbrev pub AreAccesses : List ℕ → Type 0
-AreAccesses word = IsNumber word ⊎ (word ≡ codes "off")
+AreAccesses word = IsDecimal word ⊎ (word ≡ codes "off")
 
 -- the accesses that a disk still passes: all, if there is no number
 abbrev pub accesses_in : List ℕ → Option ℕ
@@ -106,6 +107,15 @@ pub record ReadsOut (line : List ℕ) (arguments : List (List ℕ)) (result : Re
   pub forced : HasForce arguments → result ≡ Ok (Some (ForceOut (value (argument arguments 0))))
   pub shared : (¬ HasForce arguments) → ReadsSharedWord line (codes "out") result
 
+-- the words that show what the array has, and then those that operators share with scripts
+abbrev pub ReadsReportWord : List ℕ → List ℕ → List (List ℕ) → Result (Option OperatorOrder) LineFault → Type 0
+ReadsReportWord line name arguments result =
+    MatchBool (bytes_eq name (codes "usage")) (ReadsAlone arguments Usage result) (
+    MatchBool (bytes_eq name (codes "units")) (ReadsAlone arguments Units result) (
+    MatchBool (bytes_eq name (codes "disks")) (ReadsAlone arguments Disks result) (
+    MatchBool (bytes_eq name (codes "version")) (ReadsAlone arguments Version result) (
+    ReadsSharedWord line name result))))
+
 -- the operator's own words, and then those that it shares with scripts
 abbrev pub ReadsOperatorWord : List ℕ → List ℕ → List (List ℕ) → Result (Option OperatorOrder) LineFault → Type 0
 ReadsOperatorWord line name arguments result =
@@ -115,7 +125,7 @@ ReadsOperatorWord line name arguments result =
     MatchBool (bytes_eq name (codes "fail")) (ReadsArguments (HasFuse arguments) (AsksFuse arguments) result) (
     MatchBool (bytes_eq name (codes "help")) (ReadsAlone arguments Help result) (
     MatchBool (bytes_eq name (codes "stop")) (ReadsAlone arguments Stop result) (
-    ReadsSharedWord line name result))))))
+    ReadsReportWord line name arguments result))))))
 
 -- words, of which the first names the order
 abbrev pub ReadsFirstWord : List ℕ → Words → Result (Option OperatorOrder) LineFault → Type 0

@@ -30,6 +30,18 @@ pub struct Fuse {
     is_out: AtomicBool,
     // The disk was the last to be put in the place of another, and may not be rebuilt yet.
     is_latest: AtomicBool,
+    // The accesses to the disk, and those of them that faulted.
+    accesses: AtomicU64,
+    errors: AtomicU64,
+}
+
+/// What was counted of a disk since the start of the program or, if it is newer, since it was put in its place.
+#[derive(Clone, Copy, Debug, PartialEq, Eq)]
+pub struct DiskCounts {
+    /// The rows, or parts of them, that were read or written, with those that failed.
+    pub accesses: u64,
+    /// The accesses that failed.
+    pub errors: u64,
 }
 
 impl Fuse {
@@ -40,6 +52,8 @@ impl Fuse {
             is_blown: AtomicBool::new(false),
             is_out: AtomicBool::new(false),
             is_latest: AtomicBool::new(false),
+            accesses: AtomicU64::new(0),
+            errors: AtomicU64::new(0),
         }
     }
 
@@ -76,18 +90,29 @@ impl Fuse {
         self.is_out() || self.is_blown.load(Ordering::SeqCst)
     }
 
-    // Begins with a new disk, its fuse off.
+    // Begins with a new disk, its fuse off and nothing counted.
     fn renew(&self) {
         self.set(None);
         self.is_blown.store(false, Ordering::SeqCst);
         self.is_out.store(false, Ordering::SeqCst);
+        self.accesses.store(0, Ordering::SeqCst);
+        self.errors.store(0, Ordering::SeqCst);
     }
 
-    // Uses up one access; false if none is left. While the fuse is off, this is one load.
+    fn counts(&self) -> DiskCounts {
+        DiskCounts {
+            accesses: self.accesses.load(Ordering::SeqCst),
+            errors: self.errors.load(Ordering::SeqCst),
+        }
+    }
+
+    // Counts one access and uses it up; false if none is left.
     fn passes(&self) -> bool {
+        self.accesses.fetch_add(1, Ordering::SeqCst);
         match self.left.load(Ordering::SeqCst) {
             OFF => true,
             0 => {
+                self.errors.fetch_add(1, Ordering::SeqCst);
                 self.is_blown.store(true, Ordering::SeqCst);
                 false
             }
@@ -261,6 +286,29 @@ pub fn lost_disks(fuses: &[Fuse; 12]) -> Option<[u8; 2]> {
         (Some(one), None, Some(other)) => Some([one.min(other), one.max(other)]),
         _ => None,
     }
+}
+
+/// Returns what was counted of each disk, by its number. Where the array has no disk, both counts are 0. They are
+/// counted under the array's lock: with it held, they are those of one moment.
+pub fn disk_counts(fuses: &[Fuse; 12]) -> [DiskCounts; 12] {
+    let none = DiskCounts {
+        accesses: 0,
+        errors: 0,
+    };
+    let mut counts = [none; 12];
+    for (count, fuse) in counts.iter_mut().zip(fuses) {
+        *count = fuse.counts();
+    }
+    counts
+}
+
+/// Returns which disks an operator has taken out, by their numbers (`Fuse::is_out`).
+pub fn disks_out(fuses: &[Fuse; 12]) -> [bool; 12] {
+    let mut out = [false; 12];
+    for (is_out, fuse) in out.iter_mut().zip(fuses) {
+        *is_out = fuse.is_out();
+    }
+    out
 }
 
 /// Makes a new array on new disks, each on the fuse of its number. `Start` is returned as `start_array` returns it.

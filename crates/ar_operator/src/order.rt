@@ -5,10 +5,12 @@ ghost use Rattle.ar_language.specs.Forms.{Gives, IsNumberOf, value};
 ghost use Rattle.ar_operator.specs.Orders.{AreAccesses, AsksFuse, HasForce, HasFuse, IsFuse, IsOperatorOrder};
 ghost use Rattle.ar_operator.specs.Orders.{ReadsAlone};
 ghost use Rattle.ar_operator.specs.Orders.{ReadsArguments, ReadsFirstWord, ReadsOperatorLine, ReadsOperatorWord};
+ghost use Rattle.ar_operator.specs.Orders.{ReadsReportWord};
 ghost use Rattle.ar_operator.specs.Orders.{ReadsOut, ReadsSharedWord, accesses_in, argument, as_operator, is_host_word};
 ghost use Rattle.ar_operator.specs.Orders.{text_of};
 
-use ar_language::{Action, FaultKind, MOST_WORDS, Order, Question, first_words, number, order_in};
+use ar_language::{Action, FaultKind, MOST_WORDS, Order, Question, first_words, order_in};
+use ar_numbers::number;
 use std::fmt;
 use std::fmt::{Display, Formatter};
 use thiserror::Error;
@@ -27,6 +29,14 @@ pub enum OperatorOrder {
     Sessions,
     /// `counts`: show what was counted since the start.
     Counts,
+    /// `usage`: show how the sectors of the array are used, and how many spare disks are left.
+    Usage,
+    /// `units`: show the units.
+    Units,
+    /// `disks`: show the disks.
+    Disks,
+    /// `version`: show the version of the program.
+    Version,
     /// `fail`: let a disk, by its number, pass this many more accesses and fault at the next one. None: `off`.
     Fail { disk: u8, accesses: Option<u64> },
     /// `help`: show the operator's words.
@@ -105,6 +115,25 @@ fn order_named(
         "fail" => fail(arguments),
         "help" => alone(arguments, OperatorOrder::Help),
         "stop" => alone(arguments, OperatorOrder::Stop),
+        _ => report_order(line, name, arguments),
+    }
+}
+
+// The same for a word that shows what the array has, or one of scripts. (Two functions with a few names each, since a
+// match costs the proof more than by the number of its arms.)
+fn report_order(
+    line: &str,
+    name: &str,
+    arguments: &[&str],
+) -> Result<Option<OperatorOrder>, LineFault>
+    ensures reads { ReadsReportWord line.now name.now (map text_of arguments.now) result }
+    ensures allowed { IfOk result (λ asked. IfSome asked IsOperatorOrder) }
+{
+    match name {
+        "usage" => alone(arguments, OperatorOrder::Usage),
+        "units" => alone(arguments, OperatorOrder::Units),
+        "disks" => alone(arguments, OperatorOrder::Disks),
+        "version" => alone(arguments, OperatorOrder::Version),
         _ => shared_order(line, name),
     }
 }

@@ -17,6 +17,16 @@ pub struct WantedDisk {
     extents: u16,
 }
 
+impl WantedDisk {
+    /// The shape of each disk of an array.
+    pub fn of<D: Disk>(array: &Array<D>) -> WantedDisk {
+        WantedDisk {
+            geometry: array.geometry(),
+            extents: array.extents(),
+        }
+    }
+}
+
 /// Returns which new disk an order wants. None: it wants none, or is refused.
 pub fn wanted_disk<D: Disk>(array: &Array<D>, order: OperatorOrder) -> Option<WantedDisk> {
     let OperatorOrder::Act(action) = order else {
@@ -28,10 +38,7 @@ pub fn wanted_disk<D: Disk>(array: &Array<D>, order: OperatorOrder) -> Option<Wa
     }
     match early_refusal(array, action) {
         Some(_) => None,
-        None => Some(WantedDisk {
-            geometry: array.geometry(),
-            extents: array.extents(),
-        }),
+        None => Some(WantedDisk::of(array)),
     }
 }
 

@@ -12,8 +12,8 @@ pub fn write_help<W: Write>(out: &mut W) -> io::Result<()>
     ensures adds { OnOk result (AddsSome (W.contents out.old) (W.contents out.new)) }
 {
     out.write_all(
-        b"make H L SECTORS
-grow H L SECTORS
+        b"make H L SIZE
+grow H L SIZE
 drop H L
 add
 out D
@@ -32,12 +32,21 @@ groups
 room
 health
 picture
+usage
+units
+disks
 sessions
 counts
+version
 help
 stop
 ",
     )
+}
+
+/// Writes the version of the program, as `--version` prints it.
+pub fn write_version<W: Write>(out: &mut W, version: &str) -> io::Result<()> {
+    writeln!(out, "autoraid {version}")
 }
 
 /// Writes a connected host, as a line: the frames of its session, and the bytes that it has read and written.

@@ -27,6 +27,10 @@ fn faulty_lines(rt: HostRuntime) {
                 b"fault: bad argument\nfault: bad argument\nfault: bad argument\nfault: bad argument\n",
             ),
             (
+                b"usage 0\nunits 0 0\ndisks 0\nversion 1\n",
+                b"fault: bad argument\nfault: bad argument\nfault: bad argument\nfault: bad argument\n",
+            ),
+            (
                 b"fail\nfail 0\nfail 0 x\nfail 256 1\n",
                 b"fault: bad argument\nfault: bad argument\nfault: bad argument\nfault: bad argument\n",
             ),

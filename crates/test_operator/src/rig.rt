@@ -6,8 +6,8 @@ use ar_disks::Geometry;
 use ar_frames::{MemSource, Sink};
 use ar_history::{Kept, Seat};
 use ar_operator::{
-    Controller, Fuse, FusedDisk, FusedMaker, OperatorEnd, OperatorOrder, converse, execute,
-    set_fuse, start_fused, write_counts, write_help,
+    Controller, Fuse, FusedDisk, FusedMaker, Inventory, OperatorEnd, OperatorOrder, converse,
+    execute, set_fuse, start_fused, write_counts, write_help, write_version,
 };
 use ar_script::Setup;
 use bytes::Bytes;
@@ -68,6 +68,12 @@ impl<'a, L: Ledger> Rig<'a, L> {
     }
 }
 
+impl<L: Ledger> Rig<'_, L> {
+    fn inventory(&self) -> Result<Inventory, AllocError> {
+        Inventory::of(self.alloc, self.kept.array(), self.fuses)
+    }
+}
+
 // Executes a command of host 0 to its unit 0.
 fn command<L: Ledger>(
     kept: &mut Kept<FusedDisk<'_>, L>,
@@ -96,6 +102,19 @@ impl<L: Ledger> Controller for Rig<'_, L> {
             OperatorOrder::Counts => {
                 write_counts(out, &self.kept.counts()).map_err(|_| AllocError)
             }
+            OperatorOrder::Usage => {
+                let inventory = self.inventory()?;
+                inventory.write_usage(out, 0).map_err(|_| AllocError)
+            }
+            OperatorOrder::Units => {
+                let inventory = self.inventory()?;
+                inventory.write_units(out).map_err(|_| AllocError)
+            }
+            OperatorOrder::Disks => {
+                let inventory = self.inventory()?;
+                inventory.write_disks(out).map_err(|_| AllocError)
+            }
+            OperatorOrder::Version => write_version(out, "1.2.3").map_err(|_| AllocError),
             OperatorOrder::Sessions | OperatorOrder::Stop => {
                 self.silent = self.silent.saturating_add(1);
                 Ok(())

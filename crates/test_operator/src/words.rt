@@ -114,14 +114,91 @@ fn the_only_copy(rt: HostRuntime) {
 }
 
 #[test]
+fn what_the_array_has(rt: HostRuntime) {
+    plays(
+        &rt,
+        rt.alloc(),
+        Play::Written(&[
+            // Six blocks of two sectors, of the 18 that four disks of four extents have room for.
+            (
+                b"usage\n",
+                b"room 24 sectors
+mirrored 12 sectors
+parity 0 sectors
+unwritten 0 sectors
+spares 0
+",
+            ),
+            (b"make 3 7 5\n", b"ok\n"),
+            (
+                b"units\n",
+                b"unit 0 0 sectors 12 blocks 6 written 6
+unit 3 7 sectors 5 blocks 3 written 0
+",
+            ),
+            (
+                b"usage\n",
+                b"room 18 sectors
+mirrored 12 sectors
+parity 0 sectors
+unwritten 6 sectors
+spares 0
+",
+            ),
+            (b"version\n", b"autoraid 1.2.3\n"),
+        ]),
+    );
+}
+
+#[test]
+fn disks_without_blocks(rt: HostRuntime) {
+    plays(
+        &rt,
+        rt.alloc(),
+        Play::Rows(&[
+            (b"units\n", b""),
+            (
+                b"out 1\ndisks\n",
+                b"ok
+disk 0 extents 0 of 4 accesses 0 errors 0 in use
+disk 1 extents 0 of 4 accesses 0 errors 0 out
+disk 2 extents 0 of 4 accesses 0 errors 0 in use
+disk 3 extents 0 of 4 accesses 0 errors 0 in use
+",
+            ),
+            (
+                b"replace 1\nrebuild\ndisks\n",
+                b"ok
+rebuilt 0 left 3
+disk 0 extents 0 of 4 accesses 0 errors 0 in use
+disk 1 extents 0 of 4 accesses 0 errors 0 rebuilding 1 of 4
+disk 2 extents 0 of 4 accesses 0 errors 0 in use
+disk 3 extents 0 of 4 accesses 0 errors 0 in use
+",
+            ),
+            // Both disks that a failed array has lost.
+            (
+                b"out 3 force\ndisks\n",
+                b"ok
+disk 0 extents 0 of 4 accesses 0 errors 0 in use
+disk 1 extents 0 of 4 accesses 0 errors 0 failed
+disk 2 extents 0 of 4 accesses 0 errors 0 in use
+disk 3 extents 0 of 4 accesses 0 errors 0 out
+",
+            ),
+        ]),
+    );
+}
+
+#[test]
 fn help_names_each_word(rt: HostRuntime) {
     plays(
         &rt,
         rt.alloc(),
         Play::Rows(&[(
             b"help\n",
-            b"make H L SECTORS
-grow H L SECTORS
+            b"make H L SIZE
+grow H L SIZE
 drop H L
 add
 out D
@@ -140,8 +217,12 @@ groups
 room
 health
 picture
+usage
+units
+disks
 sessions
 counts
+version
 help
 stop
 ",
