@@ -30,7 +30,8 @@ pub by_look : {V S : Type 0} (shows : V → Bool → ArrayStatus → List ℕ �
     → OnOk result (fields_of r ≡ fields_in (answer_for is_ours method path))
     → OnOk result (IsBodyOf (answer_for is_ours method path) status picture r.body.items)
     → OnOk result (RespondsByLook shows watched name request r × (s ≡ s))
-by_look shows watched s name request (Ok done) method path status picture r draws is_ours ours asked at drawn shown code fields body =
+by_look shows watched s name request (Ok done) method path status picture r draws is_ours ours asked at drawn shown code
+    fields body =
     let P : Bool → List ℕ → List ℕ → Type 0 =
     λ o m p. shows watched (needs_picture (answer_for o m p)) status picture × RespondsTo o m p status picture r in
     let looked = subst (λ d. shows watched d status picture) drawn shown in
@@ -39,11 +40,13 @@ by_look shows watched s name request (Ok done) method path status picture r draw
     subst (λ o. P o (head_of request).method (uri_path (head_of request).uri)) ours
     (subst (λ m. P is_ours m (uri_path (head_of request).uri)) asked (subst (P is_ours method) at both)) in
     (record { status = status; picture = picture; shown = all.0; responds = all.1 }, refl)
-by_look shows watched s name request (Err fault) method path status picture r draws is_ours ours asked at drawn shown code fields body =
+by_look shows watched s name request (Err fault) method path status picture r draws is_ours ours asked at drawn shown
+    code fields body =
     tt
 
 -- each call of a chain was answered by a look at the array of the first state
-answered_all : {V S : Type 0} (shows : V → Bool → ArrayStatus → List ℕ → Type 0) (watched : S → V) (name : S → Option (List ℕ))
+answered_all : {V S : Type 0} (shows : V → Bool → ArrayStatus → List ℕ → Type 0) (watched : S → V)
+    (name : S → Option (List ℕ))
     (calls : List Call) (old new : S)
     → Chain (λ s request r next. RespondsByLook shows (watched s) (name s) request r × (next ≡ s)) old calls new
     → AllByRecursion (λ call. RespondsByLook shows (watched old) (name old) call.0 call.1) calls
@@ -53,12 +56,14 @@ answered_all {S} shows watched name (call ∷ calls) old new chain =
     (chain.1.0, subst P chain.1.1 (answered_all shows watched name calls chain.0 new chain.2))
 
 -- a new connection that is done has served
-pub served_by_looks : {V S : Type 0} (shows : V → Bool → ArrayStatus → List ℕ → Type 0) (watched : S → V) (name : S → Option (List ℕ))
+pub served_by_looks : {V S : Type 0} (shows : V → Bool → ArrayStatus → List ℕ → Type 0) (watched : S → V)
+    (name : S → Option (List ℕ))
     (s t : S)
     (before after : Connection)
     (left left' held held' : Option (List ℕ))
     → config_of before ≡ CONFIG → history before ≡ new_history → config_of after ≡ config_of before
-    → Calls (λ s request r next. RespondsByLook shows (watched s) (name s) request r × (next ≡ s)) s t (history before).calls
+    → Calls (λ s request r next. RespondsByLook shows (watched s) (name s) request r × (next ≡ s)) s t
+    (history before).calls
     (history after).calls
     → ((more : List ℕ) × Consumes left left' more × ((history after).received ≡ (history before).received ++ more))
     → ((more : List ℕ) × Appends held held' more × ((history after).sent ≡ (history before).sent ++ more))

@@ -1,5 +1,6 @@
 -- By which names a client may ask for the server.
-use Rattle.std.specs.Prelude.{ℕ, Bool, true, false, ◌&&◌, ◌||◌, ◌==◌, List, [], ◌∷◌, Option, None, Some, codes, option_map, bytes_eq}
+use Rattle.std.specs.Prelude.{ℕ, Bool, true, false, ◌&&◌, ◌||◌, ◌==◌, List, [], ◌∷◌, Option, None, Some, codes}
+use Rattle.std.specs.Prelude.{option_map, bytes_eq}
 use Rattle.std.specs.Prelude.{drop, if◌then◌else◌, length, map, nat_lt, take}
 use Rattle.std.specs.List.{list_all}
 use Rattle.http.specs.declared.request.Parts.{Parts}

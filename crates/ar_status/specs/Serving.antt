@@ -14,7 +14,8 @@ use Rattle.ar_status.specs.Hosts.{asks_us, host_in}
 use Rattle.ar_status.specs.Answers.{IsBodyOf, answer_for, code_of, fields_in, needs_picture}
 
 -- the response to a method at a path, for a status and a picture; `is_ours`: the request asks for this server
-pub record RespondsTo (is_ours : Bool) (method path : List ℕ) (status : ArrayStatus) (picture : List ℕ) (r : Response) : Type 0 where
+pub record RespondsTo (is_ours : Bool) (method path : List ℕ) (status : ArrayStatus) (picture : List ℕ)
+    (r : Response) : Type 0 where
   pub code : r.status ≡ code_of (answer_for is_ours method path) status.health
   pub fields : fields_of r ≡ fields_in (answer_for is_ours method path)
   pub body : IsBodyOf (answer_for is_ours method path) status picture r.body.items
@@ -29,7 +30,8 @@ pub record RespondsByLook {V : Type 0} (shows : V → Bool → ArrayStatus → L
   pub status : ArrayStatus
   pub picture : List ℕ
   pub shown : shows watched
-      (needs_picture (answer_for (request_asks_us name request) (head_of request).method (uri_path (head_of request).uri)))
+      (needs_picture
+      (answer_for (request_asks_us name request) (head_of request).method (uri_path (head_of request).uri)))
       status picture
   pub responds : RespondsTo (request_asks_us name request) (head_of request).method (uri_path (head_of request).uri)
       status picture r

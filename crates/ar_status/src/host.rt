@@ -5,8 +5,8 @@ ghost use Rattle.std.specs.Char.{is_ascii_digit, to_ascii_lowercase};
 ghost use Rattle.std.specs.List.{list_all};
 ghost use Rattle.ar_status.specs.Hosts.{asks_us, names_given, names_us, is_ours, is_port};
 
-/// Returns whether a request with this Host field asks for the server: by a name of 127.0.0.1, or the name that is given.
-/// A request without the field, as HTTP/1.0 allows it, does.
+/// Returns whether a request with this Host field asks for the server: by a name of 127.0.0.1, or the name that is
+/// given. A request without the field, as HTTP/1.0 allows it, does.
 pub fn asks_us(name: Option<&str>, host: Option<&[u8]>) -> bool
     ensures { result ≡ asks_us (option_map (λ name. name.now) name.entry) (option_map (λ host. host.now) host.entry) }
 {

@@ -4,23 +4,32 @@
 
 mod answer;
 mod changes;
+mod disks;
 mod events;
+mod histograms;
 mod host;
+mod latency;
 mod metrics;
+mod name;
 mod page;
 mod response;
+mod samples;
 mod serve;
 mod status;
 
 pub use answer::{Answer, answer_to};
 pub use changes::EventLog;
+pub use disks::{DiskCounters, DiskList};
 pub use events::{EVENTS_MAX, EventKind, RecentEvent, RecentEvents};
 pub use host::asks_us;
+pub use latency::{CommandLatencies, LATENCY_BOUNDS, LatencyCounters};
 pub use metrics::write_metrics;
+pub use name::{ArrayName, NAME_MAX};
 pub use page::PAGE;
 pub use response::{Look, respond};
+pub use samples::{Activity, RecentSamples, SAMPLES_MAX, SPELL, Sample};
 pub use serve::{HEAD_MAX, Watched, serve_connection, serve_named};
 pub use status::{
     ArrayCounters, ArrayHealth, ArrayStatus, HostCounters, MaintenanceSteps, OperationCounters,
-    ReplyCounters, SessionNumbers, StoreHealth, StoreNumbers,
+    RefusedLogins, ReplyCounters, SessionNumbers, StoreHealth, StoreNumbers,
 };

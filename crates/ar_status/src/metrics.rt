@@ -1,24 +1,40 @@
 // The metrics, in Prometheus' text format 0.0.4: of each the lines HELP and TYPE, and then its samples. A counter's
 // name ends in `_total`, and a unit is a part of the name.
+use crate::histograms::write_latencies;
 use crate::{
-    ArrayCounters, ArrayHealth, ArrayStatus, HostCounters, MaintenanceSteps, OperationCounters,
-    ReplyCounters, SessionNumbers, StoreHealth, StoreNumbers,
+    ArrayCounters, ArrayHealth, ArrayStatus, DiskList, HostCounters, MaintenanceSteps,
+    OperationCounters, RefusedLogins, ReplyCounters, SessionNumbers, StoreHealth, StoreNumbers,
 };
+use ar_cli::VERSION;
 use std::io;
 use std::io::Write;
 
+/// Bytes of a sector.
+const SECTOR_BYTES: u64 = 512;
+
 /// Writes all metrics of a status.
 pub fn write_metrics<W: Write>(out: &mut W, status: &ArrayStatus) -> io::Result<()> {
+    write_build(out)?;
     write_array(out, status)?;
     write_disks(out, status)?;
+    write_accesses(out, &status.disk_counters)?;
     write_blocks(out, status)?;
+    write_units(out, &status.unit_sectors)?;
     if let Some(store) = status.store {
         write_store(out, store)?;
     }
     write_hosts(out, &status.hosts)?;
+    write_latencies(out, &status.latencies)?;
     write_sessions(out, status.sessions)?;
+    write_refused(out, status.refused_logins)?;
     write_steps(out, &status.steps)?;
     write_counters(out, &status.counters)
+}
+
+// Writes the program's version.
+fn write_build<W: Write>(out: &mut W) -> io::Result<()> {
+    write_head(out, "build_info", "gauge", "1, with the program's version.")?;
+    writeln!(out, "autoraid_build_info{{version=\"{VERSION}\"}} 1")
 }
 
 // Writes the state of the array, as a sample for each that is 1 for the present one.
@@ -30,12 +46,15 @@ fn write_array<W: Write>(out: &mut W, status: &ArrayStatus) -> io::Result<()> {
         status.uptime_seconds,
     )?;
     write_gauge(out, "disks", "Disks.", u64::from(status.disks))?;
+    let spares = u64::from(status.spares);
+    write_gauge(out, "spare_disks", "Spare disks that are left.", spares)?;
     write_gauge(
         out,
         "disk_extents",
         "Extents of each disk.",
         u64::from(status.extents),
     )?;
+    write_gauge(out, "disk_bytes", "Bytes of each disk.", disk_bytes(status))?;
     write_gauge(
         out,
         "rebuild_extents_left",
@@ -78,6 +97,43 @@ fn write_disks<W: Write>(out: &mut W, status: &ArrayStatus) -> io::Result<()> {
         writeln!(out, "autoraid_disk_lost{{disk=\"{disk}\"}} {is}")?;
     }
     Ok(())
+}
+
+// Writes the accesses to each disk, and those that failed.
+fn write_accesses<W: Write>(out: &mut W, disks: &DiskList) -> io::Result<()> {
+    write_head(
+        out,
+        "disk_accesses_total",
+        "counter",
+        "Rows of a disk that were accessed.",
+    )?;
+    for (disk, counters) in disks.as_slice().iter().enumerate() {
+        let accesses = counters.accesses;
+        writeln!(
+            out,
+            "autoraid_disk_accesses_total{{disk=\"{disk}\"}} {accesses}"
+        )?;
+    }
+    write_head(
+        out,
+        "disk_errors_total",
+        "counter",
+        "Accesses to a disk that failed.",
+    )?;
+    for (disk, counters) in disks.as_slice().iter().enumerate() {
+        let errors = counters.errors;
+        writeln!(
+            out,
+            "autoraid_disk_errors_total{{disk=\"{disk}\"}} {errors}"
+        )?;
+    }
+    Ok(())
+}
+
+// Bytes of a disk.
+fn disk_bytes(status: &ArrayStatus) -> u64 {
+    let rows = u64::from(status.extents).saturating_mul(u64::from(status.extent_rows));
+    rows.saturating_mul(status.block_bytes)
 }
 
 // Extents of a replaced disk that are still to be rebuilt.
@@ -130,6 +186,38 @@ fn write_blocks<W: Write>(out: &mut W, status: &ArrayStatus) -> io::Result<()> {
     )
 }
 
+// Writes the size of each unit.
+fn write_units<W: Write>(out: &mut W, units: &[[Option<u32>; 8]; 4]) -> io::Result<()> {
+    write_head(
+        out,
+        "unit_bytes",
+        "gauge",
+        "Bytes of a unit, by its host and LUN.",
+    )?;
+    for (host, units) in units.iter().enumerate() {
+        write_host_units(out, host, units)?;
+    }
+    Ok(())
+}
+
+// Writes the sizes of a host's units.
+fn write_host_units<W: Write>(
+    out: &mut W,
+    host: usize,
+    units: &[Option<u32>; 8],
+) -> io::Result<()> {
+    for (lun, sectors) in units.iter().enumerate() {
+        if let Some(sectors) = sectors {
+            let bytes = u64::from(*sectors).saturating_mul(SECTOR_BYTES);
+            writeln!(
+                out,
+                "autoraid_unit_bytes{{host=\"{host}\",lun=\"{lun}\"}} {bytes}"
+            )?;
+        }
+    }
+    Ok(())
+}
+
 // Writes the state of the store, as a sample for each that is 1 for the present one, and its numbers.
 fn write_store<W: Write>(out: &mut W, store: StoreNumbers) -> io::Result<()> {
     write_head(
@@ -138,7 +226,7 @@ fn write_store<W: Write>(out: &mut W, store: StoreNumbers) -> io::Result<()> {
         "gauge",
         "1 for the state of the store, 0 for the others.",
     )?;
-    for state in ["sound", "failing", "given_up"] {
+    for state in ["sound", "degraded", "failing", "given_up"] {
         let is = u8::from(state == store_state_of(store.state));
         writeln!(out, "autoraid_store_state{{state=\"{state}\"}} {is}")?;
     }
@@ -166,6 +254,7 @@ fn write_store<W: Write>(out: &mut W, store: StoreNumbers) -> io::Result<()> {
 fn store_state_of(health: StoreHealth) -> &'static str {
     match health {
         StoreHealth::Sound => "sound",
+        StoreHealth::Degraded => "degraded",
         StoreHealth::Failing => "failing",
         StoreHealth::GivenUp => "given_up",
     }
@@ -279,6 +368,24 @@ fn write_sessions<W: Write>(out: &mut W, sessions: SessionNumbers) -> io::Result
     )
 }
 
+// Writes how many logins were refused, by door.
+fn write_refused<W: Write>(out: &mut W, refused: RefusedLogins) -> io::Result<()> {
+    let doors = [("iscsi", refused.iscsi), ("operators", refused.operators)];
+    write_head(
+        out,
+        "refused_logins_total",
+        "counter",
+        "Logins that were refused, by door.",
+    )?;
+    for (door, value) in doors {
+        writeln!(
+            out,
+            "autoraid_refused_logins_total{{door=\"{door}\"}} {value}"
+        )?;
+    }
+    Ok(())
+}
+
 // Writes the maintenance steps.
 fn write_steps<W: Write>(out: &mut W, steps: &MaintenanceSteps) -> io::Result<()> {
     let kinds = [
@@ -349,8 +456,13 @@ fn write_gauge<W: Write>(out: &mut W, name: &str, help: &str, value: u64) -> io:
     writeln!(out, "autoraid_{name} {value}")
 }
 
-// Writes the lines above the samples of a metric.
-fn write_head<W: Write>(out: &mut W, name: &str, kind: &str, help: &str) -> io::Result<()> {
+/// Writes the lines above the samples of a metric.
+pub(crate) fn write_head<W: Write>(
+    out: &mut W,
+    name: &str,
+    kind: &str,
+    help: &str,
+) -> io::Result<()> {
     writeln!(out, "# HELP autoraid_{name} {help}")?;
     writeln!(out, "# TYPE autoraid_{name} {kind}")
 }

@@ -12,50 +12,87 @@ pub const PAGE: &str = "\
 <link rel='icon' href='data:,'>
 <style>
 :root { color-scheme: light dark }
-:root { --ink: #222; --dim: #666; --line: #ccc; --card: #fff; --page: #f3f3f1; --bad: #b03a00 }
+:root { --ink: #222; --dim: #666; --line: #ccc; --card: #fff; --page: #f3f3f1; --bad: #b03a00; --link: #0060a0 }
+:root { --good-bar: #1a7f37; --warn-bar: #b87a00; --fail-bar: #c01c28 }
 @media (prefers-color-scheme: dark) {
-  :root { --ink: #ddd; --dim: #999; --line: #444; --card: #1b1b1b; --page: #111; --bad: #ff9a66 }
-  #picture { filter: invert(0.9) hue-rotate(180deg) }
+  :root { --ink: #ddd; --dim: #999; --line: #444; --card: #1b1b1b; --page: #111; --bad: #ff9a66; --link: #7cc4ff }
+  :root { --good-bar: #3fb950; --warn-bar: #e3a008; --fail-bar: #ff6b6b }
 }
 * { box-sizing: border-box }
-body { display: flex; flex-direction: column; height: 100vh; margin: 0; padding: 12px 16px }
-body { color: var(--ink); background: var(--page); font: 14px/1.4 sans-serif }
+body { margin: 0; padding: 12px; color: var(--ink); background: var(--page); font: 14px/1.4 sans-serif }
+a { color: var(--link) }
+h1 { margin: 0; font-size: 18px; overflow-wrap: anywhere }
 h2 { margin: 0 0 4px; font-size: 14px }
-#health { margin: 0 0 12px; padding: 6px 12px; border-left: 6px solid; background: var(--card); font-size: 18px }
-#health.out { border-left-style: dashed }
-#health.rebuilding { border-left-style: dotted }
-#health.broken, #health.silent { border-left-style: double }
-#health:not(.whole), #store { color: var(--bad); font-weight: bold }
-#store { margin: 0 0 12px; padding: 0 18px; font-size: 18px }
-main { display: grid; flex: 1; grid-template: minmax(0, 1fr) / minmax(0, 1fr) 310px; gap: 12px; min-height: 0 }
+header { display: flex; flex-wrap: wrap; gap: 4px 24px; align-items: center; margin: 0 0 12px; padding: 6px 12px }
+header { border-left: 8px solid var(--bar, var(--dim)); background: var(--card); font-size: 18px }
+header.whole { --bar: var(--good-bar) }
+header.out, header.rebuilding { --bar: var(--warn-bar); border-left-style: dashed }
+header.broken, header.silent { --bar: var(--fail-bar); border-left-style: double }
+header p { margin: 0 }
+#health { flex: 1 1 240px }
+#health b { margin-right: 8px; color: var(--bar) }
+#used { font-size: 14px }
+meter { width: 120px; vertical-align: middle }
+#store { flex-basis: 100%; color: var(--bad); font-weight: bold }
+nav { display: flex; gap: 12px; font-size: 14px }
+main { display: grid; grid-template-columns: minmax(0, 1fr) 320px; gap: 12px; align-items: start }
 section { padding: 10px 12px; background: var(--card); border: 1px solid var(--line) }
-main > section { align-self: start }
-aside { display: flex; flex-direction: column; gap: 12px; min-height: 0 }
-aside > section:last-child { min-height: 80px; overflow-y: auto }
-table { width: 100%; border-collapse: collapse; font-variant-numeric: tabular-nums }
-th, td { padding: 1px 0; font-weight: normal; text-align: right }
-th:first-child, td:first-child { text-align: left }
-thead th, time { color: var(--dim) }
-ol { margin: 0; padding: 0; list-style: none }
+.tables { display: grid; grid-template-columns: minmax(0, 1fr); min-width: 0 }
+.tables > section { margin-bottom: 12px; break-inside: avoid }
+#graphs { display: grid; grid-template-columns: repeat(3, minmax(0, 1fr)); gap: 24px; grid-column: 1 / -1 }
+main > #graphs { padding: 10px 12px }
+figure { margin: 0 }
+figcaption b { display: block }
+figcaption span, thead th, time { color: var(--dim) }
+figure svg { display: block; width: 100%; height: 64px; border-bottom: 1px solid var(--line) }
+figure path { fill: none; stroke: var(--link); stroke-width: 1.5; vector-effect: non-scaling-stroke }
+main > section { padding: 10px 6px }
+#picture { overflow-x: auto }
+.scrolls { overflow-x: auto }
+table { width: 100%; border-collapse: collapse; font-size: 13px; font-variant-numeric: tabular-nums }
+th, td { padding: 1px 0 1px 8px; font-weight: normal; text-align: right; white-space: nowrap }
+th:first-child, td:first-child { padding-left: 0; text-align: left }
+#events { max-height: 240px; margin: 0; padding: 0; overflow-y: auto; list-style: none }
 time { display: inline-block; min-width: 84px }
-@media (max-width: 800px) {
-  body { height: auto }
-  main { grid-template: auto / minmax(0, 1fr) }
+@media (min-width: 1700px) {
+  main { grid-template-columns: minmax(0, 1fr) 680px }
+  .tables { display: block; columns: 2; column-gap: 12px }
+}
+@media (max-width: 1100px) {
+  main { grid-template-columns: minmax(0, 1fr) }
+  .tables { display: block; columns: 320px; column-gap: 12px }
+}
+@media (max-width: 600px) {
+  body { padding: 8px }
+  #graphs { grid-template-columns: minmax(0, 1fr) }
+  .tables { columns: auto }
 }
 </style>
 </head>
 <body>
+<header id='top'>
+<h1 id='name' hidden></h1>
 <p id='health' role='status'>loading</p>
+<p id='used'></p>
+<nav><a href='metrics'>metrics</a><a href='status.json'>status as JSON</a></nav>
 <p id='store' role='status' hidden></p>
+</header>
 <main>
+<section id='graphs'></section>
 <section><div id='picture'></div></section>
-<aside>
-<section><h2>Hosts</h2><table>
-<thead><tr><th>host</th><th>commands/s</th><th>read/s</th><th>written/s</th></tr></thead>
-<tbody id='hosts'></tbody></table></section>
+<div class='tables'>
+<section><h2>Hosts</h2><div class='scrolls'><table>
+<thead><tr><th>host</th><th>session</th><th>ops/s</th><th>read/s</th><th>written/s</th></tr></thead>
+<tbody id='hosts'></tbody></table></div></section>
+<section><h2>Units</h2><table>
+<thead><tr><th>host, LUN</th><th>size</th><th>sectors</th></tr></thead>
+<tbody id='units'></tbody></table></section>
+<section><h2>Disks</h2><div class='scrolls'><table>
+<thead><tr><th>disk</th><th>state</th><th>size</th><th>accesses</th><th>errors</th></tr></thead>
+<tbody id='disks'></tbody></table></div></section>
 <section><h2>Array</h2><table><tbody id='array'></tbody></table></section>
 <section><h2>Events</h2><ol id='events'></ol></section>
-</aside>
+</div>
 </main>
 <script>
 'use strict';
@@ -70,11 +107,14 @@ function size(n) {
   return `${unit && n < 10 ? n.toFixed(1) : Math.round(n)} ${['B', 'kB', 'MB', 'GB', 'TB'][unit]}`;
 }
 
+// An element with this text, which is never read as HTML.
+const element = (name, text) => Object.assign(document.createElement(name), { textContent: text });
+
 // Shows rows of texts in the body of a table.
 function rows(body, texts) {
   body.replaceChildren(...texts.map(cells => {
     const row = document.createElement('tr');
-    row.append(...cells.map(text => Object.assign(document.createElement('td'), { textContent: text })));
+    row.append(...cells.map(text => element('td', text)));
     return row;
   }));
 }
@@ -91,6 +131,9 @@ function left(health, extents, now) {
 // Which disks an array has lost that has failed.
 const lost = disks => disks ? `disks ${disks.join(' and ')} failed` : 'two disks were missing at once';
 
+// The state in a word, for the top line and the title, and what it means.
+const STATES = { whole: 'healthy', out: 'degraded', rebuilding: 'rebuilding', broken: 'failed', silent: 'no answer' };
+
 function words(status, now) {
   const { health, disks, extents, lost_disks } = status, rest = left(health, extents, now);
   switch (health.state) {
@@ -101,23 +144,131 @@ function words(status, now) {
   }
 }
 
+// The array's name as it was last seen, which stays while the array doesn't answer.
+let named = '';
+function head(state, text) {
+  at('top').className = state;
+  at('name').textContent = named;
+  at('name').hidden = !named;
+  at('health').replaceChildren(element('b', STATES[state]), text);
+  document.title = `${STATES[state]} - ${named || 'autoraid'}`;
+}
+
 // What is wrong with the store, if it is.
 function fault(store) {
   switch (store && store.state) {
+    case 'degraded': return 'one of the two copies of the store is lost';
     case 'failing': return `the store can't be written: no WRITE is acknowledged until it can`;
     case 'given_up': return 'the store is given up: no WRITE is acknowledged until a new start';
     default: return '';
   }
 }
 
-// The rates of the hosts, from two samples. A service that was restarted has counted from 0.
+// The units as they are in a status, each with its bytes.
+const unitsOf = status => status.unit_sectors.flatMap((units, host) => units.flatMap((sectors, lun) =>
+  sectors === null ? [] : [{ host, lun, sectors, bytes: sectors * 512 }]));
+
+// How many bytes units have of those that they may have: a unit takes whole blocks.
+function used(status) {
+  const block = status.block_bytes;
+  const given = unitsOf(status).reduce((sum, unit) => sum + Math.ceil(unit.bytes / block), 0);
+  return { given: given * block, all: (given + status.room_blocks) * block };
+}
+
+function showUsed(status) {
+  const { given, all } = used(status), meter = document.createElement('meter');
+  Object.assign(meter, { max: all || 1, value: given });
+  at('used').replaceChildren(`${size(given)} of ${size(all)} given to units `, meter);
+}
+
+function stateOf(status, disk) {
+  const { health, extents, lost_disks } = status;
+  if (health.state === 'broken') return lost_disks && lost_disks.includes(disk) ? 'lost' : 'array failed';
+  if (health.disk !== disk) return 'present';
+  return health.state === 'out' ? 'failed' : `rebuilding ${health.done} of ${extents}`;
+}
+
+function showDisks(status) {
+  const bytes = size(status.extents * status.extent_rows * status.block_bytes);
+  rows(at('disks'), status.disk_counters.map(({ accesses, errors }, disk) =>
+    [disk, stateOf(status, disk), bytes, count(accesses), count(errors)]));
+}
+
+// What has changed since the last sample. A service that was restarted has counted from 0.
 let before = null;
+const since = (name, now, was) => was && now[name] >= was[name] ? now[name] - was[name] : 0;
 function rates(status, now) {
   return status.hosts.map((host, number) => {
-    const old = before && before.hosts[number], seconds = before && now - before.now;
-    const rate = name => old && host[name] >= old[name] ? (host[name] - old[name]) / seconds : 0;
-    return [number, count(Math.round(rate('commands'))), size(rate('read_bytes')), size(rate('written_bytes'))];
+    const seconds = before && now - before.now, was = before && before.hosts[number];
+    const rate = name => was ? since(name, host, was) / seconds : 0;
+    const is = status.sessions.hosts[number] ? 'yes' : 'no';
+    return [number, is, count(Math.round(rate('commands'))), size(rate('read_bytes')), size(rate('written_bytes'))];
   });
+}
+
+// The samples of the last ten minutes: those that the service has taken before the page was opened, and then one for
+// each second.
+const SAMPLES = 600;
+const samples = [];
+
+function recall(status, now) {
+  for (const { seconds, spell, commands, bytes, slowest } of [...status.samples].reverse())
+    samples.push({
+      now: now - (status.uptime_seconds - seconds),
+      commands: commands / spell,
+      bytes: bytes / spell,
+      slowest: slowest === null ? -1 : slowest,
+    });
+}
+
+// The place of the slowest command's bucket among those of all operations, or -1 without a command.
+function slowest(latencies, was) {
+  const grown = place => Object.keys(latencies).some(name =>
+    latencies[name].buckets[place] > was[name].buckets[place]);
+  for (let place = latencies.other.buckets.length - 1; place >= 0; place -= 1) if (grown(place)) return place;
+  return -1;
+}
+
+function sample(status, now) {
+  if (!before) { recall(status, now); return; }
+  const seconds = now - before.now;
+  const sum = name => status.hosts.reduce((sum, host, number) =>
+    sum + since(name, host, before.hosts[number]), 0) / seconds;
+  const bytes = sum('read_bytes') + sum('written_bytes');
+  samples.push({ now, commands: sum('commands'), bytes, slowest: slowest(status.latencies, before.latencies) });
+  while (samples.length > SAMPLES || now - samples[0].now > SAMPLES) samples.shift();
+}
+
+// A time that some microseconds are, or more than the longest.
+function within(micros) {
+  if (micros === undefined) return 'over 10 s';
+  return micros < 1000 ? `${micros} us` : micros < 1e6 ? `${micros / 1000} ms` : `${micros / 1e6} s`;
+}
+
+// A graph of a number of each sample, the newest on the right.
+function graph(title, value, shown, most) {
+  const numbers = samples.map(value), high = most || Math.max(1e-9, ...numbers);
+  const last = samples.length ? samples.at(-1).now : 0;
+  const points = samples.map((sample, place) => {
+    const x = SAMPLES - (last - sample.now), y = 98 - 96 * Math.max(0, numbers[place]) / high;
+    return `${x.toFixed(1)} ${y.toFixed(1)}`;
+  });
+  const figure = document.createElement('figure'), caption = document.createElement('figcaption');
+  caption.append(element('b', title), element('span', numbers.length ?
+    `now ${shown(numbers.at(-1))}, highest ${shown(Math.max(...numbers))}` : 'no sample yet'));
+  figure.append(caption);
+  figure.insertAdjacentHTML('beforeend', `<svg viewBox='0 0 600 100' preserveAspectRatio='none' role='img'>
+<path d='${points.length ? `M${points.join('L')}` : ''}'/></svg>`);
+  return figure;
+}
+
+function showGraphs(bounds) {
+  const time = place => place < 0 ? 'none' : within(bounds[place]);
+  at('graphs').replaceChildren(
+    graph('commands/s', sample => sample.commands, n => count(Math.round(n))),
+    graph('bytes/s', sample => sample.bytes, size),
+    graph('slowest iSCSI command', sample => sample.slowest, time, bounds.length),
+  );
 }
 
 function happened(event) {
@@ -135,14 +286,8 @@ function happened(event) {
   }
 }
 
-function show(status, now) {
-  at('health').className = status.health.state;
-  at('health').textContent = words(status, now);
-  at('store').textContent = fault(status.store);
-  at('store').hidden = !fault(status.store);
-  rows(at('hosts'), rates(status, now));
-  before = { hosts: status.hosts, now };
-  const { steps, counters, room_blocks, store } = status;
+function showArray(status) {
+  const { steps, counters, room_blocks, refused_logins, store } = status;
   rows(at('array'), [
     ['room', `${count(room_blocks)} blocks, ${size(room_blocks * status.block_bytes)}`],
     ['free groups', count(status.free_groups)],
@@ -154,14 +299,35 @@ function show(status, now) {
     ] : [],
     ...Object.keys(steps).map(kind => [`${kind} steps`, count(steps[kind])]),
     ...Object.keys(counters).map(kind => [kind.replace('_', ' '), count(counters[kind])]),
+    ...Object.keys(refused_logins).map(door => [`refused logins, ${door}`, count(refused_logins[door])]),
     ['running for', span(status.uptime_seconds)],
+    ['version', status.version],
   ]);
+}
+
+function showEvents(status) {
   at('events').replaceChildren(...status.events.map(event => {
-    const line = document.createElement('li'), time = document.createElement('time');
-    time.textContent = `${span(status.uptime_seconds - event.seconds)} ago`;
-    line.append(time, happened(event));
+    const line = document.createElement('li');
+    line.append(element('time', `${span(status.uptime_seconds - event.seconds)} ago`), happened(event));
     return line;
   }));
+}
+
+function show(status, now) {
+  named = status.name;
+  head(status.health.state, words(status, now));
+  at('store').textContent = fault(status.store);
+  at('store').hidden = !fault(status.store);
+  showUsed(status);
+  rows(at('hosts'), rates(status, now));
+  sample(status, now);
+  before = { hosts: status.hosts, latencies: status.latencies, now };
+  showGraphs(status.latency_bounds_micros);
+  rows(at('units'), unitsOf(status).map(unit =>
+    [`${unit.host} ${unit.lun}`, size(unit.bytes), count(unit.sectors)]));
+  showDisks(status);
+  showArray(status);
+  showEvents(status);
 }
 
 // The extents of a picture by disk, each as its shapes: a rectangle of its class, and what is drawn over it.
@@ -213,11 +379,36 @@ function fold(svg) {
   svg.querySelector(':scope > rect').setAttribute('height', height);
 }
 
-// Parity differs from mirroring by stripes, too, for whoever sees no colours.
+// Parity differs from mirroring by stripes, too, for whoever sees no colours. A bar has an outline, so that units of
+// the darkest and the lightest colours are visible in both schemes.
 const STRIPES = `<pattern id='stripes' width='6' height='6' patternUnits='userSpaceOnUse'>
-<rect width='6' height='6' fill='#FBF1C0'/><rect width='1' height='6' fill='#BFA11C'/></pattern>`;
+<rect class='under' width='6' height='6'/><rect class='stripe' width='1' height='6'/></pattern>`;
 const STYLE = `.parity { fill: url(#stripes) }
-:host > svg { display: block; max-width: 100%; height: auto; max-height: calc(100vh - 100px); margin: auto }`;
+.under { fill: #FBF1C0 } .stripe { fill: #BFA11C }
+.bar { fill: none; stroke: #808080; stroke-width: 1 }
+.small { font-size: 11px }
+:host > svg { display: block; margin: auto }
+@media (prefers-color-scheme: dark) {
+  text { fill: #dddddd } .number { fill: #999999 } .down { fill: #ff9a66 }
+  .small { stroke: #1b1b1b }
+  .ground, .free { fill: #1b1b1b }
+  .mirrored { fill: #17384d }
+  .under { fill: #3a3410 } .stripe { fill: #8a7414 }
+  .loose { fill: #2b2b2b }
+  .missing { stroke: #ff9a66 } #missing rect { fill: #ff9a66 }
+}`;
+
+// Draws the outlines of the bars of units, and of their colours in the legend.
+function outline(svg) {
+  svg.querySelector(':scope > rect').setAttribute('class', 'ground');
+  const bars = [...svg.querySelectorAll('g > svg, :scope > rect[y][fill]')];
+  for (const bar of bars.filter(bar => bar.matches('rect') || bar.children.length)) {
+    const frame = svg.insertBefore(svg.querySelector('rect').cloneNode(), null);
+    frame.removeAttribute('fill');
+    frame.setAttribute('class', 'bar');
+    for (const name of ['x', 'y', 'width', 'height']) frame.setAttribute(name, bar.getAttribute(name));
+  }
+}
 
 let drawn = null;
 const shadow = at('picture').attachShadow({ mode: 'open' });
@@ -226,6 +417,7 @@ function draw(text) {
   drawn = text;
   const svg = new DOMParser().parseFromString(text, 'image/svg+xml').documentElement;
   fold(svg);
+  outline(svg);
   svg.querySelector('defs').insertAdjacentHTML('beforeend', STRIPES);
   svg.querySelector('style').append(STYLE);
   shadow.replaceChildren(svg);
@@ -243,8 +435,7 @@ async function redraw() {
     show(await status.json(), performance.now() / 1000);
     draw(await picture.text());
   } catch (error) {
-    at('health').className = 'silent';
-    at('health').textContent = `no answer from the array: ${error.message}`;
+    head('silent', `no answer from the array: ${error.message}`);
   }
   setTimeout(redraw, 1000);
 }

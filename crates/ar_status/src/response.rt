@@ -4,11 +4,23 @@ ghost use Rattle.http_server.specs.Response.{IsBlank, fields_of};
 ghost use Rattle.ar_status.specs.Answers.{IsBodyOf, answer_for, code_of, fields_in, health_words, serving_words};
 
 use crate::status::write_health;
-use crate::{Answer, ArrayHealth, ArrayStatus, PAGE, answer_to, write_metrics};
+use crate::{Answer, ArrayHealth, ArrayStatus, LATENCY_BOUNDS, PAGE, answer_to, write_metrics};
+use ar_cli::VERSION;
 use bytes::Bytes;
 use http::{HeaderName, HeaderValue};
 use http_server::Response;
+use serde::Serialize;
 use std::alloc::{AllocError, Global};
+
+// What is sent as JSON: the status, and what doesn't change.
+#[derive(Clone, Copy, Serialize)]
+struct Document {
+    version: &'static str,
+    // Of the buckets in which commands are counted by their time.
+    latency_bounds_micros: [u64; 11],
+    #[serde(flatten)]
+    status: ArrayStatus,
+}
 
 /// A served array, as it was at one moment.
 #[derive(Drop)]
@@ -18,8 +30,8 @@ pub struct Look {
     pub picture: Vec<u8>,
 }
 
-/// Fills the response to a method at a path; `is_ours` says whether the request asks for this server. HEAD has the response of GET: the connection leaves its body out. It fails
-/// only when out of memory.
+/// Fills the response to a method at a path; `is_ours` says whether the request asks for this server. HEAD has the
+/// response of GET: the connection leaves its body out. It fails only when out of memory.
 pub fn respond(
     alloc: Global,
     is_ours: bool,
@@ -29,7 +41,8 @@ pub fn respond(
     response: &mut Response,
 ) -> Result<(), AllocError>
     requires blank { IsBlank response.old }
-    ensures code { OnOk result (response.new.status ≡ code_of (answer_for is_ours method.now path.now) look.status.health) }
+    ensures code { OnOk result
+        (response.new.status ≡ code_of (answer_for is_ours method.now path.now) look.status.health) }
     ensures fields { OnOk result (fields_of response.new ≡ fields_in (answer_for is_ours method.now path.now)) }
     ensures body { OnOk result
         (IsBodyOf (answer_for is_ours method.now path.now) look.status look.picture.items response.new.body.items) }
@@ -102,7 +115,12 @@ fn metrics_of(alloc: Global, status: &ArrayStatus) -> Result<Bytes, AllocError> 
 }
 
 fn json_of(alloc: Global, status: &ArrayStatus) -> Result<Bytes, AllocError> {
-    shared(serde_json::to_vec(alloc, status).map_err(|_| AllocError)?)
+    let document = Document {
+        version: VERSION,
+        latency_bounds_micros: LATENCY_BOUNDS,
+        status: *status,
+    };
+    shared(serde_json::to_vec(alloc, &document).map_err(|_| AllocError)?)
 }
 
 fn health_of(alloc: Global, health: ArrayHealth) -> Result<Bytes, AllocError>

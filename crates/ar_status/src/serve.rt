@@ -54,7 +54,8 @@ struct Watcher<'a, V: Watched> {
 
 impl<V: Watched> Service for Watcher<'_, V> {
     ghost answers = { λ old request response new.
-        RespondsByLook V.shows old.watched.now (option_map (λ name. name.now) old.name) request response × (new ≡ old) };
+        RespondsByLook V.shows old.watched.now (option_map (λ name. name.now) old.name) request response
+        × (new ≡ old) };
 
     fn call(
         &mut self,

@@ -3,7 +3,7 @@ ghost use Rattle.std.specs.Prelude.{◌≡◌, OnOk};
 ghost use Rattle.std.specs.Io.KnownBytes.{Appends};
 ghost use Rattle.ar_status.specs.Answers.{all_present, has_data, health_words};
 
-use crate::RecentEvents;
+use crate::{ArrayName, CommandLatencies, DiskList, RecentEvents, RecentSamples};
 use serde::Serialize;
 use std::io;
 use std::io::Write;
@@ -11,19 +11,28 @@ use std::io::Write;
 /// A served array at one moment. Whoever owns it copies these numbers under its lock.
 #[derive(Clone, Copy, Serialize)]
 pub struct ArrayStatus {
+    pub name: ArrayName,
     /// Seconds since the service began.
     pub uptime_seconds: u64,
     pub health: ArrayHealth,
     /// The disks that were missing when the array failed, by their numbers, if it has and they are known.
     pub lost_disks: Option<[u8; 2]>,
     pub disks: u8,
+    /// Spare disks that are left.
+    pub spares: u8,
     /// Extents of each disk.
     pub extents: u16,
+    /// Rows of an extent, each as long as a block.
+    pub extent_rows: u16,
+    /// By disk.
+    pub disk_counters: DiskList,
     pub free_groups: u32,
     /// Bytes of a block.
     pub block_bytes: u64,
     /// Blocks that units may still be given.
     pub room_blocks: u64,
+    /// Sectors of 512 bytes that units have, by host, 0 to 3, and LUN, 0 to 7; None: there is no unit.
+    pub unit_sectors: [[Option<u32>; 8]; 4],
     pub cached_blocks: u64,
     /// Entries of the stored history.
     pub history_entries: u64,
@@ -32,10 +41,15 @@ pub struct ArrayStatus {
     pub store: Option<StoreNumbers>,
     /// By host, 0 to 3.
     pub hosts: [HostCounters; 4],
+    /// How long commands took.
+    pub latencies: CommandLatencies,
     pub sessions: SessionNumbers,
+    pub refused_logins: RefusedLogins,
     pub steps: MaintenanceSteps,
     pub counters: ArrayCounters,
     pub events: RecentEvents,
+    /// What hosts did lately.
+    pub samples: RecentSamples,
 }
 
 /// The health of the disks.
@@ -58,6 +72,8 @@ pub enum ArrayHealth {
 pub enum StoreHealth {
     /// The last commit has succeeded, or there was none.
     Sound,
+    /// The same, with one of two copies lost.
+    Degraded,
     /// The last commit has failed, and a later one may succeed.
     Failing,
     /// It is given up until a new start.
@@ -85,6 +101,13 @@ pub struct SessionNumbers {
     pub hosts: [bool; 4],
     /// iSCSI sessions for discovery.
     pub discovery: u8,
+}
+
+/// Logins that were refused since the start, by door. That of hosts over frames counts none.
+#[derive(Clone, Copy, Debug, PartialEq, Eq, Serialize)]
+pub struct RefusedLogins {
+    pub iscsi: u64,
+    pub operators: u64,
 }
 
 /// What was done for one host since the start. The numbers saturate.

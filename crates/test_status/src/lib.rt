@@ -11,4 +11,6 @@ mod refusals;
 #[cfg(test)]
 mod rig;
 #[cfg(test)]
+mod samples;
+#[cfg(test)]
 mod streams;

@@ -29,6 +29,10 @@ fn a_store_as_json(rt: HostRuntime) {
              \"commits\":18446744073709551615,\"checkpoints\":24},\"hosts\":[",
         ),
         (
+            StoreHealth::Degraded,
+            "\"store\":{\"state\":\"degraded\",\"log_bytes\":21,",
+        ),
+        (
             StoreHealth::Failing,
             "\"store\":{\"state\":\"failing\",\"log_bytes\":21,",
         ),
@@ -44,9 +48,14 @@ fn a_store_as_json(rt: HostRuntime) {
 
 const FAILING: &str = "\
 autoraid_history_bytes 4096
+# HELP autoraid_unit_bytes Bytes of a unit, by its host and LUN.
+# TYPE autoraid_unit_bytes gauge
+autoraid_unit_bytes{host=\"0\",lun=\"0\"} 12288
+autoraid_unit_bytes{host=\"3\",lun=\"7\"} 2199023255040
 # HELP autoraid_store_state 1 for the state of the store, 0 for the others.
 # TYPE autoraid_store_state gauge
 autoraid_store_state{state=\"sound\"} 0
+autoraid_store_state{state=\"degraded\"} 0
 autoraid_store_state{state=\"failing\"} 1
 autoraid_store_state{state=\"given_up\"} 0
 # HELP autoraid_store_log_bytes Bytes of the store's log.
@@ -62,12 +71,21 @@ autoraid_store_checkpoints_total 24
 
 const SOUND: &str = "\
 autoraid_store_state{state=\"sound\"} 1
+autoraid_store_state{state=\"degraded\"} 0
+autoraid_store_state{state=\"failing\"} 0
+autoraid_store_state{state=\"given_up\"} 0
+";
+
+const DEGRADED: &str = "\
+autoraid_store_state{state=\"sound\"} 0
+autoraid_store_state{state=\"degraded\"} 1
 autoraid_store_state{state=\"failing\"} 0
 autoraid_store_state{state=\"given_up\"} 0
 ";
 
 const GIVEN_UP: &str = "\
 autoraid_store_state{state=\"sound\"} 0
+autoraid_store_state{state=\"degraded\"} 0
 autoraid_store_state{state=\"failing\"} 0
 autoraid_store_state{state=\"given_up\"} 1
 ";
@@ -78,6 +96,7 @@ fn a_store_in_metrics(rt: HostRuntime) {
     let mut array = array_in(ArrayHealth::Whole);
     for (state, wanted) in [
         (StoreHealth::Sound, SOUND),
+        (StoreHealth::Degraded, DEGRADED),
         (StoreHealth::Failing, FAILING),
         (StoreHealth::GivenUp, GIVEN_UP),
     ] {

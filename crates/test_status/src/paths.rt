@@ -56,9 +56,15 @@ fn page_and_picture(rt: HostRuntime) {
 }
 
 const JSON: &str = "\
-{\"uptime_seconds\":61,\"health\":{\"state\":\"rebuilding\",\"disk\":3,\"done\":12},\"lost_disks\":null,\
-\"disks\":5,\"extents\":64,\
-\"free_groups\":7,\"block_bytes\":1024,\"room_blocks\":18,\"cached_blocks\":10,\
+{\"version\":\"0.4.0\",\
+\"latency_bounds_micros\":[50,100,250,500,1000,2500,10000,50000,250000,1000000,10000000],\
+\"name\":\"the \\\"first\\\"\",\"uptime_seconds\":61,\"health\":{\"state\":\"rebuilding\",\"disk\":3,\"done\":12},\"lost_disks\":null,\
+\"disks\":5,\"spares\":2,\"extents\":64,\"extent_rows\":2,\"disk_counters\":[\
+{\"accesses\":18446744073709551615,\"errors\":0},{\"accesses\":0,\"errors\":0},{\"accesses\":0,\"errors\":0},\
+{\"accesses\":0,\"errors\":0},{\"accesses\":31,\"errors\":2}],\
+\"free_groups\":7,\"block_bytes\":1024,\"room_blocks\":18,\"unit_sectors\":[\
+[24,null,null,null,null,null,null,null],[null,null,null,null,null,null,null,null],\
+[null,null,null,null,null,null,null,null],[null,null,null,null,null,null,null,4294967295]],\"cached_blocks\":10,\
 \"history_entries\":9,\"history_bytes\":4096,\"store\":null,\"hosts\":[\
 {\"commands\":1,\"read_bytes\":2,\"written_bytes\":3,\"replies\":{\
 \"test_unit_ready\":{\"good\":100,\"check_condition\":101,\"busy\":102},\
@@ -88,11 +94,17 @@ const JSON: &str = "\
 \"read\":{\"good\":330,\"check_condition\":331,\"busy\":332},\
 \"write\":{\"good\":340,\"check_condition\":341,\"busy\":342},\
 \"other\":{\"good\":350,\"check_condition\":351,\"busy\":352}}}],\
-\"sessions\":{\"hosts\":[true,false,false,false],\"discovery\":2},\
+\"latencies\":{\"read\":{\"buckets\":[1,2,3,4,5,6,7,8,9,10,11,12],\"sum_micros\":1000023},\
+\"write\":{\"buckets\":[0,0,0,0,0,0,0,0,0,0,0,0],\"sum_micros\":0},\
+\"synchronize_cache\":{\"buckets\":[0,0,0,0,0,0,0,0,0,0,0,1],\"sum_micros\":18446744073709551615},\
+\"other\":{\"buckets\":[7,0,0,0,0,0,0,0,0,0,0,0],\"sum_micros\":70}},\
+\"sessions\":{\"hosts\":[true,false,false,false],\"discovery\":2},\"refused_logins\":{\"iscsi\":15,\"operators\":16},\
 \"steps\":{\"flush\":1,\"demote\":2,\"clean\":3,\"balance\":4,\"rebuild\":5},\
 \"counters\":{\"promotions\":11,\"squeezes\":12,\"cache_hits\":13,\"destages\":18446744073709551615,\"discards\":14},\
 \"events\":[{\"seconds\":60,\"kind\":\"disk_replaced\",\"disk\":3},\
-{\"seconds\":7,\"kind\":\"disk_failed\",\"disk\":3}]}";
+{\"seconds\":7,\"kind\":\"disk_failed\",\"disk\":3}],\
+\"samples\":[{\"seconds\":61,\"spell\":6,\"commands\":0,\"bytes\":0,\"slowest\":null},\
+{\"seconds\":55,\"spell\":5,\"commands\":6,\"bytes\":7,\"slowest\":11}]}";
 
 #[test]
 fn status_as_json(rt: HostRuntime) {
@@ -114,15 +126,24 @@ fn status_as_json(rt: HostRuntime) {
 }
 
 const METRICS: &str = "\
+# HELP autoraid_build_info 1, with the program's version.
+# TYPE autoraid_build_info gauge
+autoraid_build_info{version=\"0.4.0\"} 1
 # HELP autoraid_uptime_seconds Seconds since the start.
 # TYPE autoraid_uptime_seconds gauge
 autoraid_uptime_seconds 61
 # HELP autoraid_disks Disks.
 # TYPE autoraid_disks gauge
 autoraid_disks 5
+# HELP autoraid_spare_disks Spare disks that are left.
+# TYPE autoraid_spare_disks gauge
+autoraid_spare_disks 2
 # HELP autoraid_disk_extents Extents of each disk.
 # TYPE autoraid_disk_extents gauge
 autoraid_disk_extents 64
+# HELP autoraid_disk_bytes Bytes of each disk.
+# TYPE autoraid_disk_bytes gauge
+autoraid_disk_bytes 131072
 # HELP autoraid_rebuild_extents_left Extents to be rebuilt.
 # TYPE autoraid_rebuild_extents_left gauge
 autoraid_rebuild_extents_left 52
@@ -146,6 +167,20 @@ autoraid_disk_lost{disk=\"1\"} 0
 autoraid_disk_lost{disk=\"2\"} 0
 autoraid_disk_lost{disk=\"3\"} 0
 autoraid_disk_lost{disk=\"4\"} 0
+# HELP autoraid_disk_accesses_total Rows of a disk that were accessed.
+# TYPE autoraid_disk_accesses_total counter
+autoraid_disk_accesses_total{disk=\"0\"} 18446744073709551615
+autoraid_disk_accesses_total{disk=\"1\"} 0
+autoraid_disk_accesses_total{disk=\"2\"} 0
+autoraid_disk_accesses_total{disk=\"3\"} 0
+autoraid_disk_accesses_total{disk=\"4\"} 31
+# HELP autoraid_disk_errors_total Accesses to a disk that failed.
+# TYPE autoraid_disk_errors_total counter
+autoraid_disk_errors_total{disk=\"0\"} 0
+autoraid_disk_errors_total{disk=\"1\"} 0
+autoraid_disk_errors_total{disk=\"2\"} 0
+autoraid_disk_errors_total{disk=\"3\"} 0
+autoraid_disk_errors_total{disk=\"4\"} 2
 # HELP autoraid_free_groups Groups that hold no block.
 # TYPE autoraid_free_groups gauge
 autoraid_free_groups 7
@@ -164,6 +199,10 @@ autoraid_history_entries 9
 # HELP autoraid_history_bytes Memory of the stored history, at least.
 # TYPE autoraid_history_bytes gauge
 autoraid_history_bytes 4096
+# HELP autoraid_unit_bytes Bytes of a unit, by its host and LUN.
+# TYPE autoraid_unit_bytes gauge
+autoraid_unit_bytes{host=\"0\",lun=\"0\"} 12288
+autoraid_unit_bytes{host=\"3\",lun=\"7\"} 2199023255040
 # HELP autoraid_host_commands_total Commands of hosts, by their operation and the status of the reply.
 # TYPE autoraid_host_commands_total counter
 autoraid_host_commands_total{host=\"0\",operation=\"test_unit_ready\",status=\"good\"} 100
@@ -250,6 +289,64 @@ autoraid_host_written_bytes_total{host=\"0\"} 3
 autoraid_host_written_bytes_total{host=\"1\"} 0
 autoraid_host_written_bytes_total{host=\"2\"} 8
 autoraid_host_written_bytes_total{host=\"3\"} 6
+# HELP autoraid_command_seconds How long commands over iSCSI took.
+# TYPE autoraid_command_seconds histogram
+autoraid_command_seconds_bucket{operation=\"read\",le=\"0.00005\"} 1
+autoraid_command_seconds_bucket{operation=\"read\",le=\"0.0001\"} 3
+autoraid_command_seconds_bucket{operation=\"read\",le=\"0.00025\"} 6
+autoraid_command_seconds_bucket{operation=\"read\",le=\"0.0005\"} 10
+autoraid_command_seconds_bucket{operation=\"read\",le=\"0.001\"} 15
+autoraid_command_seconds_bucket{operation=\"read\",le=\"0.0025\"} 21
+autoraid_command_seconds_bucket{operation=\"read\",le=\"0.01\"} 28
+autoraid_command_seconds_bucket{operation=\"read\",le=\"0.05\"} 36
+autoraid_command_seconds_bucket{operation=\"read\",le=\"0.25\"} 45
+autoraid_command_seconds_bucket{operation=\"read\",le=\"1\"} 55
+autoraid_command_seconds_bucket{operation=\"read\",le=\"10\"} 66
+autoraid_command_seconds_bucket{operation=\"read\",le=\"+Inf\"} 78
+autoraid_command_seconds_sum{operation=\"read\"} 1.000023
+autoraid_command_seconds_count{operation=\"read\"} 78
+autoraid_command_seconds_bucket{operation=\"write\",le=\"0.00005\"} 0
+autoraid_command_seconds_bucket{operation=\"write\",le=\"0.0001\"} 0
+autoraid_command_seconds_bucket{operation=\"write\",le=\"0.00025\"} 0
+autoraid_command_seconds_bucket{operation=\"write\",le=\"0.0005\"} 0
+autoraid_command_seconds_bucket{operation=\"write\",le=\"0.001\"} 0
+autoraid_command_seconds_bucket{operation=\"write\",le=\"0.0025\"} 0
+autoraid_command_seconds_bucket{operation=\"write\",le=\"0.01\"} 0
+autoraid_command_seconds_bucket{operation=\"write\",le=\"0.05\"} 0
+autoraid_command_seconds_bucket{operation=\"write\",le=\"0.25\"} 0
+autoraid_command_seconds_bucket{operation=\"write\",le=\"1\"} 0
+autoraid_command_seconds_bucket{operation=\"write\",le=\"10\"} 0
+autoraid_command_seconds_bucket{operation=\"write\",le=\"+Inf\"} 0
+autoraid_command_seconds_sum{operation=\"write\"} 0.000000
+autoraid_command_seconds_count{operation=\"write\"} 0
+autoraid_command_seconds_bucket{operation=\"synchronize_cache\",le=\"0.00005\"} 0
+autoraid_command_seconds_bucket{operation=\"synchronize_cache\",le=\"0.0001\"} 0
+autoraid_command_seconds_bucket{operation=\"synchronize_cache\",le=\"0.00025\"} 0
+autoraid_command_seconds_bucket{operation=\"synchronize_cache\",le=\"0.0005\"} 0
+autoraid_command_seconds_bucket{operation=\"synchronize_cache\",le=\"0.001\"} 0
+autoraid_command_seconds_bucket{operation=\"synchronize_cache\",le=\"0.0025\"} 0
+autoraid_command_seconds_bucket{operation=\"synchronize_cache\",le=\"0.01\"} 0
+autoraid_command_seconds_bucket{operation=\"synchronize_cache\",le=\"0.05\"} 0
+autoraid_command_seconds_bucket{operation=\"synchronize_cache\",le=\"0.25\"} 0
+autoraid_command_seconds_bucket{operation=\"synchronize_cache\",le=\"1\"} 0
+autoraid_command_seconds_bucket{operation=\"synchronize_cache\",le=\"10\"} 0
+autoraid_command_seconds_bucket{operation=\"synchronize_cache\",le=\"+Inf\"} 1
+autoraid_command_seconds_sum{operation=\"synchronize_cache\"} 18446744073709.551615
+autoraid_command_seconds_count{operation=\"synchronize_cache\"} 1
+autoraid_command_seconds_bucket{operation=\"other\",le=\"0.00005\"} 7
+autoraid_command_seconds_bucket{operation=\"other\",le=\"0.0001\"} 7
+autoraid_command_seconds_bucket{operation=\"other\",le=\"0.00025\"} 7
+autoraid_command_seconds_bucket{operation=\"other\",le=\"0.0005\"} 7
+autoraid_command_seconds_bucket{operation=\"other\",le=\"0.001\"} 7
+autoraid_command_seconds_bucket{operation=\"other\",le=\"0.0025\"} 7
+autoraid_command_seconds_bucket{operation=\"other\",le=\"0.01\"} 7
+autoraid_command_seconds_bucket{operation=\"other\",le=\"0.05\"} 7
+autoraid_command_seconds_bucket{operation=\"other\",le=\"0.25\"} 7
+autoraid_command_seconds_bucket{operation=\"other\",le=\"1\"} 7
+autoraid_command_seconds_bucket{operation=\"other\",le=\"10\"} 7
+autoraid_command_seconds_bucket{operation=\"other\",le=\"+Inf\"} 7
+autoraid_command_seconds_sum{operation=\"other\"} 0.000070
+autoraid_command_seconds_count{operation=\"other\"} 7
 # HELP autoraid_host_sessions 1 for a host that is logged in.
 # TYPE autoraid_host_sessions gauge
 autoraid_host_sessions{host=\"0\"} 1
@@ -259,6 +356,10 @@ autoraid_host_sessions{host=\"3\"} 0
 # HELP autoraid_discovery_sessions iSCSI sessions for discovery.
 # TYPE autoraid_discovery_sessions gauge
 autoraid_discovery_sessions 2
+# HELP autoraid_refused_logins_total Logins that were refused, by door.
+# TYPE autoraid_refused_logins_total counter
+autoraid_refused_logins_total{door=\"iscsi\"} 15
+autoraid_refused_logins_total{door=\"operators\"} 16
 # HELP autoraid_maintenance_steps_total Steps that did something.
 # TYPE autoraid_maintenance_steps_total counter
 autoraid_maintenance_steps_total{kind=\"flush\"} 1

@@ -1,8 +1,9 @@
 // An array that stands still, and connections to it.
 use ar_status::{
-    ArrayCounters, ArrayHealth, ArrayStatus, EventKind, HostCounters, Look, MaintenanceSteps,
-    OperationCounters, RecentEvent, RecentEvents, ReplyCounters, SessionNumbers, Watched,
-    serve_named,
+    ArrayCounters, ArrayHealth, ArrayName, ArrayStatus, CommandLatencies, DiskCounters, DiskList,
+    EventKind, HostCounters, LatencyCounters, Look, MaintenanceSteps, OperationCounters,
+    RecentEvent, RecentEvents, RecentSamples, RefusedLogins, ReplyCounters, Sample, SessionNumbers,
+    Watched, serve_named,
 };
 use std::alloc::{AllocError, Global};
 use std::hash::RandomState;
@@ -47,22 +48,32 @@ pub fn array_in(health: ArrayHealth) -> Still {
         kind: EventKind::DiskReplaced { disk: 3 },
     });
     let status = ArrayStatus {
+        name: ArrayName::of(b"the \"first\""),
         uptime_seconds: 61,
         health,
         lost_disks: None,
         disks: 5,
+        spares: 2,
         extents: 64,
+        extent_rows: 2,
+        disk_counters: disks(),
         free_groups: 7,
         block_bytes: 1024,
         room_blocks: 18,
+        unit_sectors: units(),
         cached_blocks: 10,
         history_entries: 9,
         history_bytes: 4096,
         store: None,
         hosts: hosts(),
+        latencies: latencies(),
         sessions: SessionNumbers {
             hosts: [true, false, false, false],
             discovery: 2,
+        },
+        refused_logins: RefusedLogins {
+            iscsi: 15,
+            operators: 16,
         },
         counters: ArrayCounters {
             promotions: 11,
@@ -79,11 +90,84 @@ pub fn array_in(health: ArrayHealth) -> Still {
             rebuild: 5,
         },
         events,
+        samples: samples(),
     };
     Still {
         status,
         has_memory: true,
     }
+}
+
+// A spell in which hosts read, and one in which they did nothing.
+fn samples() -> RecentSamples {
+    let mut samples = RecentSamples::new();
+    samples.add(Sample {
+        seconds: 55,
+        spell: 5,
+        commands: 6,
+        bytes: 7,
+        slowest: Some(11),
+    });
+    samples.add(Sample {
+        seconds: 61,
+        spell: 6,
+        commands: 0,
+        bytes: 0,
+        slowest: None,
+    });
+    samples
+}
+
+// Commands of three operations. One took the longest time that there is.
+fn latencies() -> CommandLatencies {
+    CommandLatencies {
+        read: LatencyCounters {
+            buckets: [1, 2, 3, 4, 5, 6, 7, 8, 9, 10, 11, 12],
+            sum_micros: 1_000_023,
+        },
+        write: LatencyCounters {
+            buckets: [0; 12],
+            sum_micros: 0,
+        },
+        synchronize_cache: LatencyCounters {
+            buckets: [0, 0, 0, 0, 0, 0, 0, 0, 0, 0, 0, 1],
+            sum_micros: u64::MAX,
+        },
+        other: LatencyCounters {
+            buckets: [7, 0, 0, 0, 0, 0, 0, 0, 0, 0, 0, 0],
+            sum_micros: 70,
+        },
+    }
+}
+
+// Two disks that were accessed, and one after the last.
+fn disks() -> DiskList {
+    let none = DiskCounters {
+        accesses: 0,
+        errors: 0,
+    };
+    let mut list = [none; 12];
+    list[0] = DiskCounters {
+        accesses: u64::MAX,
+        errors: 0,
+    };
+    list[4] = DiskCounters {
+        accesses: 31,
+        errors: 2,
+    };
+    list[5] = DiskCounters {
+        accesses: 99,
+        errors: 99,
+    };
+    DiskList::new(list, 5)
+}
+
+// The first unit of all, and the last one, as long as one may be.
+fn units() -> [[Option<u32>; 8]; 4] {
+    let mut units = [[None; 8]; 4];
+    units[0][0] = Some(24);
+    units[3][7] = Some(u32::MAX);
+    units
 }
 
 fn hosts() -> [HostCounters; 4] {

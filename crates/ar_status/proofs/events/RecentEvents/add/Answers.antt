@@ -6,5 +6,5 @@ use Rattle.ar_status.proofs.events.RecentEvents.add.Goals as goal
 pub returns : goal.returns
 returns c =
     ap (λ (xs : List RecentEvent). take c.min-self.result (set xs 0 c.args.event)) c.copy_within.ensures.after
-    ∙ shifted c.args.event c.args.self.now.list c.args.self.now.count c.min-self.result c.args.self.now.places
+    ∙ shifted 49 c.args.event c.args.self.now.list c.args.self.now.count c.min-self.result c.args.self.now.places
     c.args.self.now.within c.min-self.ensures

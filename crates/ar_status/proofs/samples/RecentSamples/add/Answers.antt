@@ -1,0 +1,10 @@
+use Rattle.std.proofs.Common.{◌∙◌, List, set, take, ap}
+use Rattle.ar_status.specs.declared.samples.Sample.{Sample}
+use Rattle.ar_status.proofs.Shifting.{shifted}
+use Rattle.ar_status.proofs.samples.RecentSamples.add.Goals as goal
+
+pub returns : goal.returns
+returns c =
+    ap (λ (xs : List Sample). take c.min-self.result (set xs 0 c.args.sample)) c.copy_within.ensures.after
+    ∙ shifted 119 c.args.sample c.args.self.now.list c.args.self.now.count c.min-self.result c.args.self.now.places
+    c.args.self.now.within c.min-self.ensures
