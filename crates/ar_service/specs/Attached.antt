@@ -1,5 +1,6 @@
 -- The iSCSI sessions that are open.
-use Rattle.std.specs.Prelude.{ℕ, Bool, true, false, not, ◌==◌, ◌&&◌, bytes_eq, if◌then◌else◌, nat_lt, List, Option, Some}
+use Rattle.std.specs.Prelude.{ℕ, Bool, true, false, not, ◌==◌, ◌&&◌, bytes_eq, if◌then◌else◌, nat_lt, List, Option}
+use Rattle.std.specs.Prelude.{Some}
 use Rattle.std.specs.Prelude.{count_by, filter, is_none, take}
 use Rattle.std.specs.List.{insert}
 use Rattle.ar_service.specs.declared.attached.Attached.{Attached}

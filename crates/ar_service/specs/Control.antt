@@ -3,7 +3,7 @@ use Rattle.std.specs.Prelude.{◌≡◌, ℕ, ◌++◌, Bool, true, false, List,
 use Rattle.std.specs.declared.alloc.AllocError.{AllocError}
 use Rattle.ar_history.specs.Kept.{KeptState}
 use Rattle.ar_history.specs.declared.store_status.StoreState.{StoreState}
-use Rattle.ar_history.specs.declared.store_status.StoreState.TheVariants.{Sound, Failing, GivenUp}
+use Rattle.ar_history.specs.declared.store_status.StoreState.TheVariants.{Sound, Degraded, Failing, GivenUp}
 use Rattle.ar_history.specs.declared.store_status.StoreStatus.{StoreStatus}
 use Rattle.ar_language.specs.declared.order.Question.TheVariants as questions
 use Rattle.ar_operator.specs.Executing.{Executes}
@@ -23,6 +23,7 @@ store_failed = codes "fault: store failed\n"
 -- the line of a store, if it isn't sound
 abbrev pub state_line : StoreState → Option (List ℕ)
 state_line Sound = None
+state_line Degraded = Some (codes "store degraded\n")
 state_line Failing = Some (codes "store failing\n")
 state_line GivenUp = Some (codes "store given up\n")
 
@@ -63,7 +64,8 @@ pub record ExecutesLasting (persists : Bool) (order : OperatorOrder) (old : Kept
 
 -- An order was executed atomically, and answered: there are a state of an array before it and one after it, between
 -- which it is executed as `execute` does it. That these are states of the array behind the lock is not specified.
-pub record DoneAtOneMoment (persists : Bool) (order : OperatorOrder) (result : Result (Unit {0}) AllocError) (answer : List ℕ)
+pub record DoneAtOneMoment (persists : Bool) (order : OperatorOrder) (result : Result (Unit {0}) AllocError)
+    (answer : List ℕ)
     : Type 0 where
   pub old : KeptState
   pub new : KeptState

@@ -1,5 +1,6 @@
 pub mod Attached
 pub mod Control
+pub mod Lengths
 pub mod Monitoring
 pub mod Names
 pub mod Service

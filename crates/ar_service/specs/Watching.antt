@@ -2,7 +2,7 @@
 use Rattle.std.specs.Prelude.{◌≡◌, ℕ, ◌-◌, ◌++◌, Bool, true, false, not, List, [], ◌∷◌, length, map, Option, Some}
 use Rattle.std.specs.Prelude.{None, is_some, option_map}
 use Rattle.std.specs.List.{range_with_len}
-use Rattle.ar_disks.specs.Geometry.{block_len_of}
+use Rattle.ar_disks.specs.Geometry.{block_len_of, rows_of}
 use Rattle.ar_extents.specs.declared.health.Health.{Health}
 use Rattle.ar_extents.specs.declared.health.Health.TheVariants as health
 use Rattle.ar_book.specs.Tables.{free_groups, room}
@@ -21,6 +21,8 @@ use Rattle.ar_picture.specs.Drawings.{svg_text}
 use Rattle.ar_picture.specs.Losses.{health_naming}
 use Rattle.ar_picture.specs.declared.picture.Picture.{Picture}
 use Rattle.ar_script.specs.Pictures.{IsPicture}
+use Rattle.ar_service.specs.Lengths.{lengths_in}
+use Rattle.ar_service.specs.declared.shown.Beside.{Beside}
 use Rattle.ar_sessions.specs.Desk.{Places, seat_at}
 use Rattle.ar_status.specs.Changes.{between, events_in, listed_with}
 use Rattle.ar_status.specs.declared.changes.EventLog.{EventLog}
@@ -55,6 +57,7 @@ lost_watched (Some disks) state = None
 -- whether a store takes what is committed to it, as the pages have it
 abbrev pub store_health_watched : StoreState → StoreHealth
 store_health_watched states.Sound = shown.Sound
+store_health_watched states.Degraded = shown.Degraded
 store_health_watched states.Failing = shown.Failing
 store_health_watched states.GivenUp = shown.GivenUp
 
@@ -121,27 +124,32 @@ abbrev pub hosts_logged_in : Places → List Bool
 hosts_logged_in places =
     is_logged_in places 0 ∷ is_logged_in places 1 ∷ is_logged_in places 2 ∷ is_logged_in places 3 ∷ []
 
--- The status is that of this array with these counts, `stored` entries of whose history are stored, with this store, at
--- this second, with these sessions and events; `lost` are the disks that it has lost, if it has failed. The memory of
--- the history, and the counters of what else the array did, are not specified.
+-- The status is that of this array with these counts, `stored` entries of whose history are stored, with this store,
+-- these events, and what is shown beside it. The memory of the history, what was counted of disks, and the counters of
+-- what else the array did, are not specified.
 pub record IsStatusOf (array : ArrayState) (counts : Counts) (stored : ℕ) (store : Option StoreStatus)
-    (lost : Option (List ℕ)) (sessions : SessionNumbers) (seconds : ℕ) (latest : RecentEvents) (status : ArrayStatus)
-    : Type 0 where
-  pub uptime : status.uptime_seconds ≡ seconds
+    (latest : RecentEvents) (beside : Beside) (status : ArrayStatus) : Type 0 where
+  pub name : status.name ≡ beside.name
+  pub uptime : status.uptime_seconds ≡ beside.seconds
   pub health : status.health ≡ health_watched array.store.disks.health
-  pub lost_is : status.lost_disks ≡ lost_watched lost array.store.disks.health
+  pub lost_is : status.lost_disks ≡ lost_watched beside.lost array.store.disks.health
   pub disks : status.disks ≡ length array.store.disks.disks
   pub extents : status.extents ≡ array.store.disks.extents
+  pub rows : status.extent_rows ≡ rows_of (geometry_of array)
   pub free_groups : status.free_groups ≡ free_groups array.store.book
   pub block_bytes : status.block_bytes ≡ block_len_of (geometry_of array)
   pub room : status.room_blocks ≡ room array.store.book
+  pub units : status.unit_sectors ≡ lengths_in array.store.book
   pub cached : status.cached_blocks ≡ length array.cache.entries
   pub entries : status.history_entries ≡ stored
   pub store_is : status.store ≡ option_map store_watched store
   pub hosts : status.hosts ≡ map host_watched counts.hosts
-  pub sessions_are : status.sessions ≡ sessions
+  pub sessions_are : status.sessions ≡ beside.sessions
+  pub refused : status.refused_logins ≡ beside.refused
+  pub latencies : status.latencies ≡ beside.latencies
   pub steps : status.steps ≡ steps_watched counts.tasks
   pub events : status.events ≡ latest
+  pub samples : status.samples ≡ beside.samples
 
 -- the array was compared with how it was seen last: its health, and its disks; and what leads from one look to the
 -- other was listed
@@ -169,17 +177,16 @@ MayDraw true lost array None = ⊥
 MayDraw true lost array (Some drawing) = IsDrawing lost array drawing
 
 -- The status of an array at one moment, and the data of its picture at the same one, both with the same lost disks. One
--- that doesn't persist has no store. The time, the events, the sessions, how many entries are stored, how the store is,
--- and which disks were lost are not specified.
+-- that doesn't persist has no store. What is shown beside the array, the events, how many entries are stored, and how
+-- the store is, are not specified.
 pub record CopiesMoment (persists draws : Bool) (status : ArrayStatus) (drawing : Option Picture) : Type 0 where
   pub state : KeptState
   pub stored : ℕ
   pub store : Option StoreStatus
   pub absent : persists ≡ false → store ≡ None
-  pub lost : Option (List ℕ)
-  pub is :
-      IsStatusOf state.array state.counts stored store lost status.sessions status.uptime_seconds status.events status
-  pub picture : MayDraw draws lost state.array drawing
+  pub beside : Beside
+  pub is : IsStatusOf state.array state.counts stored store status.events beside status
+  pub picture : MayDraw draws beside.lost state.array drawing
 
 -- the text of a picture; without one it is empty
 abbrev pub text_drawn : Option Picture → List ℕ

@@ -8,10 +8,14 @@ ghost use Rattle.ar_service.specs.Watching.{health_watched};
 
 use crate::doors::OperatedArray;
 use crate::shown::ControlledArray;
+use ar_cli::VERSION;
 use ar_disks::Host;
 use ar_history::{ServedArray, StoreState, StoreStatus};
 use ar_language::{Action, Question};
-use ar_operator::{Controller, OperatorOrder, SpareDisk, write_counts, write_help, write_session};
+use ar_operator::{
+    Controller, Inventory, OperatorOrder, SpareDisk, write_counts, write_help, write_session,
+    write_version,
+};
 use ar_sessions::Desk;
 use ar_status::{EventKind, EventLog};
 use std::alloc::{AllocError, Global};
@@ -27,6 +31,9 @@ const STORE_FAILED: &[u8] = b"fault: store failed\n";
 
 /// The second line of `health` where commits to the store fail.
 const STORE_FAILING: &[u8] = b"store failing\n";
+
+/// The same where one of the two copies of the store is lost.
+const STORE_DEGRADED: &[u8] = b"store degraded\n";
 
 /// The same where the store is given up.
 const STORE_GIVEN_UP: &[u8] = b"store given up\n";
@@ -62,6 +69,28 @@ impl<'a, R: Wait, A: ControlledArray<L, M> + Drop, L: Ledger, M> LockController<
     fn show_counts(&self, out: &mut Vec<u8>) -> Result<(), AllocError> {
         let counts = self.array.array.lock(self.array.rt).counts();
         write_counts(out, &counts).map_err(|_| AllocError)
+    }
+
+    fn show_usage(&self, out: &mut Vec<u8>) -> Result<(), AllocError> {
+        let inventory = self.inventory()?;
+        let spares = self.array.spares_left();
+        inventory.write_usage(out, spares).map_err(|_| AllocError)
+    }
+
+    fn show_units(&self, out: &mut Vec<u8>) -> Result<(), AllocError> {
+        let inventory = self.inventory()?;
+        inventory.write_units(out).map_err(|_| AllocError)
+    }
+
+    fn show_disks(&self, out: &mut Vec<u8>) -> Result<(), AllocError> {
+        let inventory = self.inventory()?;
+        inventory.write_disks(out).map_err(|_| AllocError)
+    }
+
+    // Copies what the words above show. Hosts wait meanwhile, as for a picture.
+    fn inventory(&self) -> Result<Inventory, AllocError> {
+        let array = self.array.array.lock(self.array.rt);
+        array.inventory(self.array.alloc, self.array.fuses)
     }
 }
 
@@ -105,7 +134,7 @@ impl<'a, R: Wait + Clock, A: ControlledArray<L, M> + Drop, L: Ledger, M: Copy> L
 
 // Executes an order on the array, and lists what has happened. Where the store has failed to keep what it has done, the
 // answer says so, and that of `health` where the store isn't sound.
-fn execute_listed<A: ControlledArray<L, M>, L: Ledger, M>(
+pub(crate) fn execute_listed<A: ControlledArray<L, M>, L: Ledger, M>(
     alloc: Global,
     array: &mut A,
     disks: &mut M,
@@ -168,6 +197,7 @@ fn state_line(state: StoreState) -> Option<&'static [u8]>
 {
     match state {
         StoreState::Sound => None,
+        StoreState::Degraded => Some(STORE_DEGRADED),
         StoreState::Failing => Some(STORE_FAILING),
         StoreState::GivenUp => Some(STORE_GIVEN_UP),
     }
@@ -252,6 +282,10 @@ impl<'a, R: Wait + Clock, A: ControlledArray<L, M> + Drop, L: Ledger, M: Copy> C
             }
             OperatorOrder::Sessions => self.show_sessions(out),
             OperatorOrder::Counts => self.show_counts(out),
+            OperatorOrder::Usage => self.show_usage(out),
+            OperatorOrder::Units => self.show_units(out),
+            OperatorOrder::Disks => self.show_disks(out),
+            OperatorOrder::Version => write_version(out, VERSION).map_err(|_| AllocError),
             OperatorOrder::Fail { disk, accesses } => self.fail(disk, accesses, out),
             OperatorOrder::Help => write_help(out).map_err(|_| AllocError),
             OperatorOrder::Stop => Ok(()),

@@ -6,14 +6,16 @@ use crate::attached::Initiators;
 use crate::initiators::{IscsiPort, Targets};
 use crate::monitoring::Monitor;
 use crate::operators::{OperatorHandler, OperatorRoom, PendingStops};
-use crate::shown::ControlledArray;
+use crate::shown::{Beside, ControlledArray};
+use crate::spares::Spares;
+use crate::tallies::Tallies;
 use crate::watching::Watch;
 use ar_disks::Host;
 use ar_frames::{Linked, PairWrite, Sink, Source};
 use ar_iscsi::IscsiEnd;
-use ar_operator::{Fuse, OperatorEnd, lost_disks};
+use ar_operator::{Fuse, OperatorEnd, disk_counts, lost_disks};
 use ar_sessions::{Desk, Door, Handler, NoMemory, SharedDoor, Starter, run_pool, start_pool};
-use ar_status::{ArrayStatus, EventLog, SessionNumbers};
+use ar_status::{Activity, ArrayName, ArrayStatus, EventLog, SessionNumbers};
 use log::Log;
 use std::alloc::{AllocError, Global};
 use std::hash::RandomState;
@@ -43,12 +45,20 @@ pub struct OperatedArray<'a, R: Wait, A: Drop, L: Ledger, M> {
     pub desk: &'a Mutex<Desk<L>>,
     /// The iSCSI sessions.
     pub initiators: &'a Mutex<Initiators>,
+    /// Disks that replace those that fail. Whoever takes this lock and others takes it first.
+    pub spares: &'a Mutex<Spares>,
     /// The fuses of its disks, by number.
     pub fuses: &'a [Fuse; 12],
     /// Makes its new disks.
     pub disks: M,
     /// What has happened to it. Whoever takes both locks takes this one first.
     pub log: &'a Mutex<EventLog>,
+    /// What the service counts itself.
+    pub tallies: &'a Tallies,
+    /// What hosts did lately. Whoever takes this lock and others takes it last.
+    pub activity: &'a Mutex<Activity>,
+    /// The array's name.
+    pub name: ArrayName,
     /// A name by which HTTP clients may ask for the service, beside those of 127.0.0.1.
     pub http_host: Option<&'a str>,
     /// When the service began, if the clock could be read.
@@ -107,12 +117,28 @@ impl<'a, R: Wait + Clock, A: ControlledArray<L, M> + Drop, L: Ledger, M> Operate
 
     /// Looks at the array, so that what has happened is listed, and returns its status.
     pub fn see(&self) -> ArrayStatus {
-        let sessions = self.sessions();
+        let (sessions, spares) = (self.sessions(), self.spares_left());
         let mut log = self.log.lock(self.rt);
         // (read behind the lock, so that events are listed in the order of their times)
         let seconds = self.seconds();
         let array = self.array.lock(self.rt);
-        see_and_tell::<A, L, M>(&array, self.fuses, sessions, seconds, &mut log)
+        let beside = self.beside(sessions, spares, seconds);
+        see_and_tell::<A, L, M>(&array, &beside, &mut log)
+    }
+
+    /// What is shown beside the array. It is read with the array's lock held, under which accesses are counted.
+    pub fn beside(&self, sessions: SessionNumbers, spares: u8, seconds: u64) -> Beside {
+        Beside {
+            name: self.name,
+            seconds,
+            lost: lost_disks(self.fuses),
+            disks: disk_counts(self.fuses),
+            sessions,
+            spares,
+            refused: self.tallies.refused(),
+            latencies: self.tallies.latencies.counters(),
+            samples: self.activity.lock(self.rt).samples(),
+        }
     }
 }
 
@@ -142,14 +168,11 @@ fn is_logged_in<L: Ledger>(desk: &Desk<L>, number: u8) -> bool
 // Looks at an array, and returns its status.
 fn see_and_tell<A: ControlledArray<L, M>, L: Ledger, M>(
     array: &A,
-    fuses: &[Fuse; 12],
-    sessions: SessionNumbers,
-    seconds: u64,
+    beside: &Beside,
     log: &mut EventLog,
 ) -> ArrayStatus {
-    array.see(seconds, log);
-    let (store, lost) = (array.store(), lost_disks(fuses));
-    array.status(store, lost, sessions, seconds, log.events())
+    array.see(beside.seconds, log);
+    array.status(array.store(), log.events(), beside)
 }
 
 // Whole seconds since, or 0 where the clock can't be read.
@@ -193,8 +216,10 @@ pub fn run_operated<
     let operators = operators_side(&*array, operators, room);
     let watchers = watchers_side(&*array, watchers);
     let sides = (&operators, &watchers, &initiators);
-    let served = serve_beside(array.rt, sides, &*array, move || {
-        serve_hosts(array, hosts, starter)
+    // (what the thread takes along is little, so that it is soon proved that threads may share it)
+    let (rt, alloc, shared, desk) = (array.rt, array.alloc, array.array, array.desk);
+    let served = serve_beside(rt, sides, &*array, move || {
+        run_pool(rt, alloc, hosts, shared, desk, starter)
     });
     (pending_in(array.alloc, operators), served)
 }
@@ -360,17 +385,4 @@ fn start_threads<
         Ok(_thread) => Ok(()),
         Err(_) => Err(NoMemory),
     }
-}
-
-// Serves hosts: any number of connections in turn, or those that the door counts.
-fn serve_hosts<
-    R: Threads + Wait + Clock + Log + Sync,
-    A: ControlledArray<L, M> + Drop + Send,
-    L: Ledger + Send + Sync,
-    M,
-    H: Door + Drop + Send,
-    B: Starter + Sync,
->(array: &OperatedArray<'_, R, A, L, M>, door: H, starter: &B) -> Result<(), NoMemory> {
-    let (rt, alloc, shared, desk) = (array.rt, array.alloc, array.array, array.desk);
-    run_pool(rt, alloc, door, shared, desk, starter)
 }

@@ -4,6 +4,7 @@ ghost use Rattle.std.specs.Prelude.{◌≡◌};
 
 use crate::attached::{Attached, Initiators};
 use crate::doors::OperatedArray;
+use crate::latencies::{Latencies, TimedOperation};
 use ar_disks::Host;
 use ar_frames::{Login, Port, Progress, Sink, Source};
 use ar_history::ServedArray;
@@ -21,7 +22,7 @@ use std::io::Write;
 use std::sync::ledger::Ledger;
 use std::sync::{Arc, Mutex, Wait};
 use std::thread;
-use std::time::{Clock, Duration};
+use std::time::{Clock, Duration, Instant};
 
 /// How often a login looks for its host's seat, if another session has it, and the milliseconds between two looks.
 const LOOKS: u32 = 200;
@@ -82,6 +83,7 @@ fn address_of(alloc: Global, port: u16) -> Result<Vec<u8>, AllocError> {
 
 // A port whose login waits for up to two seconds while another session has the host's seat: an initiator may log in
 // again as soon as it has logged out, and its last session is still being closed then. So is one that this login ends.
+// How long each command takes is noted.
 #[derive(Drop)]
 struct PatientPort<'a, R: Wait, L: Ledger, P: Drop> {
     rt: &'a R,
@@ -90,7 +92,19 @@ struct PatientPort<'a, R: Wait, L: Ledger, P: Drop> {
     // The number of its connection, and how far its session has come, if that is noted.
     number: u64,
     progress: Option<Arc<Progress>>,
+    latencies: &'a Latencies,
     port: P,
+}
+
+impl<'a, R: Wait + Clock, L: Ledger, P: Drop> PatientPort<'a, R, L, P> {
+    fn now(&self) -> Option<Instant> {
+        Instant::now(self.rt).ok()
+    }
+
+    // Notes how long a command took.
+    fn note_time(&self, operation: TimedOperation, began: Option<Instant>) {
+        self.latencies.note(self.rt, operation, began);
+    }
 }
 
 impl<'a, R: Wait + Log, L: Ledger, P: Drop> PatientPort<'a, R, L, P> {
@@ -148,7 +162,10 @@ impl<'a, R: Wait + Clock + Log, L: Ledger, P: Port + Drop> Port for PatientPort<
     }
 
     fn command(&mut self, lun: u8, cdb: &[u8; 16], payload: Bytes) -> Reply {
-        self.port.command(lun, cdb, payload)
+        let began = self.now();
+        let reply = self.port.command(lun, cdb, payload);
+        self.note_time(TimedOperation::of(cdb), began);
+        reply
     }
 
     fn refuse(&mut self, cdb: &[u8; 16]) -> Reply {
@@ -161,7 +178,10 @@ impl<'a, R: Wait + Clock + Log, L: Ledger, P: FlushPort + Drop> FlushPort
     ghost flushes = { λ old lun outcome new. P.flushes old.port lun outcome new.port };
 
     fn flush(&mut self, lun: u8) -> FlushOutcome {
-        self.port.flush(lun)
+        let began = self.now();
+        let outcome = self.port.flush(lun);
+        self.note_time(TimedOperation::SynchronizeCache, began);
+        outcome
     }
 }
 
@@ -172,11 +192,17 @@ impl<'a, R: Wait + Clock + Log, L: Ledger, P: DiscardPort + Drop> DiscardPort
     ghost runs = { λ old lun block most run new. P.runs old.port lun block most run new.port };
 
     fn discard(&mut self, lun: u8, lba: u64, count: u32) -> Reply {
-        self.port.discard(lun, lba, count)
+        let began = self.now();
+        let reply = self.port.discard(lun, lba, count);
+        self.note_time(TimedOperation::Other, began);
+        reply
     }
 
     fn run(&mut self, lun: u8, block: u32, most: u32) -> BlockRun {
-        self.port.run(lun, block, most)
+        let began = self.now();
+        let run = self.port.run(lun, block, most);
+        self.note_time(TimedOperation::Other, began);
+        run
     }
 }
 
@@ -227,6 +253,7 @@ impl<
             initiators,
             number,
             progress: progress_of(&reader),
+            latencies: self.latencies(),
             port: LockPort::new(rt, alloc, array, desk),
         };
         let mut server = DeviceServer::new(alloc, port, self.attributes);
@@ -235,17 +262,39 @@ impl<
         // (so that nobody sees it once another has the seat)
         initiators.lock(rt).end(number);
         let _receipt = port.finish();
-        if let Some(why) = refusal_of(end) {
-            self.refusals.warn(rt, "an initiator", why);
-        }
-        info!(rt; "iSCSI session {number} ended: {end:?}");
+        self.note_end(number, end);
         end
+    }
+}
+
+impl<'a, R: Wait + Clock + Log, A: Drop, L: Ledger, M> Targets<'a, R, A, L, M> {
+    fn latencies(&self) -> &'a Latencies {
+        &self.array.tallies.latencies
+    }
+
+    // Counts a refusal, and logs the end of a session.
+    fn note_end(&self, number: u64, end: IscsiEnd) {
+        if is_refused(end) {
+            self.array.tallies.refuse_iscsi();
+        }
+        if let Some(why) = refusal_of(end) {
+            self.refusals.warn(self.array.rt, "an initiator", why);
+        }
+        info!(self.array.rt; "iSCSI session {number} ended: {end:?}");
     }
 }
 
 // How far the session over a stream has come, if the stream notes that.
 fn progress_of<S: Source>(reader: &S) -> Option<Arc<Progress>> {
     Arc::try_clone(reader.progress()?).ok()
+}
+
+// Whether a login was refused, for whatever reason.
+fn is_refused(end: IscsiEnd) -> bool {
+    matches!(
+        end,
+        IscsiEnd::NoBuffer | IscsiEnd::Login(LoginEnd::Refused(_) | LoginEnd::NoMemory)
+    )
 }
 
 // Why a session didn't begin, if no memory could be allocated for it or its host has one already.

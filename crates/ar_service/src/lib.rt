@@ -3,18 +3,24 @@
 //! is.
 #![tactic(auto)]
 
+mod announced;
 mod attached;
 mod control;
 mod doors;
 mod initiator_name;
 mod initiators;
+mod latencies;
+mod lengths;
 mod monitoring;
 mod operators;
 mod runtime;
 mod service;
 mod shown;
+mod spares;
+mod tallies;
 mod watching;
 
+pub use announced::OperatorPlace;
 pub use attached::{Attached, Initiators};
 pub use control::LockController;
 pub use doors::{OperatedArray, SideDoors, run_operated};
@@ -27,4 +33,5 @@ pub use service::{
     Closing, HttpPort, NewUnit, OperatorListener, Plan, ServiceFault, TcpStops, serve,
     serve_lasting,
 };
+pub use spares::Spares;
 pub use watching::Watch;

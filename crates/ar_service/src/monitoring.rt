@@ -1,5 +1,5 @@
 // A thread that looks at the array ten times a second: so each event is listed with its time, and the log has it, also
-// while nobody watches. A look costs hosts the lock for about a microsecond.
+// while nobody watches. A look costs hosts the lock for a few microseconds.
 ghost use Rattle.std.specs.Prelude.{◌≡◌, ◌≤◌, length};
 ghost use Rattle.ar_service.specs.Monitoring.{last_warned};
 
@@ -7,7 +7,7 @@ use crate::doors::OperatedArray;
 use crate::shown::ControlledArray;
 use ar_memory::{memory_left, share_reached};
 use ar_operator::{Fuse, lost_disks};
-use ar_status::{EventKind, RecentEvent, RecentEvents};
+use ar_status::{EventKind, RecentEvent, RecentEvents, StoreHealth, StoreNumbers};
 use log::{Log, error, info, warn};
 use std::sync::Wait;
 use std::sync::atomic::Ordering;
@@ -42,15 +42,18 @@ pub trait Monitor {
     fn end(&self);
 }
 
-impl<'a, R: Wait + Clock + Log, A: ControlledArray<L, M> + Drop, L: Ledger, M> Monitor
+impl<'a, R: Wait + Clock + Log, A: ControlledArray<L, M> + Drop, L: Ledger, M: Copy> Monitor
     for OperatedArray<'a, R, A, L, M> {
     fn monitor(&self) {
         let mut logged = RecentEvents::new();
         let mut history = History::new();
+        let mut missed = None;
+        let mut has_lost_copy = false;
         for _ in self.rt.forever() {
             // (what has happened before the end is logged, too)
             let is_last = self.stop.load(Ordering::SeqCst);
             let status = self.see();
+            self.activity.lock(self.rt).look(&status);
             log_events(
                 self.rt,
                 self.fuses,
@@ -58,6 +61,8 @@ impl<'a, R: Wait + Clock + Log, A: ControlledArray<L, M> + Drop, L: Ledger, M> M
                 status.events.as_slice(),
             );
             logged = status.events;
+            missed = self.replace_failed(status.health, missed);
+            has_lost_copy = log_loss(self.rt, has_lost_copy, status.store);
             history = history.logged(self.rt, self.system, status.history_bytes);
             if is_last {
                 break;
@@ -110,6 +115,18 @@ fn log_disk<R: Log>(rt: &R, fuses: &[Fuse; 12], disk: u8) {
         Some(fuse) if fuse.is_out() => warn!(rt; "disk {disk} failed: an operator took it out"),
         _ => warn!(rt; "disk {disk} failed: an access faulted"),
     }
+}
+
+// Warns when a store loses one of its two copies, and returns whether it has.
+fn log_loss<R: Log>(rt: &R, had_lost: bool, store: Option<StoreNumbers>) -> bool {
+    let has_lost = match store {
+        Some(store) => store.state == StoreHealth::Degraded,
+        None => false,
+    };
+    if has_lost && !had_lost {
+        warn!(rt; "store degraded: one of its two copies is lost, and the other goes on");
+    }
+    has_lost || had_lost
 }
 
 // Logs that the array has failed, and which disks were missing.

@@ -112,6 +112,7 @@ impl<
         } else {
             self.refusals
                 .warn(self.array.rt, "an operator", "four others converse");
+            self.array.tallies.refuse_operator();
             refuse(&mut writer)
         };
         if end == OperatorEnd::NoMemory {

@@ -6,20 +6,23 @@ ghost use Rattle.ar_volume.specs.Image.{is_broken};
 ghost use Rattle.ar_service.specs.Service.{AreProvided, CreatesUnits, FailsAudit, IsAudited, IsProvided, refusal_in};
 
 use crate::ServiceRuntime;
+use crate::announced::{Announced, OperatorPlace};
 use crate::attached::Initiators;
 use crate::doors::{OperatedArray, SideDoors, TARGET_THREADS, run_operated};
 use crate::initiators::IscsiPort;
 use crate::operators::{MOST_OPERATORS, PendingStops};
 use crate::shown::{ControlledArray, health_of};
+use crate::spares::Spares;
+use crate::tallies::Tallies;
 use ar_core::{Array, Health, OutcomeOf, Refusal};
 use ar_disks::{Addr, Disk};
 use ar_history::{CountedArray, Counts, Kept, Mismatch, OperableArray, Report, Seat};
-use ar_operator::{DiskMaker, Fuse};
+use ar_operator::{DiskMaker, Fuse, WantedDisk};
 use ar_sessions::{
     ANY_NUMBER, Desk, ListenFault, MOST_AT_ONCE, NoMemory, Protocol, Starter, TcpDoor, TcpReader,
     TcpWriter, Timeouts,
 };
-use ar_status::EventLog;
+use ar_status::{Activity, ArrayName, EventLog};
 use std::alloc::Global;
 use std::hash::RandomState;
 use std::os::unix::net::UnixListener;
@@ -77,12 +80,16 @@ pub enum OperatorListener {
 pub struct Plan<'a> {
     /// The units to create before listening, in order.
     pub units: &'a [NewUnit],
-    /// The TCP port to listen at for hosts, on 127.0.0.1.
-    pub port: u16,
+    /// The array's name, for those who watch it.
+    pub name: ArrayName,
+    /// The TCP port to listen at for hosts, on 127.0.0.1. None: they come over iSCSI alone.
+    pub port: Option<u16>,
     /// The number of hosts' sessions. None: any number, until an operator's `stop`.
     pub sessions: Option<u8>,
     /// Where operators connect, if any may.
     pub operator: Option<OperatorListener>,
+    /// The same as it is printed.
+    pub operator_place: Option<OperatorPlace<'a>>,
     /// The TCP port to listen at for HTTP clients, on 127.0.0.1.
     pub http: Option<HttpPort>,
     /// A name by which HTTP clients may ask for the service, beside those of 127.0.0.1.
@@ -91,6 +98,8 @@ pub struct Plan<'a> {
     pub iscsi: Option<IscsiPort>,
     /// How long hosts may be silent.
     pub timeouts: Timeouts,
+    /// How many spare disks there are at the start.
+    pub spares: u8,
     /// Says how much memory there is; None: nothing is warned of.
     pub system: Option<&'a HostRuntime>,
 }
@@ -146,11 +155,11 @@ impl From<NoMemory> for ServiceFault {
     }
 }
 
-/// Serves a new array by a plan: creates its units, listens, prints `listening PORT`, and serves hosts, operators,
-/// initiators and HTTP clients. If it `audits`, the history and the hosts' transcripts are stored, and compared at
-/// the end. Else contracts alone see the history, so that the array may be served for ever. `disks` are the fuses of
-/// its disks, by number, and what makes new ones; `stop` isn't set yet. Returns the operators that wait for the end,
-/// and what is reported, or what failed.
+/// Serves a new array by a plan: creates its units, listens, prints `listening PORT` and a line for each other door,
+/// and serves hosts, operators, initiators and HTTP clients. If it `audits`, the history and the hosts' transcripts are
+/// stored, and compared at the end. Else contracts alone see the history, so that the array may be served for ever.
+/// `disks` are the fuses of its disks, by number, and what makes new ones; `stop` isn't set yet. Returns the operators
+/// that wait for the end, and what is reported, or what failed.
 pub fn serve<
     's,
     D: Disk + Drop + Send,
@@ -275,18 +284,26 @@ fn serve_array<
     requires hosts { map (λ (s : SeatState). s.host.number) begun.seats ≡ 0 ∷ 1 ∷ 2 ∷ 3 ∷ [] }
 {
     let Begun { made, seats, log } = begun;
+    let (made, spares) = with_spares(alloc, made, array.disk_shape(), plan.spares);
     let (array, desk) = (Mutex::new(array), Mutex::new(Desk::new(seats)));
     let (made, initiators) = with_initiators(alloc, made);
     let (log, initiators) = (Mutex::new(log), Mutex::new(initiators));
+    let spares = Mutex::new(spares);
+    let tallies = Tallies::new();
+    let activity = Mutex::new(Activity::new());
     let operated = OperatedArray {
         rt,
         alloc,
         array: &array,
         desk: &desk,
         initiators: &initiators,
+        spares: &spares,
         fuses: disks.0,
         disks: disks.1,
         log: &log,
+        tallies: &tallies,
+        activity: &activity,
+        name: plan.name,
         http_host: plan.http_host,
         began: Instant::now(rt).ok(),
         system: plan.system,
@@ -313,6 +330,19 @@ fn with_initiators(
     }
 }
 
+// The spare disks, for which a service needs memory, too.
+fn with_spares(
+    alloc: Global,
+    made: Result<(), ServiceFault>,
+    wanted: WantedDisk,
+    count: u8,
+) -> (Result<(), ServiceFault>, Spares) {
+    match Spares::new(alloc, wanted, count) {
+        Ok(spares) => (made, spares),
+        Err(_) => (made.and(Err(ServiceFault::NoMemory)), Spares::none(alloc)),
+    }
+}
+
 // Listens, and serves hosts, operators, initiators and HTTP clients.
 fn serve_plan<
     's,
@@ -326,14 +356,24 @@ fn serve_plan<
     stop: &'s AtomicBool,
     plan: Plan<'_>,
 ) -> (TcpStops<'s, R>, Result<(), ServiceFault>) {
-    let port = plan.port;
+    let announced = announced_of(&plan);
     match open_doors(rt, operated.alloc, stop, plan) {
         Ok((hosts, doors)) => {
-            let announcer = Announcer::new(rt, port, stop);
+            let announcer = Announcer::new(rt, announced, stop);
             let (stops, served) = run_operated(operated, hosts, doors, &announcer);
             (stops, announcer.judge(served))
         }
         Err(fault) => (PendingStops::none(operated.alloc), Err(fault)),
+    }
+}
+
+// Where a plan's service listens.
+fn announced_of<'a>(plan: &Plan<'a>) -> Announced<'a> {
+    Announced {
+        port: plan.port,
+        iscsi: plan.iscsi.map(|iscsi| iscsi.port),
+        http: plan.http.map(|http| http.port),
+        operators: plan.operator_place,
     }
 }
 
@@ -368,14 +408,17 @@ fn open_doors<'s, R: ServiceRuntime + Sync>(
     ))
 }
 
-// Opens the hosts' door. Only an operator's `stop` closes it before its last session.
+// Opens the hosts' door, at its port or at none. Only an operator's `stop` closes it before its last session.
 fn open_hosts<'s, R: ServiceRuntime>(
     rt: &'s R,
     alloc: Global,
     stop: &'s AtomicBool,
     plan: &Plan<'_>,
 ) -> Result<TcpDoor<'s, R>, ServiceFault> {
-    let hosts = TcpDoor::listen(rt, alloc, plan.port, ANY_NUMBER)?;
+    let hosts = match plan.port {
+        Some(port) => TcpDoor::listen(rt, alloc, port, ANY_NUMBER)?,
+        None => TcpDoor::without_port(rt, alloc, ANY_NUMBER),
+    };
     let hosts = hosts.limited(Protocol::Sessions, plan.timeouts, Some(stop));
     let hosts = hosts.crowded(MOST_AT_ONCE as usize - 1, plan.sessions);
     hosts.map_err(|_| ServiceFault::NoMemory)
@@ -443,7 +486,7 @@ fn open_initiators<'s, R: ServiceRuntime>(
 #[derive(Drop)]
 struct Announcer<'a, R: Print> {
     rt: &'a R,
-    port: u16,
+    announced: Announced<'a>,
     // Set where the service can't begin.
     stop: &'a AtomicBool,
     // It couldn't be said.
@@ -451,10 +494,10 @@ struct Announcer<'a, R: Print> {
 }
 
 impl<'a, R: Print> Announcer<'a, R> {
-    fn new(rt: &'a R, port: u16, stop: &'a AtomicBool) -> Announcer<'a, R> {
+    fn new(rt: &'a R, announced: Announced<'a>, stop: &'a AtomicBool) -> Announcer<'a, R> {
         Announcer {
             rt,
-            port,
+            announced,
             stop,
             has_failed: AtomicBool::new(false),
         }
@@ -471,7 +514,8 @@ impl<'a, R: Print> Announcer<'a, R> {
 
     // Prints that it listens, and returns whether that was printed.
     fn is_printed(&self) -> bool {
-        println!(self.rt; "listening {}", self.port).is_ok()
+        let announced = self.announced;
+        println!(self.rt; "{announced}").is_ok()
     }
 }
 

@@ -10,6 +10,7 @@ ghost use Rattle.ar_service.specs.Watching.{IsStatusOf, SeesArray, counters_watc
 ghost use Rattle.ar_service.specs.Watching.{lost_watched, operations_watched, replies_watched, steps_watched};
 ghost use Rattle.ar_service.specs.Watching.{store_health_watched, store_watched};
 
+use crate::lengths::lengths_of;
 use ar_core::{Array, Counters, Health};
 use ar_disks::Disk;
 use ar_history::{
@@ -17,13 +18,15 @@ use ar_history::{
     StoreStatus, TaskCounts,
 };
 use ar_operator::{
-    DiskMaker, Fuse, OperatorOrder, Prepared, SpareDisk, WantedDisk, execute, set_fuse, wanted_disk,
+    DiskCounts, DiskMaker, Fuse, Inventory, OperatorOrder, Prepared, SpareDisk, WantedDisk,
+    execute, set_fuse, wanted_disk,
 };
 use ar_picture::Picture;
 use ar_script::picture_of;
 use ar_status::{
-    ArrayCounters, ArrayHealth, ArrayStatus, EventLog, HostCounters, MaintenanceSteps,
-    OperationCounters, RecentEvents, ReplyCounters, SessionNumbers, StoreHealth, StoreNumbers,
+    ArrayCounters, ArrayHealth, ArrayName, ArrayStatus, CommandLatencies, DiskCounters, DiskList,
+    EventLog, HostCounters, MaintenanceSteps, OperationCounters, RecentEvents, RecentSamples,
+    RefusedLogins, ReplyCounters, SessionNumbers, StoreHealth, StoreNumbers,
 };
 use std::alloc::{AllocError, Global};
 use std::sync::ledger::Ledger;
@@ -31,8 +34,31 @@ use std::sync::ledger::Ledger;
 /// Bytes that an entry takes in the list of the history.
 const ENTRY_LEN: u64 = 136;
 
+/// What is shown of an array that it doesn't know itself.
+#[derive(Clone, Copy)]
+pub struct Beside {
+    /// The array's name.
+    pub name: ArrayName,
+    /// The seconds since the start.
+    pub seconds: u64,
+    /// The disks that it has lost, if it has failed and they are known.
+    pub lost: Option<[u8; 2]>,
+    /// What was counted of its disks, by number.
+    pub disks: [DiskCounts; 12],
+    pub sessions: SessionNumbers,
+    /// The spare disks that are left.
+    pub spares: u8,
+    pub refused: RefusedLogins,
+    pub latencies: CommandLatencies,
+    /// What hosts did lately.
+    pub samples: RecentSamples,
+}
+
 /// A served array, as operators use it and the pages show it, whatever its disks are. `M` makes its new disks.
 pub trait ControlledArray<L: Ledger, M>: ServedArray<L> {
+    /// Returns the shape of its disks.
+    fn disk_shape(&self) -> WantedDisk;
+
     /// Returns which new disk an order wants (`ar_operator::wanted_disk`).
     fn wanted_disk(&self, order: OperatorOrder) -> Option<WantedDisk>;
 
@@ -63,26 +89,29 @@ pub trait ControlledArray<L: Ledger, M>: ServedArray<L> {
     fn see(&self, seconds: u64, log: &mut EventLog)
         ensures { SeesArray seconds (Self.state self.now).array log.old log.new };
 
-    /// Returns the status of the array, `seconds` after the start, with these events and sessions, its store, if there
-    /// is one, and the disks that it has lost, if it has failed.
+    /// Returns the status of the array with these events, its store, if there is one, and what is shown beside it.
     fn status(
         &self,
         store: Option<StoreStatus>,
-        lost: Option<[u8; 2]>,
-        sessions: SessionNumbers,
-        seconds: u64,
         events: RecentEvents,
+        beside: &Beside,
     ) -> ArrayStatus
         ensures { IsStatusOf (Self.state self.now).array (Self.state self.now).counts
-            (if Self.stores then length (Self.state self.now).history else 0) store lost sessions seconds events
-            result };
+            (if Self.stores then length (Self.state self.now).history else 0) store events beside.now result };
 
     /// Returns the data of the array's picture. It fails only when out of memory.
     fn picture(&self, alloc: Global) -> Result<Picture, AllocError>
         ensures { IfOk result (IsPicture (Self.state self.now).array) };
+
+    /// Returns what operators are shown of the array (`ar_operator::Inventory`). It fails only when out of memory.
+    fn inventory(&self, alloc: Global, fuses: &[Fuse; 12]) -> Result<Inventory, AllocError>;
 }
 
 impl<A: OperableArray<L>, L: Ledger, M: DiskMaker<A::Disk>> ControlledArray<L, M> for A {
+    fn disk_shape(&self) -> WantedDisk {
+        WantedDisk::of(self.array())
+    }
+
     fn wanted_disk(&self, order: OperatorOrder) -> Option<WantedDisk> {
         wanted_disk(self.array(), order)
     }
@@ -115,45 +144,42 @@ impl<A: OperableArray<L>, L: Ledger, M: DiskMaker<A::Disk>> ControlledArray<L, M
     fn status(
         &self,
         store: Option<StoreStatus>,
-        lost: Option<[u8; 2]>,
-        sessions: SessionNumbers,
-        seconds: u64,
         events: RecentEvents,
+        beside: &Beside,
     ) -> ArrayStatus {
         status_with(
             self.array(),
             &self.counts(),
             (self.stored_entries(), self.stored_room()),
             store,
-            lost,
-            sessions,
-            seconds,
             events,
+            beside,
         )
     }
 
     fn picture(&self, alloc: Global) -> Result<Picture, AllocError> {
         picture_of(alloc, self.array())
     }
+
+    fn inventory(&self, alloc: Global, fuses: &[Fuse; 12]) -> Result<Inventory, AllocError> {
+        Inventory::of(alloc, self.array(), fuses)
+    }
 }
 
-// The status of an array with this many entries of its history stored, and memory for that many, with a store, perhaps,
-// and disks that it has lost.
+// The status of an array with this many entries of its history stored, and memory for that many, and with a store,
+// perhaps.
 fn status_with<D: Disk>(
     array: &Array<D>,
     counts: &Counts,
     stored: (usize, usize),
     store: Option<StoreStatus>,
-    lost: Option<[u8; 2]>,
-    sessions: SessionNumbers,
-    seconds: u64,
     events: RecentEvents,
+    beside: &Beside,
 ) -> ArrayStatus
-    ensures { IsStatusOf array.now counts.now stored.0 store lost sessions seconds events result }
+    ensures { IsStatusOf array.now counts.now stored.0 store events beside.now result }
 {
-    let status = status_of(array, counts, sessions, seconds, events);
+    let status = status_of(array, counts, events, beside);
     ArrayStatus {
-        lost_disks: lost_of(array.health(), lost),
         history_entries: stored.0 as u64,
         history_bytes: stored_bytes(stored.1 as u64, status.health, counts),
         store: store_of(store),
@@ -172,30 +198,37 @@ fn see_array<D: Disk>(array: &Array<D>, seconds: u64, log: &mut EventLog)
 fn status_of<D: Disk>(
     array: &Array<D>,
     counts: &Counts,
-    sessions: SessionNumbers,
-    seconds: u64,
     events: RecentEvents,
+    beside: &Beside,
 ) -> ArrayStatus
-    ensures { IsStatusOf array.now counts.now 0 None None sessions seconds events result }
+    ensures { IsStatusOf array.now counts.now 0 None events beside.now result }
 {
     ArrayStatus {
-        uptime_seconds: seconds,
+        name: beside.name,
+        uptime_seconds: beside.seconds,
         health: health_of(array.health()),
-        lost_disks: None,
+        lost_disks: lost_of(array.health(), beside.lost),
         disks: array.disks(),
+        spares: beside.spares,
         extents: array.extents(),
+        extent_rows: array.geometry().rows(),
+        disk_counters: disks_of(&beside.disks, array.disks()),
         free_groups: array.free_groups(),
         block_bytes: array.geometry().block_len() as u64,
         room_blocks: u64::from(array.free_room()),
+        unit_sectors: lengths_of(array),
         cached_blocks: array.cached_blocks() as u64,
         history_entries: 0,
         history_bytes: 0,
         store: None,
         hosts: hosts_of(counts.hosts),
-        sessions,
+        latencies: beside.latencies,
+        sessions: beside.sessions,
+        refused_logins: beside.refused,
         steps: steps_of(counts.tasks),
         counters: counters_of(array.counters()),
         events,
+        samples: beside.samples,
     }
 }
 
@@ -236,6 +269,18 @@ fn lost_of(health: Health, lost: Option<[u8; 2]>) -> Option<[u8; 2]>
     }
 }
 
+// What was counted of each disk.
+fn disks_of(counts: &[DiskCounts; 12], disks: u8) -> DiskList {
+    DiskList::new(counts.map(disk_of), disks)
+}
+
+fn disk_of(counts: DiskCounts) -> DiskCounters {
+    DiskCounters {
+        accesses: counts.accesses,
+        errors: counts.errors,
+    }
+}
+
 // The store, if there is one.
 fn store_of(store: Option<StoreStatus>) -> Option<StoreNumbers>
     ensures { result ≡ option_map store_watched store }
@@ -265,6 +310,7 @@ fn store_health_of(state: StoreState) -> StoreHealth
 {
     match state {
         StoreState::Sound => StoreHealth::Sound,
+        StoreState::Degraded => StoreHealth::Degraded,
         StoreState::Failing => StoreHealth::Failing,
         StoreState::GivenUp => StoreHealth::GivenUp,
     }

@@ -4,12 +4,11 @@ ghost use Rattle.std.specs.Prelude.{◌≡◌, IfOk};
 ghost use Rattle.ar_service.specs.Watching.{CopiesMoment, IsDrawing, MayDraw, text_drawn};
 
 use crate::doors::OperatedArray;
-use crate::shown::ControlledArray;
+use crate::shown::{Beside, ControlledArray};
 use ar_frames::Linked;
-use ar_operator::lost_disks;
 use ar_picture::{Picture, write_svg};
 use ar_sessions::{Handler, Refusals};
-use ar_status::{ArrayStatus, EventLog, Look, SessionNumbers, Watched, serve_named};
+use ar_status::{ArrayStatus, EventLog, Look, Watched, serve_named};
 use log::Log;
 use std::alloc::{AllocError, Global};
 use std::hash::RandomState;
@@ -49,12 +48,12 @@ impl<'a, R: Wait + Clock, A: ControlledArray<L, M> + Drop, L: Ledger, M> Watch<'
     ) -> Result<(ArrayStatus, Option<Picture>), AllocError>
         ensures { IfOk result (λ copied. CopiesMoment A.persists draws copied.0 copied.1) }
     {
-        let sessions = self.array.sessions();
+        let (sessions, spares) = (self.array.sessions(), self.array.spares_left());
         let mut log = self.array.log.lock(self.array.rt);
         let seconds = self.array.seconds();
         let array = self.array.array.lock(self.array.rt);
-        let lost = lost_disks(self.array.fuses);
-        copy_moment::<A, L, M>(alloc, &array, &mut log, lost, sessions, seconds, draws)
+        let beside = self.array.beside(sessions, spares, seconds);
+        copy_moment::<A, L, M>(alloc, &array, &mut log, &beside, draws)
     }
 }
 
@@ -63,16 +62,14 @@ fn copy_moment<A: ControlledArray<L, M>, L: Ledger, M>(
     alloc: Global,
     array: &A,
     log: &mut EventLog,
-    lost: Option<[u8; 2]>,
-    sessions: SessionNumbers,
-    seconds: u64,
+    beside: &Beside,
     draws: bool,
 ) -> Result<(ArrayStatus, Option<Picture>), AllocError>
     ensures { IfOk result (λ copied. CopiesMoment A.persists draws copied.0 copied.1) }
 {
-    array.see(seconds, log);
-    let status = array.status(array.store(), lost, sessions, seconds, log.events());
-    let picture = picture_if::<A, L, M>(alloc, array, lost, draws)?;
+    array.see(beside.seconds, log);
+    let status = array.status(array.store(), log.events(), beside);
+    let picture = picture_if::<A, L, M>(alloc, array, beside.lost, draws)?;
     Ok((status, picture))
 }
 

@@ -10,5 +10,6 @@ loop-entry-preserved c =
     ≡ map (after_entry c.args.number) (take (c.loop-entry.entry-index + 1) c.deref_mut-entry-items.result.now)
     ++ drop (c.loop-entry.entry-index + 1) c.deref_mut-entry-items.result.now)
     (ap (after_entry c.args.number) c.entry-item.is ∙ sym c.see_entry.ensures)
-    (map_over_more (after_entry c.args.number) c.deref_mut-entry-items.result.now c.loop-entry.entry-items c.loop-entry.entry-index
+    (map_over_more (after_entry c.args.number) c.deref_mut-entry-items.result.now c.loop-entry.entry-items
+    c.loop-entry.entry-index
     c.entry-item.result c.loop-entry-test.true c.loop-entry.invariant c.entry-item.is)

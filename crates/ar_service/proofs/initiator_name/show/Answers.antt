@@ -15,6 +15,8 @@ loop-at-preserved c =
           (λ byte. slice_set c.loop-at.bytes c.loop-at.at byte
           ≡ map shown_byte (take (c.loop-at.at + 1) c.args.bytes.now) ++ drop (c.loop-at.at + 1) c.args.bytes.now)
           (sym c.shown_byte.ensures)
-          (map_over_more shown_byte c.args.bytes.now c.loop-at.bytes c.loop-at.at (get_or c.loop-at.bytes c.loop-at.at 0) first
-          c.loop-at.invariant.1 (get_or_default c.loop-at.bytes c.loop-at.at 0 (get_or c.loop-at.bytes c.loop-at.at 0) inside)),
+          (map_over_more shown_byte c.args.bytes.now c.loop-at.bytes c.loop-at.at
+          (get_or c.loop-at.bytes c.loop-at.at 0) first
+          c.loop-at.invariant.1
+          (get_or_default c.loop-at.bytes c.loop-at.at 0 (get_or c.loop-at.bytes c.loop-at.at 0) inside)),
     )
