@@ -1,5 +1,6 @@
 // The host's side of a session: sends the commands of a script one at a time, each after the reply to the one before.
 use crate::fault::Failure;
+use crate::prompt::Prompt;
 use ar_core::OutcomeOf;
 use ar_disks::Host;
 use ar_frames::{AskFault, Sink, Source, ask, hello};
@@ -50,12 +51,13 @@ impl<S: Source + Drop, W: Sink + Drop> Client<S, W> {
         }
     }
 
-    /// Sends the commands of all lines, and writes the answers. Answers are written before more input is read; the
-    /// first fault ends it.
+    /// Sends the commands of all lines, and writes the answers, and a prompt before each line. Answers are written
+    /// before more input is read; the first fault ends it.
     pub fn run<R: Read + Drop, O: Write + Drop>(
         &mut self,
         input: R,
         output: O,
+        prompt: Prompt,
     ) -> Result<(), Failure> {
         let Ok(mut lines) = Lines::new(self.alloc, input) else {
             return Err(Failure::at(1, FaultKind::NoMemory));
@@ -63,7 +65,7 @@ impl<S: Source + Drop, W: Sink + Drop> Client<S, W> {
         let Ok(mut out) = BufWriter::new(self.alloc, output) else {
             return Err(Failure::at(1, FaultKind::NoMemory));
         };
-        let done = self.run_lines(&mut lines, &mut out);
+        let done = self.run_lines(&mut lines, &mut out, prompt);
         let flushed = out.flush();
         let (_output, _unwritten) = out.into_parts();
         match flushed {
@@ -76,14 +78,20 @@ impl<S: Source + Drop, W: Sink + Drop> Client<S, W> {
         &mut self,
         lines: &mut Lines<R>,
         out: &mut BufWriter<O>,
+        prompt: Prompt,
     ) -> Result<(), Failure> {
         for _ in 0..u32::MAX {
+            prompt
+                .show(out)
+                .map_err(|_| Failure::at(lines.number(), FaultKind::WriteFault))?;
             if !next_line(lines, out).map_err(Failure::Line)? {
                 break;
             }
             self.answer_line(lines.number(), lines.line(), out)?;
         }
-        Ok(())
+        prompt
+            .end(out)
+            .map_err(|_| Failure::at(lines.number(), FaultKind::WriteFault))
     }
 
     // Sends the command of a line, if it has one, and writes the answer.

@@ -5,11 +5,14 @@ use ar_language::{Fault, FaultKind};
 use thiserror::Error;
 
 /// Why the program exits with a status of 1. A refused command line has a fault of its own.
-#[derive(Clone, Copy, Debug, PartialEq, Eq, Error)]
+#[derive(Debug, Drop, Error)]
 pub enum Failure {
     /// Nothing listens at the port or the path.
     #[error("connect fault")]
     Connect,
+    /// Nothing listened there for as many seconds as the client was to wait.
+    #[error("connect fault: no server within {0} s")]
+    NoServer(u32),
     /// A session of this host is open.
     #[error("login refused")]
     Refused,
@@ -31,6 +34,9 @@ pub enum Failure {
     /// What went wrong at a line, as for a script.
     #[error(transparent)]
     Line(Fault),
+    /// The same, and what is wrong with the line.
+    #[error("{0}\n{1}")]
+    Explained(Fault, String),
 }
 
 impl ExitStatus for Failure {

@@ -6,34 +6,59 @@
 mod client;
 mod fault;
 mod operator;
+mod prompt;
 
 use ar_cli::{end_with, fail, words_of};
 use ar_command_line::{Account, OperatorDoor, UsageFault, account_in};
 use ar_disks::Host;
 use ar_frames::Linked;
+use ar_language::{Recent, Remembered};
 use client::Client;
 use fault::Failure;
 use operator::operate;
+use prompt::Prompt;
 use std::alloc::Global;
-use std::io::{self, BufReader, Read, Write};
+use std::io::{self, BufReader, IsTerminal, Read, Write};
 use std::net::{Net, TcpListener, TcpStream};
 use std::os::fd::OwnedFd;
 use std::os::unix::net::UnixStream;
 use std::process::ExitCode;
+use std::thread;
 use std::thread::Threads;
-use std::time::Duration;
+use std::time::{Clock, Duration};
 
 /// Seconds for which a host's client waits for an answer; no door but the hosts' answers a login.
 const ANSWER: u64 = 30;
 
+/// Milliseconds between two tries to connect, and the tries of a second.
+const PAUSE: u64 = 100;
+
+const TRIES: u32 = 10;
+
+// Where a server listens.
+#[derive(Clone, Copy)]
+enum Place<'a> {
+    // A port of 127.0.0.1.
+    Port(u16),
+    // The path of a Unix socket.
+    Path(&'a str),
+}
+
 fn main(rt: HostRuntime) -> ExitCode {
     let alloc = rt.alloc();
+    let prompt = Prompt {
+        is_shown: rt.stdin().is_terminal() && rt.stdout().is_terminal(),
+    };
     let done = match account(&rt) {
         Ok(Account::Shown(text)) => print!(rt; "{text}").map_err(|_| Failure::Write),
-        Ok(Account::Host { host, port }) => run(&rt, alloc, host, port, rt.stdin(), rt.stdout()),
-        Ok(Account::Operator { door }) => {
-            run_operator(&rt, alloc, &door, rt.stdin(), rt.stdout())
-        }
+        Ok(Account::Host { host, port, wait }) => match connect(&rt, Place::Port(port), wait) {
+            Ok(stream) => run(alloc, host, stream, rt.stdin(), rt.stdout(), prompt),
+            Err(failure) => Err(failure),
+        },
+        Ok(Account::Operator { door, wait }) => match connect(&rt, place_of(&door), wait) {
+            Ok(stream) => operate(&rt, alloc, stream, rt.stdin(), rt.stdout(), prompt),
+            Err(failure) => Err(failure),
+        },
         Err(fault) => return fail(&rt, &fault),
     };
     end_with(&rt, done)
@@ -47,58 +72,84 @@ fn account(rt: &HostRuntime) -> Result<Account, UsageFault> {
 }
 
 // Logs a host in, and sends the commands of the input.
-fn run<R: Net<Listener = TcpListener, Stream = TcpStream>, I: Read + Drop, O: Write + Drop>(
-    rt: &R,
+fn run<I: Read + Drop, O: Write + Drop>(
     alloc: Global,
     host: Host,
-    port: u16,
+    stream: TcpStream,
     input: I,
     output: O,
+    prompt: Prompt,
 ) -> Result<(), Failure> {
-    let Ok((reader, writer)) = connect(rt, alloc, port) else {
+    let Ok((reader, writer)) = halves(alloc, stream) else {
         return Err(Failure::Connect);
     };
     let (reader, writer) = (Linked::new(reader), Linked::new(writer));
     let mut client = Client::log_in(alloc, host, reader, writer)?;
-    client.run(input, output)
+    let mut recent = Recent::new(alloc);
+    let done = client.run(Remembered::new(input, &mut recent), output, prompt);
+    explained(alloc, done, &recent)
 }
 
-// Sends the lines of the input to the operators' door.
-fn run_operator<
-    R: Threads + Net<Listener = TcpListener, Stream = TcpStream>,
-    I: Read + Send + Drop + 'static,
-    O: Write + Drop,
->(rt: &R, alloc: Global, door: &OperatorDoor, input: I, output: O) -> Result<(), Failure> {
-    let Ok(stream) = connect_operator(rt, door) else {
-        return Err(Failure::Connect);
+// How a session ended: a fault of a line together with what is wrong with it.
+fn explained(alloc: Global, done: Result<(), Failure>, recent: &Recent) -> Result<(), Failure> {
+    let Err(Failure::Line(fault)) = done else {
+        return done;
     };
-    operate(rt, alloc, stream, input, output)
-}
-
-// A connection to the operators' door. At a Unix socket it has the same calls, by its descriptor.
-fn connect_operator<R: Net<Listener = TcpListener, Stream = TcpStream>>(
-    rt: &R,
-    door: &OperatorDoor,
-) -> io::Result<TcpStream> {
-    match door {
-        OperatorDoor::Port(port) => TcpStream::connect(rt, ("127.0.0.1", *port)),
-        OperatorDoor::Path(path) => {
-            let stream = UnixStream::connect(rt, path.as_str())?;
-            Ok(TcpStream::from(OwnedFd::from(stream)))
-        }
+    let Some(explanation) = recent.explain(fault) else {
+        return Err(Failure::Line(fault));
+    };
+    match format!(in alloc; "{explanation}") {
+        Ok(text) => Err(Failure::Explained(fault, text)),
+        Err(_) => Err(Failure::Line(fault)),
     }
 }
 
-// A connection to a port of 127.0.0.1, without Nagle's delay; replies are read through a buffer, and a read that waits
-// too long is a fault.
-fn connect<R: Net<Listener = TcpListener, Stream = TcpStream>>(
-    rt: &R,
-    alloc: Global,
-    port: u16,
-) -> io::Result<(BufReader<TcpStream>, TcpStream)> {
-    let stream = TcpStream::connect(rt, ("127.0.0.1", port))?;
+// Both directions of a host's connection, without Nagle's delay; replies are read through a buffer, and a read that
+// waits too long is a fault.
+fn halves(alloc: Global, stream: TcpStream) -> io::Result<(BufReader<TcpStream>, TcpStream)> {
     stream.set_nodelay(true)?;
     stream.set_read_timeout(Some(Duration::from_secs(ANSWER)))?;
     let writer = stream.try_clone()?;
     Ok((BufReader::new(alloc, stream)?, writer))
+}
+
+// Where operators connect.
+fn place_of(door: &OperatorDoor) -> Place<'_> {
+    match door {
+        OperatorDoor::Port(port) => Place::Port(*port),
+        OperatorDoor::Path(path) => Place::Path(path.as_str()),
+    }
+}
+
+// A connection to a server, for which it waits if nothing listens so far.
+fn connect<R: Clock + Net<Listener = TcpListener, Stream = TcpStream>>(
+    rt: &R,
+    place: Place<'_>,
+    wait: u32,
+) -> Result<TcpStream, Failure> {
+    for _ in 0..wait.saturating_mul(TRIES) {
+        if let Ok(stream) = open(rt, place) {
+            return Ok(stream);
+        }
+        thread::sleep(rt, Duration::from_millis(PAUSE));
+    }
+    match open(rt, place) {
+        Ok(stream) => Ok(stream),
+        Err(_) if wait > 0 => Err(Failure::NoServer(wait)),
+        Err(_) => Err(Failure::Connect),
+    }
+}
+
+// At a Unix socket a connection has the same calls, by its descriptor.
+fn open<R: Net<Listener = TcpListener, Stream = TcpStream>>(
+    rt: &R,
+    place: Place<'_>,
+) -> io::Result<TcpStream> {
+    match place {
+        Place::Port(port) => TcpStream::connect(rt, ("127.0.0.1", port)),
+        Place::Path(path) => {
+            let stream = UnixStream::connect(rt, path)?;
+            Ok(TcpStream::from(OwnedFd::from(stream)))
+        }
+    }
 }

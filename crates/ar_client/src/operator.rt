@@ -2,10 +2,12 @@
 // side waits for the other. Behind the input a word is sent that no operator has: its answer, which isn't shown, says
 // that all lines before it were answered.
 use crate::fault::Failure;
+use crate::prompt::Prompt;
 use std::alloc::Global;
 use std::io::{BufWriter, Read, Write};
 use std::net::{Shutdown, TcpStream};
 use std::sync::Arc;
+use std::sync::atomic::{AtomicBool, Ordering};
 use std::thread;
 use std::thread::Threads;
 
@@ -39,35 +41,39 @@ struct Answers {
     held: Option<usize>,
     fault: Search,
     stopped: Search,
+    prompt: Prompt,
 }
 
 /// Sends the input, and writes the answers, until the server closes the connection. A faulty line ends nothing, but is
 /// reported at the end. A server that closes before it has answered all lines is a session fault, unless it was
-/// stopped.
+/// stopped. At a terminal a prompt follows the answers that have come.
 pub fn operate<R: Threads, I: Read + Send + Drop + 'static, O: Write + Drop>(
     rt: &R,
     alloc: Global,
     stream: TcpStream,
     input: I,
     output: O,
+    prompt: Prompt,
 ) -> Result<(), Failure> {
     let stream = Arc::new(alloc, stream).map_err(|_| Failure::NoMemory)?;
     let requests = Arc::try_clone(&stream).map_err(|_| Failure::NoMemory)?;
+    let is_closing = Arc::new(alloc, AtomicBool::new(false)).map_err(|_| Failure::NoMemory)?;
+    let closing = Arc::try_clone(&is_closing).map_err(|_| Failure::NoMemory)?;
     // It isn't joined: where the server closes first, the rest of the input is of no use.
-    let Ok(_sender) = thread::spawn(rt, move || send_all(input, &requests)) else {
+    let Ok(_sender) = thread::spawn(rt, move || send_all(input, &requests, &closing)) else {
         return Err(Failure::NoMemory);
     };
     let Ok(mut output) = BufWriter::new(alloc, output) else {
         return Err(Failure::NoMemory);
     };
-    let mut answers = Answers::new();
-    let done = answers.pass_on(&stream, &mut output);
+    let mut answers = Answers::new(prompt);
+    let done = answers.pass_on(&stream, &is_closing, &mut output);
     let (_output, _unwritten) = output.into_parts();
     done
 }
 
-// Sends the input to its end, or until the server takes no more, and the closing line.
-fn send_all<I: Read + Drop>(mut input: I, stream: &TcpStream) {
+// Sends the input to its end, or until the server takes no more, and the closing line, after it has set `is_closing`.
+fn send_all<I: Read + Drop>(mut input: I, stream: &TcpStream, is_closing: &AtomicBool) {
     let mut piece = [0; PIECE];
     let mut to = stream;
     let mut last = b'\n';
@@ -87,22 +93,30 @@ fn send_all<I: Read + Drop>(mut input: I, stream: &TcpStream) {
     if last != b'\n' && to.write_all(b"\n").is_err() {
         return;
     }
+    is_closing.store(true, Ordering::SeqCst);
     if to.write_all(CLOSING).is_ok() {
         let _ = stream.shutdown(Shutdown::Write);
     }
 }
 
 impl Answers {
-    fn new() -> Answers {
+    fn new(prompt: Prompt) -> Answers {
         Answers {
             held: Some(0),
             fault: Search::new(FAULT),
             stopped: Search::new(STOPPED),
+            prompt,
         }
     }
 
     // Writes the answers to their end.
-    fn pass_on<O: Write>(&mut self, stream: &TcpStream, output: &mut O) -> Result<(), Failure> {
+    fn pass_on<O: Write>(
+        &mut self,
+        stream: &TcpStream,
+        is_closing: &AtomicBool,
+        output: &mut O,
+    ) -> Result<(), Failure> {
+        self.await_line(output)?;
         let mut piece = [0; PIECE];
         let mut from = stream;
         for _ in 0..u64::MAX {
@@ -115,9 +129,21 @@ impl Answers {
             for byte in &piece[..count] {
                 self.pass(*byte, output)?;
             }
-            output.flush().map_err(|_| Failure::Write)?;
+            // (the closing line isn't sent so far: this is the answer to another)
+            if self.is_closed() && !is_closing.load(Ordering::SeqCst) {
+                self.show_held(output)?;
+            }
+            self.await_line(output)?;
         }
         self.end(output)
+    }
+
+    // Writes what was answered so far and, if that is whole lines, the prompt.
+    fn await_line<O: Write>(&mut self, output: &mut O) -> Result<(), Failure> {
+        if self.held == Some(0) && !self.stopped.was_found {
+            self.prompt.show(output).map_err(|_| Failure::Write)?;
+        }
+        output.flush().map_err(|_| Failure::Write)
     }
 
     // Takes the next byte, and shows what isn't the answer to the closing line.
@@ -163,8 +189,11 @@ impl Answers {
         let is_closed = self.is_closed();
         if !is_closed {
             self.show_held(output)?;
-            output.flush().map_err(|_| Failure::Write)?;
         }
+        if !self.stopped.was_found {
+            self.prompt.end(output).map_err(|_| Failure::Write)?;
+        }
+        output.flush().map_err(|_| Failure::Write)?;
         if self.fault.was_found {
             return Err(Failure::Faulty);
         }

@@ -19,8 +19,8 @@ use std::convert::AsStr;
 pub enum Order {
     /// The help or the version is printed.
     Shown(String),
-    /// A script is run on an array, which is then drawn to a file, if one is named.
-    Run(ArrayOptions, Option<String>),
+    /// A script is run on a new array.
+    Run(ArrayOptions, RunOptions),
     /// A store is created, with an array without units.
     Create(CreateOptions),
     /// The store in this folder is checked.
@@ -31,6 +31,15 @@ pub enum Order {
     Import(StoredUnit),
     /// Hosts are served.
     Serve(ServeOptions),
+}
+
+/// How a script is run.
+#[derive(Drop)]
+pub struct RunOptions {
+    /// The file to which the array is drawn afterwards.
+    pub picture: Option<String>,
+    /// Whether each line is printed before its answer.
+    pub echo: bool,
 }
 
 /// A unit of a store.
@@ -58,6 +67,8 @@ pub struct ArrayOptions {
 pub struct CreateOptions {
     /// The store's folder.
     pub store: String,
+    /// The folder of its second copy, if it has one.
+    pub mirror: Option<String>,
     /// The array's name, empty if it has none.
     pub name: String,
     pub geometry: Geometry,
@@ -77,7 +88,10 @@ pub struct ServeOptions {
     pub store: Option<StoreOptions>,
     /// Whether the start and the end of each session is logged.
     pub log: bool,
-    pub port: u16,
+    /// The array's name, empty if it has none. That of a store has the store's name in place of the one here.
+    pub name: String,
+    /// The port for hosts. `None`: they come over iSCSI alone.
+    pub port: Option<u16>,
     pub sessions: Option<u8>,
     pub operator: Option<OperatorDoor>,
     pub http: Option<u16>,
@@ -89,6 +103,8 @@ pub struct ServeOptions {
     /// Seconds for which a session may be silent.
     pub idle_timeout: Option<u32>,
     pub audit: Audit,
+    /// The spare disks, 0 to 4.
+    pub spares: u8,
     /// The units to create.
     pub units: Vec<UnitOption>,
     /// Their words.
@@ -100,6 +116,8 @@ pub struct ServeOptions {
 pub struct StoreOptions {
     /// The store's folder.
     pub folder: String,
+    /// The folder of its second copy, if it has one.
+    pub mirror: Option<String>,
     pub sync: SyncMode,
     /// Seconds after which a change is synced at the latest, 1 to 3,600.
     pub commit_every: u32,
@@ -156,7 +174,7 @@ fn order_of(alloc: Global, matches: &ArgMatches<'_>) -> Result<Order, UsageFault
     match matches.subcommand() {
         Some(("run", options)) => {
             let array = array_of(alloc, options)?;
-            Ok(Order::Run(array, text_of(alloc, options, "picture")?))
+            Ok(Order::Run(array, run_options_of(alloc, options)?))
         }
         Some(("create", options)) => Ok(Order::Create(create_options_of(alloc, options)?)),
         Some(("check", options)) => Ok(Order::Check(folder_of(alloc, options)?)),
@@ -177,6 +195,12 @@ fn array_of(alloc: Global, options: &ArgMatches<'_>) -> Result<ArrayOptions, Usa
         extents: extents_of(options),
         cache: cache_of(alloc, options)?,
     })
+}
+
+fn run_options_of(alloc: Global, options: &ArgMatches<'_>) -> Result<RunOptions, AllocError> {
+    let picture = text_of(alloc, options, "picture")?;
+    let echo = options.get_flag("echo");
+    Ok(RunOptions { picture, echo })
 }
 
 fn geometry_of(options: &ArgMatches<'_>) -> Geometry {
@@ -250,9 +274,11 @@ fn whole_blocks(sectors: u32, geometry: Geometry) -> Option<u64> {
 
 fn create_options_of(alloc: Global, options: &ArgMatches<'_>) -> Result<CreateOptions, UsageFault> {
     let store = folder_of(alloc, options)?;
+    let mirror = mirror_of(alloc, options)?;
     let name = name_of(alloc, options)?;
     Ok(CreateOptions {
         store,
+        mirror,
         name,
         geometry: geometry_of(options),
         disks: disks_of(options),
@@ -263,6 +289,14 @@ fn create_options_of(alloc: Global, options: &ArgMatches<'_>) -> Result<CreateOp
 // The folder of a store, where it is required.
 fn folder_of(alloc: Global, options: &ArgMatches<'_>) -> Result<String, AllocError> {
     String::from_str(alloc, options.get_str("store").unwrap_or(""))
+}
+
+// The folder of a store's second copy, if one is named.
+fn mirror_of(alloc: Global, options: &ArgMatches<'_>) -> Result<Option<String>, AllocError> {
+    match options.get_str("mirror") {
+        Some(folder) => Ok(Some(String::from_str(alloc, folder)?)),
+        None => Ok(None),
+    }
 }
 
 fn stored_unit_of(alloc: Global, options: &ArgMatches<'_>) -> Result<StoredUnit, UsageFault> {
@@ -310,6 +344,7 @@ fn name_of(alloc: Global, options: &ArgMatches<'_>) -> Result<String, UsageFault
 
 fn serve_options_of(alloc: Global, options: &ArgMatches<'_>) -> Result<ServeOptions, UsageFault> {
     let array = array_of(alloc, options)?;
+    let port = port_of(alloc, options)?;
     let sessions = options.get_one("sessions");
     let operator = operator_of(alloc, options)?;
     if sessions.is_none() && operator.is_none() {
@@ -318,6 +353,7 @@ fn serve_options_of(alloc: Global, options: &ArgMatches<'_>) -> Result<ServeOpti
             "one of --sessions COUNT and --operator PORT|PATH is required",
         ));
     }
+    let name = served_name_of(alloc, options)?;
     let audit = audit_of(alloc, options)?;
     let store = store_of(alloc, options)?;
     let (units, words) = units_of(alloc, options.get_strs("UNIT").unwrap_or(&[]))?;
@@ -325,7 +361,8 @@ fn serve_options_of(alloc: Global, options: &ArgMatches<'_>) -> Result<ServeOpti
         array,
         store,
         log: options.get_flag("log"),
-        port: options.get_one("port").unwrap_or(0),
+        name,
+        port,
         sessions,
         operator,
         http: options.get_one("http"),
@@ -334,9 +371,35 @@ fn serve_options_of(alloc: Global, options: &ArgMatches<'_>) -> Result<ServeOpti
         login_timeout: options.get_one("login-timeout"),
         idle_timeout: options.get_one("idle-timeout"),
         audit,
+        spares: options.get_one("spares").unwrap_or(0),
         units,
         words,
     })
+}
+
+// The name of the array. A store has its own.
+fn served_name_of(alloc: Global, options: &ArgMatches<'_>) -> Result<String, UsageFault> {
+    if is_given(options, "name") && is_given(options, "store") {
+        return Err(bad_value(
+            alloc,
+            "'--name <NAME>' cannot be used with '--store <FOLDER>': a store has its own name",
+        ));
+    }
+    name_of(alloc, options)
+}
+
+// The port for hosts, unless they come over iSCSI alone.
+fn port_of(alloc: Global, options: &ArgMatches<'_>) -> Result<Option<u16>, UsageFault> {
+    let port = options.get_one("port");
+    if port.is_none() {
+        if is_given(options, "sessions") {
+            return Err(bad_value(alloc, "'--sessions <COUNT>' requires '--port <PORT>'"));
+        }
+        if !is_given(options, "iscsi") {
+            return Err(bad_value(alloc, "one of --port PORT and --iscsi PORT is required"));
+        }
+    }
+    Ok(port)
 }
 
 // Where operators connect, if any may.
@@ -385,10 +448,14 @@ fn store_of(alloc: Global, options: &ArgMatches<'_>) -> Result<Option<StoreOptio
     match options.get_str("store") {
         Some(folder) => Ok(Some(StoreOptions {
             folder: String::from_str(alloc, folder)?,
+            mirror: mirror_of(alloc, options)?,
             sync: sync_of(options),
             commit_every: options.get_one("commit-every").unwrap_or(1),
             shape: shape_of(options),
         })),
+        None if is_given(options, "mirror") => {
+            Err(bad_value(alloc, "'--mirror <FOLDER>' requires '--store <FOLDER>'"))
+        }
         None if is_given(options, "sync") => {
             Err(bad_value(alloc, "'--sync <MODE>' requires '--store <FOLDER>'"))
         }

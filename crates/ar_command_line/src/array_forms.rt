@@ -43,30 +43,46 @@ static CACHE: [Form; 1] = [Form(
     "The write cache, 0 to 65536 blocks, or a size as 32M",
 )];
 
-static RUN: [Form; 1] = [Form(
-    "picture",
-    "FILE",
-    Value::Text,
-    Otherwise::Nothing,
-    "Draw the array to this file at the end, as an SVG",
-)];
-
-static CREATE: [Form; 2] = [
+static RUN: [Form; 2] = [
     Form(
-        "store",
-        "FOLDER",
-        Value::Text,
-        Otherwise::Refused,
-        "The folder of the store",
-    ),
-    Form(
-        "name",
-        "NAME",
+        "picture",
+        "FILE",
         Value::Text,
         Otherwise::Nothing,
-        "The array's name, at most 64 bytes; empty if not given",
+        "Draw the array to this file at the end, as an SVG",
+    ),
+    Form(
+        "echo",
+        "ECHO",
+        Value::Flag,
+        Otherwise::Nothing,
+        "Print each line before its answer",
     ),
 ];
+
+static MIRROR: [Form; 1] = [Form(
+    "mirror",
+    "FOLDER",
+    Value::Text,
+    Otherwise::Nothing,
+    "A folder with a second copy of the store",
+)];
+
+static CREATE: [Form; 1] = [Form(
+    "store",
+    "FOLDER",
+    Value::Text,
+    Otherwise::Refused,
+    "The folder of the store",
+)];
+
+static NAME: [Form; 1] = [Form(
+    "name",
+    "NAME",
+    Value::Text,
+    Otherwise::Nothing,
+    "The array's name, at most 64 bytes; empty if not given",
+)];
 
 static CHECK: [Form; 1] = [Form(
     "store",
@@ -98,8 +114,8 @@ static PORTS: [Form; 6] = [
         "port",
         "PORT",
         PORT,
-        Otherwise::Refused,
-        "The port for hosts",
+        Otherwise::Nothing,
+        "The port for hosts; left out, they come over iSCSI alone",
     ),
     Form(
         "sessions",
@@ -138,7 +154,7 @@ static PORTS: [Form; 6] = [
     ),
 ];
 
-static SERVE: [Form; 5] = [
+static SERVE: [Form; 6] = [
     Form(
         "login-timeout",
         "SECONDS",
@@ -159,6 +175,13 @@ static SERVE: [Form; 5] = [
         Value::Name(&["full", "off"]),
         Otherwise::Nothing,
         "full: keep all commands, and compare them at the end; or off",
+    ),
+    Form(
+        "spares",
+        "COUNT",
+        Value::Number(0, 4),
+        Otherwise::Value("0"),
+        "Disks that replace failed ones by themselves, 0 to 4",
     ),
     Form(
         "log",
@@ -225,8 +248,7 @@ static IMPORT_EXAMPLE: &str =
 static SERVE_EXAMPLE: &str =
     "All ports are those of 127.0.0.1; a Unix socket has mode 600. One of --sessions and --operator is\n\
     required, since nothing else ends the service. --audit is full with --sessions, unless --iscsi or\n\
-    --store is given, and off otherwise. The array of a store has the store's own geometry, disks and\n\
-    extents.\n\n\
+    --store is given, and off otherwise. A store has its own name, geometry, disks and extents.\n\n\
     Example:\n  \
     autoraid serve --port 7117 --operator 7118 --http 7119 --geometry paper --extents 40 0:0:32M";
 
@@ -260,6 +282,8 @@ fn create<'a>(alloc: Global) -> Result<Command<'a>, AllocError> {
         .about("Create a store, which keeps an array in a folder")
         .after_help(CREATE_EXAMPLE);
     let command = with_forms(alloc, command, &CREATE)?;
+    let command = with_forms(alloc, command, &NAME)?;
+    let command = with_forms(alloc, command, &MIRROR)?;
     with_forms(alloc, command, &SHAPE)
 }
 
@@ -289,8 +313,10 @@ fn serve<'a>(alloc: Global) -> Result<Command<'a>, AllocError> {
         .about("Serve an array to hosts, operators, initiators and HTTP clients")
         .after_help(SERVE_EXAMPLE);
     let command = with_forms(alloc, command, &PORTS)?;
+    let command = with_forms(alloc, command, &NAME)?;
     let command = with_forms(alloc, command, &SERVE)?;
     let command = with_forms(alloc, command, &STORE)?;
+    let command = with_forms(alloc, command, &MIRROR)?;
     let command = with_forms(alloc, command, &SHAPE)?;
     with_forms(alloc, command, &CACHE)
 }

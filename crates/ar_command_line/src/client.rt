@@ -9,16 +9,16 @@ use clap::{ArgMatches, Command};
 use std::alloc::{AllocError, Global};
 use std::convert::AsStr;
 
-/// Whom the client speaks for, and the door.
+/// Whom the client speaks for, the door, and the seconds for which it tries to connect, 0 to 3,600.
 #[derive(Drop)]
 pub enum Account {
     /// The help or the version is printed.
     Shown(String),
-    Host { host: Host, port: u16 },
-    Operator { door: OperatorDoor },
+    Host { host: Host, port: u16, wait: u32 },
+    Operator { door: OperatorDoor, wait: u32 },
 }
 
-static FORMS: [Form; 3] = [
+static FORMS: [Form; 4] = [
     Form(
         "port",
         "PORT",
@@ -39,6 +39,13 @@ static FORMS: [Form; 3] = [
         Value::OptionalText,
         Otherwise::Nothing,
         "Give orders as an operator, at --port or at this port or Unix socket",
+    ),
+    Form(
+        "wait",
+        "SECONDS",
+        Value::Number(0, 3_600),
+        Otherwise::Value("0"),
+        "Wait this long for a server that starts, 0 to 3600",
     ),
 ];
 
@@ -65,18 +72,20 @@ fn command<'a>(alloc: Global) -> Result<Command<'a>, AllocError> {
 // A host, or else an operator.
 fn account_of(alloc: Global, matches: &ArgMatches<'_>) -> Result<Account, UsageFault> {
     let port = matches.get_one("port");
+    let wait = matches.get_one("wait").unwrap_or(0);
     match (matches.get_one("host"), matches.get_str("operator")) {
-        (Some(number), None) => host_of(alloc, number, port),
+        (Some(number), None) => host_of(alloc, number, port, wait),
         (None, Some(word)) => Ok(Account::Operator {
             door: door_of(alloc, word, port)?,
+            wait,
         }),
         _ => Err(bad_value(alloc, "one of --host HOST and --operator is wanted")),
     }
 }
 
-fn host_of(alloc: Global, number: u8, port: Option<u16>) -> Result<Account, UsageFault> {
+fn host_of(alloc: Global, number: u8, port: Option<u16>, wait: u32) -> Result<Account, UsageFault> {
     match (Host::new(number), port) {
-        (Some(host), Some(port)) => Ok(Account::Host { host, port }),
+        (Some(host), Some(port)) => Ok(Account::Host { host, port, wait }),
         _ => Err(bad_value(alloc, "'--host <HOST>' requires '--port <PORT>'")),
     }
 }

@@ -11,8 +11,8 @@ mod form;
 mod operator;
 
 pub use array::{
-    ArrayOptions, Audit, CreateOptions, Order, ServeOptions, ShapeOptions, StoreOptions,
-    StoredUnit, SyncMode, UnitOption, order_in,
+    ArrayOptions, Audit, CreateOptions, Order, RunOptions, ServeOptions, ShapeOptions,
+    StoreOptions, StoredUnit, SyncMode, UnitOption, order_in,
 };
 pub use client::{Account, account_in};
 pub use fault::UsageFault;
