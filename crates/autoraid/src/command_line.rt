@@ -1,8 +1,9 @@
 // From the options of the command line to what the libraries take.
-use ar_command_line::{ArrayOptions, ServeOptions, UnitOption};
+use ar_command_line::{ArrayOptions, OperatorDoor, ServeOptions, UnitOption};
 use ar_script::Setup;
-use ar_service::{HttpPort, IscsiPort, NewUnit, OperatorListener, Plan};
+use ar_service::{HttpPort, IscsiPort, NewUnit, OperatorListener, OperatorPlace, Plan};
 use ar_sessions::Timeouts;
+use ar_status::ArrayName;
 use std::alloc::{AllocError, Global};
 use std::hash::RandomState;
 
@@ -46,9 +47,11 @@ impl Service {
     ) -> Plan<'a> {
         Plan {
             units: self.units.as_slice(),
+            name: ArrayName::of(self.options.name.as_bytes()),
             port: self.options.port,
             sessions: self.options.sessions,
             operator,
+            operator_place: place_of(&self.options.operator),
             http: http_port(self.options.http, random.keys),
             http_host: name_of(&self.options.http_host),
             iscsi: iscsi_port(self.options.iscsi, setup, random.array),
@@ -57,6 +60,7 @@ impl Service {
                 idle: self.options.idle_timeout,
                 ..Timeouts::NONE
             },
+            spares: self.options.spares,
             system,
         }
     }
@@ -81,6 +85,15 @@ fn new_units(alloc: Global, options: &[UnitOption]) -> Result<Vec<NewUnit>, Allo
         })?;
     }
     Ok(units)
+}
+
+// Where operators connect, as it is printed.
+fn place_of(door: &Option<OperatorDoor>) -> Option<OperatorPlace<'_>> {
+    match door {
+        Some(OperatorDoor::Port(port)) => Some(OperatorPlace::Port(*port)),
+        Some(OperatorDoor::Path(path)) => Some(OperatorPlace::Path(path.as_str())),
+        None => None,
+    }
 }
 
 fn name_of(name: &Option<String>) -> Option<&str> {

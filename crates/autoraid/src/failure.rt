@@ -14,6 +14,9 @@ pub enum Failure {
     Write,
     #[error(transparent)]
     Script(Fault),
+    /// A fault of a script, and what is wrong with its line.
+    #[error("{0}\n{1}")]
+    Line(Fault, String),
     #[error(transparent)]
     Drawing(DrawingFault),
     #[error(transparent)]

@@ -7,7 +7,7 @@ use crate::stored::{FusedSource, StoreCause, StoreFault, compact, fault, setup_i
 use ar_command_line::StoredUnit;
 use ar_core::OutcomeOf;
 use ar_disks::{Addr, Disk, SECTOR_LEN};
-use ar_durable::{CommitPolicy, DurableArray, Store, open_in, replay, restart};
+use ar_durable::{CommitPolicy, DurableArray, Store, StoreFolders, open_in, replay, restart};
 use ar_history::{LiveArray, Seat};
 use ar_media::{Media, RegularFile};
 use ar_operator::{Fuse, FusedDisk, FusedMaker, start_fused};
@@ -113,7 +113,15 @@ pub fn import<R: Clock + Log>(
     let folder = unit.folder.as_str();
     match import_unit(rt, files, alloc, folder, unit.addr) {
         Ok(()) => {
-            compact(rt, files, alloc, folder);
+            compact(
+                rt,
+                files,
+                alloc,
+                StoreFolders {
+                    first: folder,
+                    second: None,
+                },
+            );
             Ok(())
         }
         Err(cause) => Err(fault(alloc, folder, cause)),

@@ -9,6 +9,7 @@ ghost use Rattle.ar_cli.specs.Exit.{status_after};
 ghost use Rattle.autoraid.specs.Failures.{status_of_failure};
 
 mod command_line;
+mod dialogue;
 mod drawing;
 mod failure;
 mod images;
@@ -17,17 +18,22 @@ mod serve;
 mod stored;
 
 use ar_cli::{ExitStatus, end_with, fail, words_of};
-use ar_command_line::{CreateOptions, Order, ServeOptions, StoredUnit, UsageFault, order_in};
+use ar_command_line::{
+    CreateOptions, Order, RunOptions, ServeOptions, StoredUnit, UsageFault, order_in,
+};
+use ar_language::{Fault, Recent, Remembered};
 use ar_logging::{LogThread, TimedConsole};
 use ar_script::{Runner, Setup, run_on, run_script};
 use ar_service::ServiceRuntime;
 use command_line::{RandomNumbers, Service, setup_of};
+use dialogue::{Manner, converse};
 use drawing::draw;
 use failure::Failure;
 use log::{Level, Log, Logged};
 use serve::{ServeFault, run_server};
 use std::alloc::Global;
 use std::hash::RandomState;
+use std::io::{IsTerminal, Read};
 use std::net::{Net, TcpListener, TcpStream};
 use std::process::ExitCode;
 use std::random::RandomSource;
@@ -42,7 +48,7 @@ fn main(rt: HostRuntime) -> ExitCode {
     let alloc = rt.alloc();
     let done = match order(&rt) {
         Ok(Order::Shown(text)) => print!(rt; "{text}").map_err(|_| Failure::Write),
-        Ok(Order::Run(array, file)) => run(&rt, setup_of(array), &file),
+        Ok(Order::Run(array, options)) => run(&rt, setup_of(array), &options),
         Ok(Order::Create(options)) => create(&rt, alloc, &options),
         Ok(Order::Check(folder)) => check(&rt, alloc, folder.as_str()),
         Ok(Order::Export(unit)) => images::export(&rt, alloc, &unit).map_err(Failure::Store),
@@ -167,21 +173,18 @@ fn random_for(rt: &impl RandomSource, service: &Service) -> Result<RandomNumbers
     })
 }
 
-// Runs a script, and draws the array if a file is named.
-fn run(rt: &HostRuntime, setup: Setup, file: &Option<String>) -> Result<(), Failure> {
-    match file {
-        Some(file) => run_and_draw(rt, setup, file.as_str()),
-        None => run_script(rt.alloc(), rt.stdin(), rt.stdout(), setup)
-            .end
-            .map_err(Failure::Script),
+// Runs a script, and draws the array if a file is named. Its fault names what is wrong with its line.
+fn run(rt: &HostRuntime, setup: Setup, options: &RunOptions) -> Result<(), Failure> {
+    let manner = Manner {
+        echoes: options.echo,
+        at_terminal: rt.stdin().is_terminal() && rt.stdout().is_terminal(),
+    };
+    if options.picture.is_none() && !options.echo && !manner.at_terminal {
+        return run_plain(rt, setup);
     }
-}
-
-// Runs a script, and draws the array after it.
-fn run_and_draw(rt: &HostRuntime, setup: Setup, file: &str) -> Result<(), Failure> {
     match Runner::start(rt.alloc(), setup) {
         Ok(mut runner) => {
-            let done = play_and_draw(rt, &mut runner, file);
+            let done = play_and_draw(rt, &mut runner, &options.picture, manner);
             drop(runner);
             done
         }
@@ -189,12 +192,56 @@ fn run_and_draw(rt: &HostRuntime, setup: Setup, file: &str) -> Result<(), Failur
     }
 }
 
-// The array is drawn also if a fault has ended the script; that fault takes precedence over one of drawing.
-fn play_and_draw(rt: &HostRuntime, runner: &mut Runner, file: &str) -> Result<(), Failure> {
-    let ended = run_on(rt.alloc(), runner, rt.stdin(), rt.stdout()).end;
-    let drawn = draw(rt, runner, file);
-    match ended {
-        Ok(()) => drawn.map_err(Failure::Drawing),
-        Err(fault) => Err(Failure::Script(fault)),
+// Runs a script whose answers alone are printed.
+fn run_plain(rt: &HostRuntime, setup: Setup) -> Result<(), Failure> {
+    let mut recent = Recent::new(rt.alloc());
+    let reader = Remembered::new(rt.stdin(), &mut recent);
+    let end = run_script(rt.alloc(), reader, rt.stdout(), setup).end;
+    explained(rt.alloc(), end, &recent)
+}
+
+// Runs a script, and draws the array after it. It is drawn also if a fault has ended the script; that fault takes
+// precedence over one of drawing.
+fn play_and_draw(
+    rt: &HostRuntime,
+    runner: &mut Runner,
+    file: &Option<String>,
+    manner: Manner,
+) -> Result<(), Failure> {
+    let mut recent = Recent::new(rt.alloc());
+    let ended = play(rt, runner, Remembered::new(rt.stdin(), &mut recent), manner);
+    let drawn = match file {
+        Some(file) => draw(rt, runner, file.as_str()),
+        None => Ok(()),
+    };
+    explained(rt.alloc(), ended, &recent)?;
+    drawn.map_err(Failure::Drawing)
+}
+
+// Runs a script on the array of a runner.
+fn play<I: Read + Drop>(
+    rt: &HostRuntime,
+    runner: &mut Runner,
+    input: I,
+    manner: Manner,
+) -> Result<(), Fault> {
+    if manner.echoes || manner.at_terminal {
+        converse(rt.alloc(), runner, input, rt.stdout(), manner)
+    } else {
+        run_on(rt.alloc(), runner, input, rt.stdout()).end
+    }
+}
+
+// How a script ended: a fault of a line together with what is wrong with it.
+fn explained(alloc: Global, ended: Result<(), Fault>, recent: &Recent) -> Result<(), Failure> {
+    let Err(fault) = ended else {
+        return Ok(());
+    };
+    let Some(explanation) = recent.explain(fault) else {
+        return Err(Failure::Script(fault));
+    };
+    match format!(in alloc; "{explanation}") {
+        Ok(text) => Err(Failure::Line(fault, text)),
+        Err(_) => Err(Failure::Script(fault)),
     }
 }

@@ -1,6 +1,7 @@
 // Arrays whose units outlast the program: their stores are created, checked and served.
-ghost use Rattle.std.specs.Prelude.{◌≡◌, IfOk};
+ghost use Rattle.std.specs.Prelude.{◌≡◌, ◌≤◌, IfOk, length};
 ghost use Rattle.ar_media.specs.Regular.{regular_is_clean, regular_seen};
+ghost use Rattle.ar_copies.specs.Copied.{copied_is_clean, copied_seen};
 ghost use Rattle.ar_durable.specs.Durable.{AreRecords};
 
 use crate::command_line::{RandomNumbers, Service};
@@ -10,13 +11,16 @@ use crate::serve::conclude;
 use ar_checkpoint::CheckpointError;
 use ar_command_line::{CreateOptions, ShapeOptions, StoreOptions, SyncMode};
 use ar_compaction::{HeadError, StoreHead};
+use ar_copies::{CopiedFile, Losses};
 use ar_core::{Array, Refusal};
 use ar_disks::{Addr, Disk, Geometry, Host};
 use ar_durable::{
-    CommitPolicy, DiskSource, DurableArray, FolderError, RestartError, Store, checkpoint_in,
-    create_in, open_in, replay, restart,
+    CommitPolicy, CopyFault, DiskSource, DurableArray, FolderError, OpenedStore, RestartError,
+    Store, StoreFolders, checkpoint_in, create_in, has_store, open_copies_in, open_in, replay,
+    restart,
 };
 use ar_history::LiveArray;
+use ar_journal::CopyState;
 use ar_log::LogError;
 use ar_media::{Media, RegularFile};
 use ar_operator::{DiskMaker, Fuse, FusedDisk, FusedMaker, start_fused};
@@ -24,6 +28,7 @@ use ar_script::Setup;
 use ar_service::{
     Closing, OperatorListener, Plan, ServiceFault, ServiceRuntime, TcpStops, serve_lasting,
 };
+use ar_status::ArrayName;
 use log::{Log, warn};
 use std::alloc::Global;
 use std::io::{self, ErrorKind};
@@ -57,6 +62,8 @@ pub enum StoreCause {
     Exists,
     #[error("some of its files are missing")]
     Incomplete,
+    #[error("the store of another array")]
+    OtherArray,
     #[error("its log can't be compacted: {0:?}")]
     Checkpoint(CheckpointError),
     #[error("another program has it open")]
@@ -120,6 +127,7 @@ impl From<FolderError> for StoreCause {
             FolderError::InUse(Some(process)) => StoreCause::InUseBy(process),
             FolderError::Files(kind) => StoreCause::Files(kind),
             FolderError::Contents(error) => StoreCause::from(error),
+            FolderError::OtherArray => StoreCause::OtherArray,
         }
     }
 }
@@ -172,32 +180,61 @@ impl<'a> DiskSource<FusedDisk<'a>> for FusedSource<'a> {
     }
 }
 
-/// Creates a store with an array without units, and says so.
+/// Creates a store with an array without units, in one folder or two, and says so.
 pub fn create(rt: &HostRuntime, alloc: Global, options: &CreateOptions) -> Result<(), StoreFault> {
     let folder = options.store.as_str();
-    create_store(rt, alloc, options).map_err(|cause| fault(alloc, folder, cause))
+    let head = new_head(rt, alloc, options).map_err(|cause| fault(alloc, folder, cause))?;
+    let Some(mirror) = &options.mirror else {
+        create_copy(rt, alloc, folder, &head)?;
+        return tell(alloc, folder, println!(rt; "created {folder}"));
+    };
+    let mirror = mirror.as_str();
+    // Nothing is created where there is a store already.
+    if has_store(rt, alloc, mirror).map_err(|error| fault(alloc, mirror, error.into()))? {
+        return Err(fault(alloc, mirror, StoreCause::Exists));
+    }
+    create_copy(rt, alloc, folder, &head)?;
+    create_copy(rt, alloc, mirror, &head)?;
+    tell(alloc, folder, println!(rt; "created {folder} and {mirror}"))
 }
 
-fn create_store(
+// The head of a new store.
+fn new_head(
     rt: &HostRuntime,
     alloc: Global,
     options: &CreateOptions,
-) -> Result<(), StoreCause> {
+) -> Result<StoreHead, StoreCause>
+    ensures { IfOk result (λ head. length head.name.items ≤ 64) }
+{
     let mut identity = [0; 16];
     rt.fill_bytes(&mut identity)
         .map_err(|_| StoreCause::Random)?;
     let name = Vec::from_slice(alloc, options.name.as_bytes()).map_err(|_| StoreCause::NoMemory)?;
-    let head = StoreHead {
+    Ok(StoreHead {
         generation: 1,
         identity,
         geometry: options.geometry,
         disks: options.disks,
         extents: options.extents,
         name,
-    };
-    let folder = options.store.as_str();
-    create_in(rt, alloc, folder, &head)?;
-    println!(rt; "created {folder}").map_err(|_| StoreCause::Write)
+    })
+}
+
+// Creates a copy of a new store.
+fn create_copy(
+    rt: &HostRuntime,
+    alloc: Global,
+    folder: &str,
+    head: &StoreHead,
+) -> Result<(), StoreFault>
+    requires { length head.now.name.items ≤ 64 }
+{
+    create_in(rt, alloc, folder, head).map_err(|error| fault(alloc, folder, error.into()))
+}
+
+// The fault of a store of which the result can't be printed.
+fn tell(alloc: Global, folder: &str, printed: io::Result<()>) -> Result<(), StoreFault> {
+    printed.map_err(|_| fault(alloc, folder, StoreCause::Write))
 }
 
 /// Reads all of the store in a folder and executes its records on an array in memory, and prints what it holds. Nothing
@@ -271,42 +308,82 @@ pub fn serve<R: ServiceRuntime + Sync>(
     options: &StoreOptions,
     random: RandomNumbers,
 ) -> Result<(), Failure> {
-    let folder = options.folder.as_str();
     let fuses = Fuse::twelve();
+    let losses = Losses::new();
     let stop = AtomicBool::new(false);
-    let (head, live, store) = match take_up(rt, files, alloc, service, options, &fuses) {
-        Ok(taken) => taken,
-        Err(cause) => return Err(Failure::Store(fault(alloc, folder, cause))),
-    };
+    let (stops, served) = serve_by(
+        rt,
+        files,
+        (service, options, random),
+        &fuses,
+        &losses,
+        &stop,
+    )?;
+    conclude(rt, alloc, service, stops, served).map_err(Failure::Serve)
+}
+
+// The same, with what lasts as long as the service.
+fn serve_by<'s, R: ServiceRuntime + Sync>(
+    rt: &'s R,
+    files: &HostRuntime,
+    asked: (&'s Service, &'s StoreOptions, RandomNumbers),
+    fuses: &'s [Fuse; 12],
+    losses: &'s Losses,
+    stop: &'s AtomicBool,
+) -> Result<(TcpStops<'s, R>, Result<Closing, ServiceFault>), Failure> {
+    let alloc = files.alloc();
+    let (service, options, random) = asked;
+    let (head, live, store) = take_up(rt, files, alloc, service, options, fuses, losses).map_err(
+        Failure::Store,
+    )?;
     let OperatorsEntry { listener, file } = OperatorsEntry::open(
         files,
         alloc,
         &service.options.operator,
     ).map_err(Failure::Serve)?;
     let plan = plan_of(service, &head, options, random, listener);
-    let policy = policy_of(options);
-    let (stops, served) = serve_taken_up::<FusedDisk<'_>, Brand, FusedMaker<'_>, R, RegularFile>(
+    let (stops, served) = serve_taken_up::<FusedDisk<'s>, Brand, FusedMaker<'s>, R, StoreFile<'s>>(
         rt,
         alloc,
         Blank::new(4),
         (live, head, store),
-        policy,
-        (&fuses, FusedMaker::new(&fuses)),
-        &stop,
+        policy_of(options),
+        (fuses, FusedMaker::new(fuses)),
+        stop,
         plan,
     );
     remove_file(files, file);
     if served.is_ok() {
-        compact(rt, files, alloc, folder);
+        compact(rt, files, alloc, folders_of(options));
     }
-    conclude(rt, alloc, service, stops, served).map_err(Failure::Serve)
+    Ok((stops, served))
 }
 
 /// Replaces the log of a store by a compaction. Where that fails, the log stays as it is.
-pub fn compact<R: Log>(rt: &R, files: &HostRuntime, alloc: Global, folder: &str) {
-    if let Err(error) = checkpoint_in(files, alloc, folder) {
-        let cause = StoreCause::from(error);
+pub fn compact<R: Log>(rt: &R, files: &HostRuntime, alloc: Global, folders: StoreFolders<'_>) {
+    if let Err(fault) = checkpoint_in(files, alloc, folders) {
+        let folder = folder_in(folders, fault.is_second);
+        let cause = StoreCause::from(fault.error);
         warn!(rt; "store {folder}: {cause}");
+    }
+}
+
+// The folders of a store that is served.
+fn folders_of(options: &StoreOptions) -> StoreFolders<'_> {
+    StoreFolders {
+        first: options.folder.as_str(),
+        second: match &options.mirror {
+            Some(mirror) => Some(mirror.as_str()),
+            None => None,
+        },
+    }
+}
+
+// The folder of a copy.
+fn folder_in<'a>(folders: StoreFolders<'a>, is_second: bool) -> &'a str {
+    match folders.second {
+        Some(second) if is_second => second,
+        _ => folders.first,
     }
 }
 
@@ -349,8 +426,11 @@ fn serve_taken_up<
     )
 }
 
+// A file of a store.
+type StoreFile<'a> = CopiedFile<'a, RegularFile>;
+
 // What is taken up: the head of the store, the array, and the store that goes on.
-type TakenUp<'a> = (StoreHead, LiveArray<FusedDisk<'a>>, Store<RegularFile>);
+type TakenUp<'a> = (StoreHead, LiveArray<FusedDisk<'a>>, Store<StoreFile<'a>>);
 
 // Opens a store, and executes its records on a new array.
 fn take_up<'a, R: ServiceRuntime>(
@@ -360,11 +440,62 @@ fn take_up<'a, R: ServiceRuntime>(
     service: &Service,
     options: &StoreOptions,
     fuses: &'a [Fuse; 12],
-) -> Result<TakenUp<'a>, StoreCause>
-    ensures { IfOk result (λ taken. AreRecords regular_seen regular_is_clean taken.2 taken.1.history) }
+    losses: &'a Losses,
+) -> Result<TakenUp<'a>, StoreFault>
+    ensures { IfOk result (λ taken. AreRecords (copied_seen regular_seen)
+        (copied_is_clean regular_seen regular_is_clean) taken.2 taken.1.history) }
 {
     let began = Instant::now(rt).ok();
-    let (head, reader) = open_in(files, alloc, options.folder.as_str())?;
+    let folders = folders_of(options);
+    let opened = match open_copies_in(files, alloc, folders, losses) {
+        Ok(opened) => opened,
+        Err(CopyFault { is_second, error }) => {
+            return Err(fault(alloc, folder_in(folders, is_second), error.into()));
+        }
+    };
+    if let Some(second) = folders.second {
+        tell_copy(rt, folders.first, opened.first);
+        tell_copy(rt, second, opened.second);
+    }
+    restart_array(rt, alloc, service, options, fuses, opened, began).map_err(|cause| fault(
+        alloc,
+        folders.first,
+        cause,
+    ))
+}
+
+// Logs what the start made of a copy.
+fn tell_copy<R: Log>(rt: &R, folder: &str, state: CopyState) {
+    match state {
+        CopyState::Taken | CopyState::Extended => {}
+        CopyState::Rewritten => {
+            warn!(rt; "store {folder}: made anew from the other copy, which it differed from");
+        }
+        CopyState::Restored(error) => {
+            let cause = cause_of(error);
+            warn!(rt; "store {folder}: made anew from the other copy: {cause}");
+        }
+        CopyState::GivenUp(error) => {
+            let cause = cause_of(error);
+            warn!(rt; "store {folder}: the copy is given up: {cause}");
+        }
+    }
+}
+
+// Executes the records of a store on a new array, and says so.
+fn restart_array<'a, R: ServiceRuntime>(
+    rt: &R,
+    alloc: Global,
+    service: &Service,
+    options: &StoreOptions,
+    fuses: &'a [Fuse; 12],
+    opened: OpenedStore<'a>,
+    began: Option<Instant>,
+) -> Result<TakenUp<'a>, StoreCause>
+    ensures { IfOk result (λ taken. AreRecords (copied_seen regular_seen)
+        (copied_is_clean regular_seen regular_is_clean) taken.2 taken.1.history) }
+{
+    let OpenedStore { head, reader, .. } = opened;
     check_shape(&head, options.shape)?;
     let setup = setup_in(&head, service.options.array.cache);
     let array = start_fused(alloc, setup, fuses).map_err(|_| StoreCause::Start)?;
@@ -427,6 +558,7 @@ fn plan_of<'s>(
     };
     let setup = setup_in(head, service.options.array.cache);
     let mut plan = service.plan(setup, random, operator, None);
+    plan.name = ArrayName::of(&head.name);
     if let Some(iscsi) = &mut plan.iscsi {
         iscsi.write_back = options.sync == SyncMode::Flush;
     }
