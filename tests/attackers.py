@@ -376,7 +376,7 @@ class Attackers:
         operator, begun = Operator(self.server.operator_port), time.monotonic()
         try:
             while time.monotonic() - begun < HOLDS and not self.is_over.is_set():
-                operator.asks(drawn.choice(["picture", "groups", "levels 0 0", "counts", "sessions"]))
+                operator.asks(drawn.choice(["picture", "groups", "levels 0 0", "counts", "sessions", "usage", "disks"]))
         finally:
             operator.close()
         self.is_over.wait(HOLDS)

@@ -482,33 +482,45 @@ def get(port, path, method="GET"):
 
 
 class Server(Running):
-    """`autoraid serve` with these words, at free ports: that of hosts, and by name those of `doors`, which may also
-    have them, or the path of a Unix socket: {"operator": path}.
+    """`autoraid serve` with these words, at free ports: that of hosts, if they come by `frames`, and by name those of
+    `doors`, which may also have them, or the path of a Unix socket: {"operator": path}.
 
     It compares transcripts with the history, unless `audit` is "off". With None the option is left out: `ending` is
     then the last line of the report that is wanted. A start takes up to `patience` seconds.
     """
 
     DOORS = {"operator": "--operator", "http": "--http", "iscsi": "--iscsi"}
+    # The doors beside the hosts', as a start names them in this order.
+    NAMES = {"iscsi": "iSCSI", "http": "HTTP", "operator": "operators"}
     # None: the built program.
     PROGRAM = None
 
-    def __init__(self, *words, doors=("operator",), audit="full", ending=None, before=(), patience=PATIENCE, **how):
+    def __init__(
+        self, *words, doors=("operator",), audit="full", ending=None, before=(), patience=PATIENCE, frames=True, **how
+    ):
         self.ending = ending or ("closed ok" if audit == "full" else "closed")
-        self.port = free_port()
+        self.port = free_port() if frames else None
         self.doors = doors if isinstance(doors, dict) else {door: free_port() for door in doors}
         options = [word for door in doors for word in (self.DOORS[door], self.doors[door])]
         options += ["--audit", audit] if audit else []
-        line = [self.PROGRAM or program("autoraid"), "serve", "--port", self.port, *options]
+        options += ["--port", self.port] if frames else []
+        line = [self.PROGRAM or program("autoraid"), "serve", *options]
         super().__init__(*before, *line, *words, **how)
         # What a start from a store says that it has done.
         self.recovered = ""
-        first = self.line(patience) if how.get("stdout") is None else f"listening {self.port}\n"
+        if how.get("stdout") is None:
+            self.begins(patience)
+
+    def begins(self, patience=PATIENCE):
+        """Reads the lines by which it says that it listens."""
+        first = self.line(patience)
         if first.startswith("recovered "):
             self.recovered, first = first, self.line()
-        if first != f"listening {self.port}\n":
+        wanted = [f"{self.NAMES[door]} on {self.doors[door]}\n" for door in self.NAMES if door in self.doors]
+        said = [first, *(self.line() for _ in wanted if first)]
+        if said != [f"listening {self.port}\n" if self.port else "listening\n", *wanted]:
             self.kill()
-            raise ConnectionError(f"the server began with {first!r} and {self.ended()}")
+            raise ConnectionError(f"the server began with {said!r} and {self.ended()}")
 
     operator_port = property(lambda self: self.doors["operator"])
     http_port = property(lambda self: self.doors["http"])

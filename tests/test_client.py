@@ -1,5 +1,8 @@
 """The program ar_client: what it prints, and its status, where nobody listens or the server goes."""
+import os
 import socket
+import tempfile
+import time
 
 from tests.harness import Case, Ended, connected, exactly, free_port, program, ran, rest_of
 
@@ -28,6 +31,28 @@ class Client(Case):
     def test_nobody_listens(self):
         said = ran(program("ar_client"), "--port", free_port(), "--host", "0")
         self.wants(said, Ended(1, "", "connect fault\n"), "a client without a server")
+
+    def test_nobody_listens_for_long(self):
+        """A client that waits a second gives up then, and not before."""
+        for door in ["--port", free_port(), "--host", "0"], ["--operator", "./no-socket"]:
+            begun = time.monotonic()
+            said = ran(program("ar_client"), *door, "--wait", "1")
+            took = time.monotonic() - begun
+            self.wants(said, Ended(1, "", "connect fault: no server within 1 s\n"), f"a client at {door}")
+            self.holds(0.9 < took < 20, "about a second", took)
+
+    def test_a_server_that_comes_later(self):
+        """A client that waits is answered by a server that begins after it."""
+        with tempfile.TemporaryDirectory() as room:
+            door = os.path.join(room, "operators")
+            client = self.starts(program("ar_client"), "--operator", door, "--wait", "60", stdin=-1)
+            client.process.stdin.write("health\n")
+            client.process.stdin.close()
+            time.sleep(0.5)
+            self.holds(client.is_running(), "a client that waits", client.is_running())
+            server = self.serve("0:0:8", doors={"operator": door})
+            self.wants(client.ended(), Ended(0, "whole\n", ""), "a client that came before its server")
+            self.stops(server, [0, 0, 0, 0])
 
     def server_goes(self, answer, wanted):
         """A client whose server closes the connection in place of its next answer."""

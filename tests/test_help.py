@@ -12,8 +12,8 @@ COLUMNS = 100
 SHAPE = {"--geometry": "small paper default: small", "--disks": "4 12 default: 4", "--extents": "1024 default: 4"}
 CACHE = {"--cache": "65536 32M default: 0"}
 SUBCOMMANDS = {
-    "run": (24, {"--picture": "SVG", **SHAPE, **CACHE}),
-    "create": (24, {"--store": "FOLDER", "--name": "64", **SHAPE}),
+    "run": (24, {"--picture": "SVG", "--echo": "line answer", **SHAPE, **CACHE}),
+    "create": (24, {"--store": "FOLDER", "--mirror": "FOLDER", "--name": "64", **SHAPE}),
     "check": (24, {"--store": "FOLDER"}),
     "export": (24, {"--store": "FOLDER"}),
     "import": (24, {"--store": "FOLDER"}),
@@ -29,8 +29,10 @@ SUBCOMMANDS = {
             "--login-timeout": "SECONDS default: 10",
             "--idle-timeout": "SECONDS",
             "--audit": "full off",
+            "--spares": "4 default: 0",
             "--log": "standard error",
             "--store": "FOLDER",
+            "--mirror": "FOLDER",
             "--sync": "flush always default: flush",
             "--commit-every": "SECONDS 3600 default: 1",
             **SHAPE,
@@ -60,7 +62,10 @@ WRONG = {
         "run --geometry paper --cache 32K": "32K --cache whole",
         "run --geometry small --cache 65M": "65M --cache 65536",
         "run --port 7117": "--port",
-        "serve": "--port",
+        "serve": "--port --iscsi required",
+        "serve --sessions 1": "--sessions --port",
+        "serve --iscsi 3260": "--sessions --operator",
+        "serve --iscsi 3260 --sessions 1": "--sessions --port",
         "serve --port 7117": "--sessions --operator",
         "serve --port 0 --sessions 1": "0 --port 65535",
         "serve --port 7117 --sessions 65": "65 --sessions 64",
@@ -69,8 +74,11 @@ WRONG = {
         f"{SERVE} --login-timeout 86401": "86401 --login-timeout 86400",
         f"{SERVE} --audit none": "none --audit full off",
         f"{SERVE} --http-host array.example": "--http-host --http PORT",
+        f"{SERVE} --name {65 * 'n'}": "--name 64",
+        f"{SERVE} --mirror folder": "--mirror --store FOLDER",
         f"{SERVE} --sync always": "--sync --store FOLDER",
         f"{SERVE} --commit-every 5": "--commit-every --store FOLDER",
+        f"{STORED} --name other": "--name --store",
         f"{STORED} --sync never": "never --sync flush always",
         f"{STORED} --commit-every 0": "0 --commit-every 3600",
         f"{STORED} --commit-every 3601": "3601 --commit-every 3600",
@@ -97,6 +105,7 @@ WRONG = {
         "--operator 65536": "65536 --operator 65535",
         "--port 7117 --operator 7118": "--operator --port",
         "--port 7117 --host 0 more": "more",
+        "--port 7117 --host 0 --wait 3601": "3601 --wait 3600",
     },
 }
 # Words that name no unit.
@@ -122,7 +131,7 @@ class Help(Case):
 
     def test_programs(self):
         """Without a word a program shows its help, as `--help` and `-h` do."""
-        for name, words in ("autoraid", SUBCOMMANDS), ("ar_client", ("--port", "--host", "--operator")):
+        for name, words in ("autoraid", SUBCOMMANDS), ("ar_client", ("--port", "--host", "--operator", "--wait")):
             text = self.shown(name)
             self.wants(self.shown(name, "--help"), text, f"{name} --help")
             self.wants(self.shown(name, "-h"), text, f"{name} -h")

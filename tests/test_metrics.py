@@ -6,11 +6,13 @@ They are checked by promtool (Debian's prometheus) where that is installed, and 
 import re
 import shutil
 
-from tests.harness import Case, program, ran, waited
+from tests.harness import TARGET, TEST_UNIT_READY, Case, Initiator, program, ran, read_10, rest_of, waited, write_10
 
 # A line of the metrics: a comment, or a sample.
-LABELS = r'(\{[a-z_]+="[a-z0-9_]+"(,[a-z_]+="[a-z0-9_]+")*\})?'
-SAMPLE = re.compile(rf"# (HELP|TYPE) autoraid_[a-z_]+ .+|autoraid_[a-z_]+{LABELS} \d+")
+LABELS = r'(\{[a-z_]+="[A-Za-z0-9_.+]+"(,[a-z_]+="[A-Za-z0-9_.+]+")*\})?'
+SAMPLE = re.compile(rf"# (HELP|TYPE) autoraid_[a-z_]+ .+|autoraid_[a-z_]+{LABELS} \d+(\.\d+)?")
+# The bounds of the buckets of a histogram, in seconds.
+BOUNDS = [0.00005, 0.0001, 0.00025, 0.0005, 0.001, 0.0025, 0.01, 0.05, 0.25, 1.0, 10.0]
 WRITE, READ = "write 0 0 0 {0} AA\n", "read 0 0 0 {0}\n"
 
 
@@ -90,6 +92,137 @@ class Metrics(Case):
         status = server.status_json()
         self.wants([*status["counters"].values(), status["cached_blocks"]], said, "the same as JSON")
         self.stops(server, [100, 0, 0, 0])
+
+    def test_version(self):
+        """The version of the program, which `--version` prints."""
+        server, version = self.watched("0:0:8"), ran(program("autoraid"), "--version").out.split()[-1]
+        said = server.sample(f'autoraid_build_info{{version="{version}"}}'), server.status_json()["version"]
+        self.wants(said, ("1", version), "the version in metrics and as JSON")
+        self.has_form(server.get("/metrics")[2])
+        self.stops(server)
+
+    def units(self, server):
+        """The bytes of each unit in metrics, and its sectors as JSON."""
+        sample = re.compile(r'^autoraid_unit_bytes{host="(\d)",lun="(\d)"} (\d+)$', re.MULTILINE)
+        found = sample.findall(server.get("/metrics")[2])
+        listed = enumerate(server.status_json()["unit_sectors"])
+        sectors = {(host, lun): unit for host, units in listed for lun, unit in enumerate(units) if unit is not None}
+        return {(int(host), int(lun)): int(size) for host, lun, size in found}, sectors
+
+    def test_units(self):
+        """Units are made, grown and dropped; a sector has 512 bytes."""
+        server = self.watched("--extents", "16", "0:0:24", "1:7:8")
+        self.wants(self.units(server), ({(0, 0): 12288, (1, 7): 4096}, {(0, 0): 24, (1, 7): 8}), "two units")
+        server.answers_to("grow 0 0 26\ndrop 1 7\nmake 3 1 2\n")
+        self.wants(self.units(server), ({(0, 0): 13312, (3, 1): 1024}, {(0, 0): 26, (3, 1): 2}), "once changed")
+        said = server.sample("autoraid_disk_bytes")
+        self.wants(said, str(16 * 2 * 1024), "the bytes of a disk: its extents, of two blocks of 1 KiB each")
+        self.stops(server)
+
+    def disks(self, server):
+        """The accesses and the errors of each disk, in metrics and as JSON."""
+        text, listed, names = server.get("/metrics")[2], server.status_json()["disk_counters"], ("accesses", "errors")
+        found = [re.findall(rf'^autoraid_disk_{name}_total{{disk="\d"}} (\d+)$', text, re.MULTILINE) for name in names]
+        counts = [[int(value) for value in values] for values in found]
+        return counts, [[disk[name] for disk in listed] for name in names]
+
+    def counted(self, server):
+        """The same, once maintenance has come to rest."""
+        said = waited(lambda: len(set(map(str, self.disks(server)))), 1)
+        self.wants(said, 1, "how many differ, of the counts in metrics and as JSON")
+        return self.disks(server)[0]
+
+    def test_disks(self):
+        """Disks that nobody accesses, then a write to mirrored blocks, then a disk whose next access fails."""
+        server = self.watched("0:0:24")
+        self.wants(self.counted(server), [[0] * 4] * 2, "disks that are new")
+        server.client(0, WRITE.format(24))
+        said = self.counted(server)
+        self.holds(sum(said[0]) >= 24 and said[1] == [0] * 4, "12 blocks are written twice at least", said)
+        server.answers_to("fail 2 0\n")
+        server.client(0, WRITE.format(24))
+        errors = self.counted(server)[1]
+        self.holds(errors[2] >= 1 and errors[:2] + errors[3:] == [0] * 3, "errors of disk 2 alone", errors)
+        self.stops(server, [2, 0, 0, 0], error=None)
+
+    def test_refused_logins(self):
+        """An initiator asks for a target that there isn't, and a fifth operator comes."""
+        server = self.serve("0:0:8", doors=("operator", "http", "iscsi"))
+        self.wants(server.status_json()["refused_logins"], {"iscsi": 0, "operators": 0}, "before any login")
+        said = self.kept(Initiator(server.iscsi_port)).log_in("InitiatorName=iqn.x", f"TargetName={TARGET}9")
+        self.holds(said.login_status != b"\0\0", "a login at an unknown target is refused", said)
+        iscsi, operators = (f'autoraid_refused_logins_total{{door="{door}"}}' for door in ("iscsi", "operators"))
+        self.wants(waited(lambda: server.sample(iscsi), "1"), "1", "refused logins over iSCSI")
+        held = [self.kept(server.operator()) for _ in range(4)]
+        said = [operator.answer_to(b"health\n") for operator in held]
+        self.wants(said, ["whole\n"] * 4, "four operators")
+        said = rest_of(self.kept(server.operator()).link)
+        self.wants((said, server.sample(operators)), (b"fault: too many operators\n", "1"), "a fifth operator")
+        self.wants(server.status_json()["refused_logins"], {"iscsi": 1, "operators": 1}, "the same as JSON")
+        self.wants(held[0].answer_to(b"stop\n"), "stopped\n", "stop")
+        self.ends(server, error=None)
+
+    def test_samples(self):
+        """What hosts did lately, by spells of five seconds: one in which a host worked, then one in which none did."""
+        server = self.serve("0:0:8", doors=("operator", "http", "iscsi"))
+        self.wants(server.status_json()["samples"], [], "before any spell has ended")
+        host = self.kept(server.initiator(0))
+        self.wants(host.asks(TEST_UNIT_READY)[1].status, 2, "the first command")
+        for _ in range(3):
+            self.wants(host.asks(read_10(0, 2), flags=0xC1, expected=1024)[1].status, 0, "a READ")
+        self.wants(waited(lambda: len(server.status_json()["samples"]), 2), 2, "samples after ten seconds")
+        status = server.status_json()
+        last, first = status["samples"]
+        spells = first["spell"], last["spell"], last["seconds"] - first["seconds"]
+        self.holds(min(spells) >= 5 and max(spells) < 9, "spells of five seconds", status["samples"])
+        counted = status["hosts"][0]
+        self.holds(counted["read_bytes"] >= 3 * 1024, "the bytes of three READs", counted)
+        wanted = counted["commands"], counted["read_bytes"]
+        self.wants((first["commands"] + last["commands"], first["bytes"]), wanted, "what a host did")
+        self.wants((last["commands"], last["bytes"], last["slowest"]), (0, 0, None), "what no host did")
+        self.holds(first["slowest"] in range(12), "the bucket of the slowest command", first)
+        self.stops(server, error=None)
+
+    def latencies(self, server):
+        """The commands of each operation by their histogram, and whether they took time."""
+        text, found = server.get("/metrics")[2], {}
+        for operation in "read", "write", "synchronize_cache", "other":
+            name, labels = "^autoraid_command_seconds", f'{{operation="{operation}"'
+            buckets = re.findall(rf'{name}_bucket{labels},le="([^"]+)"}} (\d+)$', text, re.MULTILINE)
+            total = re.search(rf"{name}_sum{labels}}} ([\d.]+)$", text, re.MULTILINE)[1]
+            count = re.search(rf"{name}_count{labels}}} (\d+)$", text, re.MULTILINE)[1]
+            values = [int(value) for _, value in buckets]
+            is_whole = values == sorted(values) and values[-1] == int(count) and buckets[-1][0] == "+Inf"
+            self.holds(is_whole, "buckets that grow, up to +Inf, which has all", buckets)
+            self.wants([float(bound) for bound, _ in buckets[:-1]], BOUNDS, "the bounds in seconds")
+            found[operation] = int(count), float(total) > 0
+        return found
+
+    def test_latencies(self):
+        """Three READs, two WRITEs, a SYNCHRONIZE CACHE and a TEST UNIT READY over iSCSI."""
+        server = self.serve("0:0:8", doors=("operator", "http", "iscsi"))
+        wanted = {name: (0, False) for name in ("read", "write", "synchronize_cache", "other")}
+        self.wants(self.latencies(server), wanted, "before any command")
+        host = self.kept(server.initiator(0))
+        # (the first command of a session has UNIT ATTENTION, whether it comes to the array or not)
+        self.wants(host.asks(TEST_UNIT_READY)[1].status, 2, "the first command")
+        early = self.latencies(server)["other"][0]
+        for _ in range(3):
+            self.wants(host.asks(read_10(0, 2), flags=0xC1, expected=1024)[1].status, 0, "a READ")
+        for _ in range(2):
+            self.wants(host.asks(write_10(0, 1), flags=0xA1, expected=512, data=bytes(512))[1].status, 0, "a WRITE")
+        self.wants(host.asks(b"\x35")[1].status, 0, "SYNCHRONIZE CACHE")
+        self.wants(host.asks(TEST_UNIT_READY)[1].status, 0, "TEST UNIT READY")
+        counts = {name: count for name, (count, _) in self.latencies(server).items()}
+        # (the target asks the array by commands of its own, too)
+        self.holds(counts["other"] > early, "TEST UNIT READY was timed", counts)
+        wanted = {"read": 3, "write": 2, "synchronize_cache": 1, "other": counts["other"]}
+        self.wants(counts, wanted, "commands that were timed")
+        said = server.status_json()
+        listed = {name: sum(times["buckets"]) for name, times in said["latencies"].items()}
+        self.wants((listed, [micros / 1e6 for micros in said["latency_bounds_micros"]]), (wanted, BOUNDS), "as JSON")
+        self.has_form(server.get("/metrics")[2])
+        self.stops(server)
 
     def test_looks_beside_a_host(self):
         """An array's own metrics are not commands of hosts."""

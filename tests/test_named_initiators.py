@@ -3,7 +3,7 @@ place of another session (RFC 7143, 6.3.5)."""
 import re
 import time
 
-from tests.harness import ACCEPTED, TARGET, Case, Initiator, read_10, rest_of, untimed, write_10
+from tests.harness import ACCEPTED, TARGET, TEST_UNIT_READY, Case, Initiator, read_10, rest_of, untimed, write_10
 
 NAME, OTHER = "iqn.1993-08.org.debian:01:abc", "iqn.2026-11.example:other"
 ISID, ANOTHER = 0x400001370000, 0x400001370001
@@ -213,3 +213,19 @@ class Reinstatement(NamedCase):
         first, normal, second = self.logs_in(None), self.logs_in(0), self.logs_in(None)
         for initiator in first, normal, second:
             self.stays(initiator, "sessions for discovery beside one with a target")
+
+
+class Alone(Case):
+    """An array that hosts reach over iSCSI alone."""
+
+    def test_without_a_port(self):
+        server = self.serve("0:0:8", doors=("operator", "iscsi"), audit="off", frames=False)
+        host = self.kept(server.initiator(0))
+        self.wants(host.asks(TEST_UNIT_READY)[1].status, 2, "the first command")
+        said = host.asks(write_10(LBA, 1), flags=0xA1, expected=512, data=SECTOR)[1].status
+        self.wants(said, 0, "a WRITE")
+        data, said = host.asks(read_10(LBA, 1), flags=0xC1, expected=512)
+        self.wants((data, said.status), (SECTOR, 0), "a READ of what was written")
+        begun = time.monotonic()
+        self.stops(server)
+        self.holds(time.monotonic() - begun < 3, "an end within three seconds", time.monotonic() - begun)

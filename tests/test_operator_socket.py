@@ -188,7 +188,7 @@ class Clients(Sockets):
     def test_a_relative_path(self):
         words = "serve", "--port", free_port(), "--operator", "operators", "--audit", "full"
         server = self.starts(program("autoraid"), *words, cwd=self.folder)
-        self.holds(server.line().startswith("listening"), "a server at a path of its folder", server)
+        self.wants([server.line(), server.line()], [f"listening {words[2]}\n", "operators on operators\n"], "the start")
         said = ran(program("ar_client"), "--operator", "operators", text="stop\n", cwd=self.folder)
         self.wants(said, Ended(0, "stopped\n", ""), "a stop")
         self.wants(server.ended(), Ended(0, REPORT, ""), "the server")
@@ -210,7 +210,7 @@ class Signals(Sockets):
     def test_terminated(self):
         """TERM to the start script is an operator's stop at the socket."""
         server = self.kept_server(Started("0:0:8", path=self.path))
-        self.wants(server.line(), f"listening {server.port}\n", "the start")
+        server.begins()
         self.wants(self.kept(server.log_in(0)).is_ready(), True, "TEST UNIT READY")
         os.kill(server.pid, signal.SIGTERM)
         self.ends(server, [1, 0, 0, 0])

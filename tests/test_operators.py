@@ -2,7 +2,7 @@
 import random
 import time
 
-from tests.harness import Case, Reply, answered, rest_of
+from tests.harness import Case, Reply, answered, program, ran, rest_of
 
 # The operator's words, as `help` shows them.
 WORDS = """make H L SECTORS
@@ -25,8 +25,12 @@ groups
 room
 health
 picture
+usage
+units
+disks
 sessions
 counts
+version
 help
 stop""".split("\n")
 
@@ -65,13 +69,17 @@ FAULTY = {
 }
 FAULTY["not an operator's word"] += ["unmap"]
 FAULTY["bad argument"] += ["fail", "fail 0", "fail 0 x", "fail 256 1", "fail 0 off off", "fail 0 12345678901"]
-FAULTY["bad argument"] += ["fail 0 1 1 1 1 1 1 1 1"]
+FAULTY["bad argument"] += ["fail 0 1 1 1 1 1 1 1 1", "usage 0", "units 0 0", "disks 0", "version 1"]
 
 # Units and views of an array of four disks of four extents, in order, by the tables of scripts' lines and answers.
 UNITS = [
     ("room", "room 18"),
     ("make 0 0 4", "ok"),
     ("room", "room 16"),
+    # (in sectors, of which a block has two)
+    ("usage", "room 32 sectors\nmirrored 0 sectors\nparity 0 sectors\nunwritten 4 sectors\nspares 0"),
+    ("units", "unit 0 0 sectors 4 blocks 2 written 0"),
+    ("disks", "\n".join(f"disk {disk} extents 0 of 4 accesses 0 errors 0 in use" for disk in range(4))),
     ("make 0 0 4", "refused M1 Exists"),
     ("make 0 8 4", "refused M7 BadLun"),
     ("make 1 0 0", "refused M2 Size"),
@@ -256,6 +264,49 @@ class Operators(Case):
         server.answers_to(f"fail {disk} 3\n")
         said = [health_after_a_write() for _ in range(4)]
         self.wants(said, ["whole\n"] * 3 + [f"out {disk}\n"], "a disk that passes three accesses")
+
+    def test_what_the_array_has(self):
+        """Units, blocks in sectors, and the version as `--version` prints it."""
+        server = self.serve("0:0:24", "1:3:5")
+        host, operator = self.kept(server.log_in(0)), self.kept(server.operator())
+        self.wants(host.writes(0, b"w" * 4096).status, 0, "a WRITE of four blocks")
+        said = dict(line.removesuffix(" sectors").split() for line in operator.asks("usage"))
+        placed = int(said.pop("mirrored")) + int(said.pop("parity"))
+        # (the units have 15 of 18 blocks of two sectors)
+        wanted = {"room": "6", "unwritten": "22", "spares": "0"}
+        self.wants((said, placed), (wanted, 8), "how the sectors are used")
+        units = ["unit 0 0 sectors 24 blocks 12 written 4", "unit 1 3 sectors 5 blocks 3 written 0"]
+        self.wants(operator.asks("units"), units, "the units")
+        self.wants(operator.asks("version"), [ran(program("autoraid"), "--version").out.strip()], "the version")
+
+    def test_what_disks_have_done(self):
+        """A disk that fails has one error; a new one begins at 0, and is written to by the rebuild."""
+        server = self.serve("0:0:24", audit="off")
+        host, operator = self.kept(server.log_in(0)), self.kept(server.operator())
+
+        def disks():
+            found = [line.split(maxsplit=10) for line in operator.asks("disks")]
+            self.wants([words[:2] for words in found], [["disk", str(disk)] for disk in range(4)], "the disks")
+            return [(int(words[3]), int(words[7]), int(words[9]), words[10]) for words in found]
+
+        self.wants(disks(), [(0, 0, 0, "in use")] * 4, "disks that hold nothing")
+        self.wants(host.writes(0, b"w" * 12288).status, 0, "a WRITE of twelve blocks")
+        said = disks()
+        # (a mirrored write makes two accesses)
+        self.holds(sum(accesses for _, accesses, _, _ in said) >= 24, "24 accesses", said)
+        self.wants({(errors, state) for _, _, errors, state in said}, {(0, "in use")}, "errors, and states")
+        self.wants(operator.asks("out 1"), ["ok"], "a disk that is taken out")
+        self.wants(disks()[1][2:], (0, "out"), "it")
+        self.wants(operator.asks("replace 1"), ["ok"], "a new disk")
+        self.wants(operator.waits("health", ["whole"]), ["whole"], "the health once it is rebuilt")
+        used, accesses, errors, state = disks()[1]
+        # (an extent has two rows)
+        self.wants((accesses >= 2 * used > 0, errors, state), (True, 0, "in use"), "the new disk")
+        operator.asks("fail 1 0")
+        host.reads(0, 24)
+        host.writes(0, b"v" * 12288)
+        self.wants(operator.waits("health", ["out 1"]), ["out 1"], "the health after a fault")
+        self.wants(disks()[1][2:], (1, "failed"), "the disk that has failed")
 
     def test_a_fifth_operator(self):
         server = self.serve()

@@ -1,5 +1,6 @@
 """What a served array shows over HTTP: each path while it is whole, has lost a disk, is whole again; and its end."""
 import os
+import re
 import subprocess
 import tempfile
 import time
@@ -57,6 +58,38 @@ class Pages(Case):
 
     def test_page(self):
         self.path("/")
+
+    def test_what_the_page_shows(self):
+        """Its script asks for elements and numbers that there are, and its letters are 11 pixels high at least."""
+        page, status = self.server.get("/")[2], self.server.status_json()
+        asked, there = (set(re.findall(pattern, page)) for pattern in (r"\bat\('(\w+)'\)", r"\bid='(\w+)'"))
+        self.wants(asked - there, set(), "elements that the page hasn't")
+        shown = set(re.findall(r"\bstatus\.(?!json)(\w+)", page))
+        for names in re.findall(r"const \{ ([\w, ]+) \} = status\b", page):
+            shown |= set(names.split(", "))
+        self.wants((shown - set(status), len(shown) > 15), (set(), True), "numbers that /status.json hasn't")
+        letters = [int(size) for size in re.findall(r"font(?:-size)?: (\d+)px", page)]
+        self.holds(min(letters) >= 11 and len(letters) > 4, "letters of 11 pixels and more", letters)
+        links = [f"<a href='{path}'>" in page for path in ("metrics", "status.json")]
+        self.wants(links, [True, True], "links to metrics and to the status as JSON")
+
+    def test_words_of_the_page(self):
+        """Each state has a word, and a colour beside it."""
+        page = self.server.get("/")[2]
+        words = re.search(r"const STATES = \{ (.+) \};", page)[1]
+        states = dict(pair.split(": ") for pair in words.split(", "))
+        self.wants(set(states), {"whole", "out", "rebuilding", "broken", "silent"}, "the states that have a word")
+        self.wants(len(set(states.values())), len(states), "different words")
+        self.wants([state for state in states if f"header.{state}" not in page], [], "states without a colour")
+        self.stops(self.server, [0, 0, 0, 0])
+
+    def test_name(self):
+        """The array's name, whatever stands in it; without one it is empty."""
+        self.wants(self.server.status_json()["name"], "", "the name of an array without one")
+        for name in "the first", "<b>\"'\\", "K\u00fcche", "n" * 64:
+            server = self.serve("--name", name, "0:0:8", doors=("operator", "http"))
+            self.wants(server.status_json()["name"], name, "an array's name")
+            self.stops(server)
 
     def test_picture(self):
         self.path("/picture.svg")

@@ -519,7 +519,7 @@ class Images(Stored):
 class Shown(Stored):
     """What operators and HTTP clients are shown of a store."""
 
-    STATES = ("sound", "failing", "given_up")
+    STATES = ("sound", "degraded", "failing", "given_up")
 
     def watched(self, *words):
         """A server of a store, whose files can't grow beyond a limit that a case sets."""

@@ -6,8 +6,7 @@ A line has at most 120 columns, outside of tables, code and URLs. A relative lin
 docs/PERFORMANCE.md. A fenced block of code is run by the word after its fence, unless `not-run` follows:
 
     console     A line that begins with '$ ' is run by bash, and prints the lines below it. One that ends with ' &' goes
-                on beside the next ones once it has printed the lines below it; '$ wait' shows what it prints from then
-                on to its end.
+                on beside the next ones, which begin at once, and the lines below it are the first that it prints.
     sh          The block is run by bash, and exits with 0.
     text FILE   Some lines of this script in its order, each with an answer to it after two spaces or more.
 
@@ -91,18 +90,24 @@ def flaws_of_figures(path, prose):
 
 def flaw_of_console(start, lines):
     """What a command prints that isn't shown below it, or None."""
-    beside = None
+    beside, first = None, ""
     for shown in re.split(r"^\$ ", "\n".join(lines) + "\n", flags=re.MULTILINE)[1:]:
         command, _, wanted = shown.partition("\n")
         if command.endswith(" &"):
-            beside = start(command.removesuffix(" &"))
-            said = "".join(beside.stdout.readline() for _ in wanted.splitlines())
-        else:
-            running = beside if command == "wait" else start(command)
-            said = running.communicate(timeout=SECONDS)[0]
+            beside, first = start(command.removesuffix(" &")), wanted
+            continue
+        said = start(command).communicate(timeout=SECONDS)[0]
         if said != wanted:
             return f"{command}: prints {said[-500:]!r}"
-    return "the command beside the others fails" if beside and beside.wait(timeout=SECONDS) else None
+    return flaw_beside(beside, first) if beside else None
+
+
+def flaw_beside(beside, first):
+    """What is wrong with a command beside the others, which prints some lines first, or None."""
+    said = beside.communicate(timeout=SECONDS)[0]
+    if not said.startswith(first):
+        return f"the command beside the others prints {said[:500]!r}"
+    return "the command beside the others fails" if beside.returncode else None
 
 
 def flaw_of_excerpt(start, file, rows):
