@@ -29,7 +29,7 @@ FAULTY = [
     ("cdb 0 0 00 4", "bad argument", "column 14: BYTE is missing, two hexadecimal digits: cdb H L HEX [COUNT BYTE]"),
     ("unmap 0 0 0 4294967296", "bad argument", "column 13: '4294967296' is no COUNT, a number from 0 to 4294967295: "),
     ("make 0 0 4294967296", "bad argument", "column 10: '4294967296' is no SIZE, sectors from 0 to 4294967295, or "),
-    ("make 0 0 2048G", "bad argument", "column 10: '2048G' is no SIZE, sectors from 0 to 4294967295, or a size as 32M: "),
+    ("make 0 0 2048G", "bad argument", "column 10: '2048G' is no SIZE, sectors from 0 to 4294967295, or a size as 32M"),
     ("grow 0 0 32m", "bad argument", "column 10: '32m' is no SIZE, sectors from 0 to 4294967295, or a size as 32M: "),
     ("grow 0 0 K", "bad argument", "column 10: 'K' is no SIZE, sectors from 0 to 4294967295, or a size as 32M: grow "),
     ("make 0 0", "bad argument", "column 10: SIZE is missing, sectors from 0 to 4294967295, or a size as 32M: make "),
@@ -51,10 +51,10 @@ FAULTY = [
 ]
 # Valid lines, whose mutations are each refused with an explanation.
 VALID = [
-    *["make 0 0 8", "make 0 0 8K", "grow 0 0 9", "drop 0 0", "tur 3 7", "inquiry 0 0 36", "capacity 0 0", "read 0 0 0 1"],
-    *["read16 0 0 0 1", "write 0 0 0 1 AA", "write 0 0 0 1 AA fua", "write16 0 0 0 1 aa", "unmap 0 0 0 1"],
-    *["cdb 0 0 00", "cdb 0 0 2A00 4 AA", "add", "out 0", "replace 0", "rebuild", "flush", "demote", "clean", "balance"],
-    *["levels 0 0", "home 0 0 0", "groups", "room", "health", "block 0 0 0", "picture"],
+    *["make 0 0 8", "make 0 0 8K", "grow 0 0 9", "drop 0 0", "tur 3 7", "inquiry 0 0 36", "capacity 0 0"],
+    *["read 0 0 0 1", "read16 0 0 0 1", "write 0 0 0 1 AA", "write 0 0 0 1 AA fua", "write16 0 0 0 1 aa"],
+    *["unmap 0 0 0 1", "cdb 0 0 00", "cdb 0 0 2A00 4 AA", "add", "out 0", "replace 0", "rebuild", "flush"],
+    *["demote", "clean", "balance", "levels 0 0", "home 0 0 0", "groups", "room", "health", "block 0 0 0", "picture"],
 ]
 
 

@@ -1,7 +1,7 @@
 #!/usr/bin/env python3
 """Kills a program that appends to a log on a regular file, and looks that each record that it acknowledged is there.
 
-The program is `bench_log`, built by `rt ci` or `rt run`; another one may be named by BENCH_LOG, and the rounds by ROUNDS.
+The program is `bench_log`, built by `rt ci` or `rt run`; BENCH_LOG names another one, and ROUNDS the rounds.
 A kill leaves what was written, so this tests the program and the system's calls, and no loss of power.
 """
 import os

@@ -5,8 +5,8 @@ import time
 from tests.harness import Case, Reply, answered, program, ran, rest_of
 
 # The operator's words, as `help` shows them.
-WORDS = """make H L SECTORS
-grow H L SECTORS
+WORDS = """make H L SIZE
+grow H L SIZE
 drop H L
 add
 out D

@@ -311,8 +311,8 @@ class Shared(Stored):
     """Commits that several hosts wait for."""
 
     WRITES = 60
-    # A sync that takes 5 ms, so that the next commit is put off until other hosts' WRITEs have come. (A file lasts over a
-    # kill without one.)
+    # A sync that takes 5 ms, so that the next commit is put off until other hosts' WRITEs have come. (A file lasts over
+    # a kill without one.)
     SLOW = """
         #include <time.h>
         int fdatasync(int file) { struct timespec pause = {0, 5000000}; (void)file; return nanosleep(&pause, 0); }

@@ -13,7 +13,7 @@ pub enum UsageFault {
     #[error("bad command line\n{0}")]
     Bad(String),
     /// This word names no unit.
-    #[error("bad unit {0}\na unit is HOST:LUN:SIZE: a host from 0 to 3, a LUN from 0 to 7, and sectors, or a size as 32M")]
+    #[error("bad unit {0}\na unit is HOST:LUN:SIZE: a host, 0 to 3, a LUN, 0 to 7, and sectors or a size as 32M")]
     BadUnit(String),
 }
 

@@ -58,7 +58,8 @@ fn page_and_picture(rt: HostRuntime) {
 const JSON: &str = "\
 {\"version\":\"0.4.0\",\
 \"latency_bounds_micros\":[50,100,250,500,1000,2500,10000,50000,250000,1000000,10000000],\
-\"name\":\"the \\\"first\\\"\",\"uptime_seconds\":61,\"health\":{\"state\":\"rebuilding\",\"disk\":3,\"done\":12},\"lost_disks\":null,\
+\"name\":\"the \\\"first\\\"\",\
+\"uptime_seconds\":61,\"health\":{\"state\":\"rebuilding\",\"disk\":3,\"done\":12},\"lost_disks\":null,\
 \"disks\":5,\"spares\":2,\"extents\":64,\"extent_rows\":2,\"disk_counters\":[\
 {\"accesses\":18446744073709551615,\"errors\":0},{\"accesses\":0,\"errors\":0},{\"accesses\":0,\"errors\":0},\
 {\"accesses\":0,\"errors\":0},{\"accesses\":31,\"errors\":2}],\
