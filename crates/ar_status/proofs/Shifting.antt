@@ -33,4 +33,4 @@ pub shifted : {X : Type 0} (most : ℕ) (x : X) (xs : List X) (count n : ℕ) �
 shifted most x [] count n long few is = absurd (omega arith)
 shifted most x (y ∷ xs) count zero long few is = absurd (omega arith)
 shifted most x (y ∷ xs) count (suc m) long few is =
-    ap (λ zs. x ∷ zs) (behind most (y ∷ xs) (drop most xs) count m long few (omega arith))
+    ap (λ zs. x ∷ zs) (behind most (y ∷ xs) (drop (1 + most) (y ∷ xs)) count m long few (omega arith))

@@ -1,5 +1,5 @@
 // The name of an array. It has a fixed size, and is copied under a lock without an allocation.
-ghost use Rattle.std.specs.Prelude.{◌≤◌, length};
+ghost use Rattle.std.specs.Prelude.{◌≡◌, ◌≤◌, length};
 
 use serde::{Described, Serialize, Serializer};
 use std::str;
