@@ -76,9 +76,10 @@ class Pages(Case):
     def test_words_of_the_page(self):
         """Each state has a word, and a colour beside it."""
         page = self.server.get("/")[2]
-        words = re.search(r"const STATES = \{ (.+) \};", page)[1]
-        states = dict(pair.split(": ") for pair in words.split(", "))
-        self.wants(set(states), {"whole", "out", "rebuilding", "broken", "silent"}, "the states that have a word")
+        words = re.search(r"const STATES = \{(.+?)\};", page, re.DOTALL)[1]
+        states = dict(re.findall(r"(\w+): '([\w ]+)'", words))
+        wanted = {"whole", "out", "rebuilding", "broken", "silent", "alone", "failing"}
+        self.wants(set(states), wanted, "the states that have a word")
         self.wants(len(set(states.values())), len(states), "different words")
         self.wants([state for state in states if f"header.{state}" not in page], [], "states without a colour")
         self.stops(self.server, [0, 0, 0, 0])

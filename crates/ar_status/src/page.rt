@@ -26,8 +26,8 @@ h2 { margin: 0 0 4px; font-size: 14px }
 header { display: flex; flex-wrap: wrap; gap: 4px 24px; align-items: center; margin: 0 0 12px; padding: 6px 12px }
 header { border-left: 8px solid var(--bar, var(--dim)); background: var(--card); font-size: 18px }
 header.whole { --bar: var(--good-bar) }
-header.out, header.rebuilding { --bar: var(--warn-bar); border-left-style: dashed }
-header.broken, header.silent { --bar: var(--fail-bar); border-left-style: double }
+header.out, header.rebuilding, header.alone { --bar: var(--warn-bar); border-left-style: dashed }
+header.broken, header.failing, header.silent { --bar: var(--fail-bar); border-left-style: double }
 header p { margin: 0 }
 #health { flex: 1 1 240px }
 #health b { margin-right: 8px; color: var(--bar) }
@@ -132,7 +132,17 @@ function left(health, extents, now) {
 const lost = disks => disks ? `disks ${disks.join(' and ')} failed` : 'two disks were missing at once';
 
 // The state in a word, for the top line and the title, and what it means.
-const STATES = { whole: 'healthy', out: 'degraded', rebuilding: 'rebuilding', broken: 'failed', silent: 'no answer' };
+const STATES = {
+  whole: 'healthy', out: 'degraded', rebuilding: 'rebuilding', broken: 'failed', silent: 'no answer',
+  alone: 'store degraded', failing: 'store failed',
+};
+
+// The state of the array and its store: the worse one of both.
+function worse(health, store) {
+  if (health.state === 'broken' || !store) return health.state;
+  if (store.state === 'failing' || store.state === 'given_up') return 'failing';
+  return health.state === 'whole' && store.state === 'degraded' ? 'alone' : health.state;
+}
 
 function words(status, now) {
   const { health, disks, extents, lost_disks } = status, rest = left(health, extents, now);
@@ -239,10 +249,10 @@ function sample(status, now) {
   while (samples.length > SAMPLES || now - samples[0].now > SAMPLES) samples.shift();
 }
 
-// A time that some microseconds are, or more than the longest.
+// A bound of times in microseconds, or more than the longest.
 function within(micros) {
   if (micros === undefined) return 'over 10 s';
-  return micros < 1000 ? `${micros} us` : micros < 1e6 ? `${micros / 1000} ms` : `${micros / 1e6} s`;
+  return `up to ${micros < 1000 ? `${micros} us` : micros < 1e6 ? `${micros / 1000} ms` : `${micros / 1e6} s`}`;
 }
 
 // A graph of a number of each sample, the newest on the right.
@@ -255,7 +265,7 @@ function graph(title, value, shown, most) {
   });
   const figure = document.createElement('figure'), caption = document.createElement('figcaption');
   caption.append(element('b', title), element('span', numbers.length ?
-    `now ${shown(numbers.at(-1))}, highest ${shown(Math.max(...numbers))}` : 'no sample yet'));
+    `now ${shown(numbers.at(-1))}, highest of ten minutes ${shown(Math.max(...numbers))}` : 'no sample yet'));
   figure.append(caption);
   figure.insertAdjacentHTML('beforeend', `<svg viewBox='0 0 600 100' preserveAspectRatio='none' role='img'>
 <path d='${points.length ? `M${points.join('L')}` : ''}'/></svg>`);
@@ -291,6 +301,8 @@ function showArray(status) {
   rows(at('array'), [
     ['room', `${count(room_blocks)} blocks, ${size(room_blocks * status.block_bytes)}`],
     ['free groups', count(status.free_groups)],
+    ['spare disks', status.spares],
+    ['discovery sessions', status.sessions.discovery],
     ['cache', `${count(status.cached_blocks)} blocks`],
     ['history', `${count(status.history_entries)} entries, ${size(status.history_bytes)}`],
     ...store ? [
@@ -315,7 +327,7 @@ function showEvents(status) {
 
 function show(status, now) {
   named = status.name;
-  head(status.health.state, words(status, now));
+  head(worse(status.health, status.store), words(status, now));
   at('store').textContent = fault(status.store);
   at('store').hidden = !fault(status.store);
   showUsed(status);
@@ -379,6 +391,36 @@ function fold(svg) {
   svg.querySelector(':scope > rect').setAttribute('height', height);
 }
 
+// Sets the disks in rows, and the legend below them, where the window is narrower than the picture.
+const LEFT = 64, DISK = 92, TITLES = 82;
+function wrap(svg, room) {
+  const disks = cells(svg), shapes = [...svg.querySelector('g').children], legend = [...svg.querySelectorAll('g ~ *')];
+  if (svg.getAttribute('width') <= room) return;
+  const most = Math.max(1, Math.floor((room - LEFT) / DISK)), lines = Math.ceil(disks.length / most);
+  const each = Math.ceil(disks.length / lines), number = (shape, name) => +shape.getAttribute(name);
+  const end = Math.max(...shapes.map(shape => number(shape, 'y') + number(shape, 'height')));
+  const step = end + 24 - TITLES, bottom = TITLES + lines * step;
+  const move = (shape, x, y) => {
+    shape.setAttribute('x', number(shape, 'x') + x);
+    shape.setAttribute('y', number(shape, 'y') + y);
+    return shape;
+  };
+  for (const label of svg.querySelectorAll('.number')) for (let line = 1; line < lines; line += 1)
+    svg.insertBefore(move(label.cloneNode(true), 0, line * step), svg.querySelector('g'));
+  for (const shape of shapes) {
+    const line = Math.floor((number(shape, 'x') - LEFT) / DISK / each);
+    move(shape, -line * each * DISK, line * step);
+  }
+  const first = legend[0], x = 24 - number(first, 'x'), y = bottom + 16 - number(first, 'y');
+  for (const shape of legend) move(shape, x, y);
+  const width = Math.max(LEFT + each * DISK, 340), height = Math.max(...legend.map(shape => number(shape, 'y'))) + 39;
+  svg.setAttribute('viewBox', `0 0 ${width} ${height}`);
+  for (const sheet of [svg, svg.querySelector(':scope > rect')]) {
+    sheet.setAttribute('width', width);
+    sheet.setAttribute('height', height);
+  }
+}
+
 // Parity differs from mirroring by stripes, too, for whoever sees no colours. A bar has an outline, so that units of
 // the darkest and the lightest colours are visible in both schemes.
 const STRIPES = `<pattern id='stripes' width='6' height='6' patternUnits='userSpaceOnUse'>
@@ -411,12 +453,14 @@ function outline(svg) {
 }
 
 let drawn = null;
+addEventListener('resize', () => { drawn = null; });
 const shadow = at('picture').attachShadow({ mode: 'open' });
 function draw(text) {
   if (text === drawn) return;
   drawn = text;
   const svg = new DOMParser().parseFromString(text, 'image/svg+xml').documentElement;
   fold(svg);
+  wrap(svg, at('picture').clientWidth);
   outline(svg);
   svg.querySelector('defs').insertAdjacentHTML('beforeend', STRIPES);
   svg.querySelector('style').append(STYLE);
