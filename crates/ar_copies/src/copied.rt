@@ -31,6 +31,7 @@ impl<'a, M: Media + Drop> CopiedFile<'a, M> {
         ensures seen { copied_seen M.seen result ≡ M.seen media }
         ensures leaves { (x : List ℕ) → copied_may_leave M.seen M.may_leave result x → M.may_leave media x }
         ensures clean { IsTrue (M.is_clean media) → IsTrue (copied_is_clean M.seen M.is_clean result) }
+        ensures only_clean { IsTrue (copied_is_clean M.seen M.is_clean result) → IsTrue (M.is_clean media) }
         ensures faults { copied_faults M.faults result ≡ M.faults media }
         ensures usable { copied_is_usable M.is_usable result ≡ M.is_usable media }
     {
@@ -57,6 +58,8 @@ impl<'a, M: Media + Drop> CopiedFile<'a, M> {
             → Only (copied_seen M.seen result) (copied_may_leave M.seen M.may_leave result) }
         ensures clean { IsTrue (M.is_clean first) → IsTrue (M.is_clean second)
             → IsTrue (copied_is_clean M.seen M.is_clean result) }
+        ensures only_clean { IsTrue (copied_is_clean M.seen M.is_clean result)
+            → IsTrue (M.is_clean first) × IsTrue (M.is_clean second) }
         ensures usable { IsTrue (M.is_usable first) → IsTrue (copied_is_usable M.is_usable result) }
     {
         CopiedFile {

@@ -3,5 +3,7 @@ pub mod Mirroring
 pub mod Naming
 pub mod Places
 pub mod Reading
+pub mod Showing
 pub mod Starting
+pub mod Taking
 pub mod Writing

@@ -1,13 +1,17 @@
 -- One copy of a journal and another.
 use Rattle.std.specs.Prelude.{◌≡◌, ◌⊎◌, ℕ, ◌==◌, Bool, false, not, ◌&&◌, ◌||◌, nat_lt, if◌then◌else◌}
-use Rattle.std.specs.Prelude.{List, [], ◌∷◌, length, take, drop, IsTrue}
+use Rattle.std.specs.Prelude.{List, [], ◌∷◌, length, take, drop, Some, IsTrue, true}
 use Rattle.std.specs.Int.{w64, from_be_bytes}
 use Rattle.ar_log.specs.Codec.{Batch}
 use Rattle.ar_log.specs.declared.place.Place.{Place}
 use Rattle.ar_journal.specs.Journal.{IsReady, IsClean, IsAfter, batches_now, journal_batches}
 use Rattle.ar_journal.specs.Mirror.{IsMirrored, IsSound, HasBatches, GoesOn}
+use Rattle.ar_journal.specs.Files.{AreClean}
 use Rattle.ar_journal.specs.declared.files.JournalFiles.{JournalFiles}
 use Rattle.ar_journal.specs.declared.journal.Journal.{Journal}
+use Rattle.ar_journal.specs.declared.mirror_start.CopyState.{CopyState}
+use Rattle.ar_journal.specs.declared.mirror_start.CopyState.TheVariants.{Taken}
+use Rattle.ar_journal.specs.declared.mirror_start.MirrorStart.{MirrorStart}
 use Rattle.ar_journal.specs.declared.mirrored.MirroredJournal.{MirroredJournal}
 
 -- after this place of one journal are the batches that the other lacks
@@ -73,3 +77,39 @@ pub record StartsFrom {M : Type 0} (seen : M → List ℕ) (may_leave : M → Li
   pub goes_on : GoesOn mirror
   pub has : IsSound is_clean mirror
       → HasBatches seen (files_batches seen one) mirror ⊎ HasBatches seen (files_batches seen other) mirror
+
+-- it was taken, and the other brought up to it
+abbrev pub is_taken : CopyState → Bool
+is_taken Taken = true
+is_taken state = false
+
+-- one copy was taken, and has P
+abbrev pub Takes : {M : Type 0} → (Journal M → Type 0) → MirrorStart M → Type 0
+Takes P start =
+    ((is_taken start.first ≡ true) × (is_taken start.second ≡ false) × P start.journal.first)
+    ⊎ ((is_taken start.first ≡ false) × (is_taken start.second ≡ true) × P start.journal.second)
+
+-- it isn't given up, and has the batches of this journal
+pub record TakenFrom {M : Type 0} (seen : M → List ℕ) (is_clean : M → Bool) (from taken : Journal M) : Type 0 where
+  pub goes_on : taken.active.is_closed ≡ false
+  pub same : batches_now seen taken ≡ batches_now seen from
+  pub clean : IsClean is_clean taken → IsClean is_clean from
+
+-- it isn't given up, and has the batches of one of these
+pub record HasOneOf {M : Type 0} (seen : M → List ℕ) (is_clean : M → Bool) (one other : JournalFiles M)
+    (journal : Journal M) : Type 0 where
+  pub goes_on : journal.active.is_closed ≡ false
+  pub has : IsClean is_clean journal → (batches_now seen journal ≡ files_batches seen one)
+      ⊎ (batches_now seen journal ≡ files_batches seen other)
+
+-- the files of this journal
+pub record AreOf {M : Type 0} (journal : Journal M) (files : JournalFiles M) : Type 0 where
+  pub selector : files.selector ≡ journal.selector
+  pub active : (if journal.is_second then files.second else files.first) ≡ journal.active.media
+  pub spare : Some (if journal.is_second then files.first else files.second) ≡ journal.spare
+
+-- the files have the batches of others, and are clean only if those are
+pub record Shows {M N : Type 0} (seen : M → List ℕ) (is_clean : M → Bool) (seen_now : N → List ℕ)
+    (clean_now : N → Bool) (files : JournalFiles M) (now : JournalFiles N) : Type 0 where
+  pub clean : AreClean clean_now now → AreClean is_clean files
+  pub same : AreClean clean_now now → files_batches seen_now now ≡ files_batches seen files

@@ -1,5 +1,5 @@
 -- A journal that is made, and the files of one.
-use Rattle.std.specs.Prelude.{◌≡◌, ◌⊎◌, ℕ, ◌+◌, Bool, false, List, [], ◌∷◌}
+use Rattle.std.specs.Prelude.{◌≡◌, ◌⊎◌, ℕ, ◌+◌, Bool, false, List, [], ◌∷◌, IsTrue}
 use Rattle.ar_media.specs.Media.{Only}
 use Rattle.ar_log.specs.Log.{HoldsBatches}
 use Rattle.ar_log.specs.Reading.{OnlyReads}
@@ -41,3 +41,23 @@ pub record AreRead {M : Type 0} (seen : M → List ℕ) (may_leave : M → List 
   pub selector : OnlyReads seen may_leave moment left_since is_clean old.selector new.selector
   pub first : OnlyReads seen may_leave moment left_since is_clean old.first new.first
   pub second : OnlyReads seen may_leave moment left_since is_clean old.second new.second
+
+-- no read of a file has returned other bytes than were written
+pub record AreClean {M : Type 0} (is_clean : M → Bool) (files : JournalFiles M) : Type 0 where
+  pub selector : IsTrue (is_clean files.selector)
+  pub first : IsTrue (is_clean files.first)
+  pub second : IsTrue (is_clean files.second)
+
+-- each file shows what it showed, and is clean only if it was
+pub record Stay {M : Type 0} (seen : M → List ℕ) (is_clean : M → Bool) (old new : JournalFiles M) : Type 0 where
+  pub selector : seen new.selector ≡ seen old.selector
+  pub first : seen new.first ≡ seen old.first
+  pub second : seen new.second ≡ seen old.second
+  pub clean : AreClean is_clean new → AreClean is_clean old
+
+-- the files show the same, as far as all of them are clean
+pub record ShowSame {M : Type 0} (seen : M → List ℕ) (is_clean : M → Bool) (from to : JournalFiles M) : Type 0 where
+  pub selector : IsTrue (is_clean from.selector) → IsTrue (is_clean to.selector)
+      → seen to.selector ≡ seen from.selector
+  pub first : IsTrue (is_clean from.first) → IsTrue (is_clean to.first) → seen to.first ≡ seen from.first
+  pub second : IsTrue (is_clean from.second) → IsTrue (is_clean to.second) → seen to.second ≡ seen from.second

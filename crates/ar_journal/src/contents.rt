@@ -3,6 +3,7 @@ ghost use Rattle.std.specs.Prelude.{◌≡◌, ◌+◌, ◌<◌, ◌^◌, length
 ghost use Rattle.ar_log.specs.Codec.{items_of};
 ghost use Rattle.ar_log.specs.Failure.{is_damage, ReportsMedium};
 ghost use Rattle.ar_log.specs.Log.{HoldsBatches};
+ghost use Rattle.ar_journal.specs.Copying.{AreOf};
 ghost use Rattle.ar_journal.specs.Journal.{IsReady, IsClean, batches_now, LeavesJournal, ReadsLog, IsAfter, ReadsNext};
 
 use crate::{Journal, JournalFiles};
@@ -38,7 +39,8 @@ fn within(place: Place, len: usize) -> Option<Place>
 impl<M: Media> Journal<M> {
     /// The files of the journal. While its spare is out, the journal is returned.
     pub fn into_files(self) -> Result<JournalFiles<M>, Journal<M>>
-        ensures { IfErr result (λ journal. journal ≡ self) }
+        ensures files { IfOk result (λ files. AreOf self files) }
+        ensures back { IfErr result (λ journal. journal ≡ self) }
     {
         let Journal {
             selector,

@@ -1,8 +1,9 @@
 //! A journal whose files are kept in two copies of the same bytes.
-ghost use Rattle.std.specs.Prelude.{IfOk, OnOk};
+ghost use Rattle.std.specs.Prelude.{◌≡◌, ◌⊎◌, if◌then◌else◌, IfOk, OnOk};
 ghost use Rattle.ar_media.specs.Media.{Only};
-ghost use Rattle.ar_copies.specs.Copied.{copied_may_leave, copied_seen};
-ghost use Rattle.ar_journal.specs.Files.{AreDurable};
+ghost use Rattle.ar_copies.specs.Copied.{copied_is_clean, copied_may_leave, copied_seen};
+ghost use Rattle.ar_journal.specs.Copying.{AreOf, Shows, files_batches, is_taken};
+ghost use Rattle.ar_journal.specs.Files.{AreClean, AreDurable, ShowSame, Stay};
 
 use crate::{CopyState, Journal, JournalFiles, MirroredJournal, open_mirrored};
 use ar_copies::{CopiedFile, Losses, Which};
@@ -24,7 +25,9 @@ pub fn single_copy<'a, M: Media + Drop>(
     losses: &'a Losses,
 ) -> JournalFiles<CopiedFile<'a, M>>
     requires { AreDurable M.seen M.may_leave files }
-    ensures { AreDurable (copied_seen M.seen) (copied_may_leave M.seen M.may_leave) result }
+
+    ensures durable { AreDurable (copied_seen M.seen) (copied_may_leave M.seen M.may_leave) result }
+    ensures shows { Shows M.seen M.is_clean (copied_seen M.seen) (copied_is_clean M.seen M.is_clean) files result }
 {
     JournalFiles {
         selector: CopiedFile::single(files.selector, losses),
@@ -43,8 +46,15 @@ pub fn open_copies<'a, M: Media + Drop>(
 ) -> Result<CopiedStart<'a, M>, LogError>
     requires first { AreDurable M.seen M.may_leave first }
     requires second { AreDurable M.seen M.may_leave second }
+
     ensures durable { IfOk result (λ start.
         AreDurable (copied_seen M.seen) (copied_may_leave M.seen M.may_leave) start.files) }
+
+    // The files have the batches of one of the copies, while no read of them has returned other bytes than were
+    // written.
+    ensures batches { IfOk result (λ start. AreClean (copied_is_clean M.seen M.is_clean) start.files
+        → (files_batches (copied_seen M.seen) start.files ≡ files_batches M.seen first)
+        ⊎ (files_batches (copied_seen M.seen) start.files ≡ files_batches M.seen second)) }
 {
     let start = open_mirrored(alloc, first, second)?;
     let (first, second) = (start.first, start.second);
@@ -72,9 +82,13 @@ fn both<'a, M: Media + Drop>(
 ) -> Result<CopiedStart<'a, M>, LogError>
     ensures durable { IfOk result (λ start.
         AreDurable (copied_seen M.seen) (copied_may_leave M.seen M.may_leave) start.files) }
+
+    // They show what the copy that was taken does.
+    ensures shows { IfOk result (λ start. Shows M.seen M.is_clean (copied_seen M.seen)
+        (copied_is_clean M.seen M.is_clean) (if is_taken states.0 then one else other) start.files) }
 {
     let (mut one, mut other) = (one, other);
-    let is_first_taken = states.0 == CopyState::Taken;
+    let is_first_taken = is_taken(&states.0);
     let made = if is_first_taken {
         make_same(alloc, &mut one, &mut other)
     } else {
@@ -111,6 +125,8 @@ fn alone<'a, M: Media + Drop>(
 ) -> Result<CopiedStart<'a, M>, LogError>
     ensures durable { IfOk result (λ start.
         AreDurable (copied_seen M.seen) (copied_may_leave M.seen M.may_leave) start.files) }
+    ensures shows { IfOk result (λ start. Shows M.seen M.is_clean (copied_seen M.seen)
+        (copied_is_clean M.seen M.is_clean) files start.files) }
 {
     let mut files = files;
     sync_all(&mut files).map_err(LogError::Failed)?;
@@ -134,7 +150,10 @@ fn pair<'a, M: Media + Drop>(
 ) -> JournalFiles<CopiedFile<'a, M>>
     requires one { AreDurable M.seen M.may_leave one }
     requires other { AreDurable M.seen M.may_leave other }
-    ensures { AreDurable (copied_seen M.seen) (copied_may_leave M.seen M.may_leave) result }
+
+    ensures durable { AreDurable (copied_seen M.seen) (copied_may_leave M.seen M.may_leave) result }
+    ensures shows { Shows M.seen M.is_clean (copied_seen M.seen) (copied_is_clean M.seen M.is_clean) one result }
+    ensures clean { AreClean (copied_is_clean M.seen M.is_clean) result → AreClean M.is_clean other }
 {
     JournalFiles {
         selector: CopiedFile::pair(one.selector, other.selector, losses),
@@ -149,7 +168,10 @@ fn make_same<M: Media>(
     alloc: Global,
     from: &mut JournalFiles<M>,
     to: &mut JournalFiles<M>,
-) -> Result<(), MediaError> {
+) -> Result<(), MediaError>
+    ensures same { OnOk result (ShowSame M.seen M.is_clean from.new to.new) }
+    ensures from { Stay M.seen M.is_clean from.old from.new }
+{
     let has_selector = are_same(alloc, &mut from.selector, &mut to.selector)?;
     let has_first = are_same(alloc, &mut from.first, &mut to.first)?;
     let has_second = are_same(alloc, &mut from.second, &mut to.second)?;
@@ -170,6 +192,7 @@ fn make_same<M: Media>(
 // Syncs the files, so that a crash leaves what is read.
 fn sync_all<M: Media>(files: &mut JournalFiles<M>) -> Result<(), MediaError>
     ensures durable { OnOk result (AreDurable M.seen M.may_leave files.new) }
+    ensures stay { Stay M.seen M.is_clean files.old files.new }
 {
     files.selector.sync()?;
     files.first.sync()?;
@@ -177,11 +200,20 @@ fn sync_all<M: Media>(files: &mut JournalFiles<M>) -> Result<(), MediaError>
 }
 
 // The files of a journal, of which none is out at a start.
-fn files_of<M: Media + Drop>(journal: Journal<M>) -> Result<JournalFiles<M>, LogError> {
+fn files_of<M: Media + Drop>(journal: Journal<M>) -> Result<JournalFiles<M>, LogError>
+    ensures { IfOk result (λ files. AreOf journal files) }
+{
     match journal.into_files() {
         Ok(files) => Ok(files),
         Err(_journal) => Err(LogError::Closed),
     }
+}
+
+// Whether a copy was taken.
+fn is_taken(state: &CopyState) -> bool
+    ensures { result ≡ is_taken state.now }
+{
+    matches!(state, CopyState::Taken)
 }
 
 // Why a copy is given up.

@@ -3,7 +3,7 @@
 ghost use Rattle.std.specs.Prelude.{◌≡◌, ◌⊎◌, ◌≤◌, [], ◌∷◌, length, take, IfOk, IfSome, IsTrue, true, false};
 ghost use Rattle.ar_log.specs.Codec.{items_of};
 ghost use Rattle.ar_journal.specs.Copying.{generation_in, is_ahead, is_ahead_by, HeadIs, Mirrors, Starts};
-ghost use Rattle.ar_journal.specs.Copying.{StartsFrom, files_batches};
+ghost use Rattle.ar_journal.specs.Copying.{StartsFrom, files_batches, is_taken, Takes, TakenFrom, HasOneOf};
 ghost use Rattle.ar_journal.specs.Files.{AreDurable};
 ghost use Rattle.ar_journal.specs.Journal.{IsReady, IsClean, IsAfter, ReadsLog, batches_now};
 
@@ -111,8 +111,10 @@ fn fill<M: Media>(
     requires place { IsTrue (M.is_clean from.old.active.media) → IsAfter (batches_now M.seen from.old) place }
     requires prefix { IsTrue (M.is_clean from.old.active.media) → IsTrue (M.is_clean to.active.media)
         → take place.number (batches_now M.seen from.old) ≡ batches_now M.seen to }
+    requires state { is_taken state ≡ false }
 
     ensures mirrors { Mirrors M.seen M.may_leave M.is_clean from.new result.0 }
+    ensures state { is_taken result.1 ≡ false }
     ensures reads { ReadsLog M.seen M.may_leave M.moment M.left_since M.is_clean from.old from.new }
     ensures ready { IsReady M.seen M.may_leave M.is_clean from.new }
 {
@@ -133,9 +135,11 @@ fn rewrite<M: Media>(
     files: JournalFiles<M>,
     state: CopyState,
 ) -> (Journal<M>, CopyState)
-    requires { IsReady M.seen M.may_leave M.is_clean from.old }
+    requires from { IsReady M.seen M.may_leave M.is_clean from.old }
+    requires state { is_taken state ≡ false }
 
     ensures mirrors { Mirrors M.seen M.may_leave M.is_clean from.new result.0 }
+    ensures state { is_taken result.1 ≡ false }
     ensures reads { ReadsLog M.seen M.may_leave M.moment M.left_since M.is_clean from.old from.new }
     ensures ready { IsReady M.seen M.may_leave M.is_clean from.new }
 {
@@ -158,6 +162,7 @@ fn bring_up<M: Media>(
     requires to { IsReady M.seen M.may_leave M.is_clean to }
 
     ensures mirrors { Mirrors M.seen M.may_leave M.is_clean from.new result.0 }
+    ensures state { is_taken result.1 ≡ false }
     ensures reads { ReadsLog M.seen M.may_leave M.moment M.left_since M.is_clean from.old from.new }
     ensures ready { IsReady M.seen M.may_leave M.is_clean from.new }
 {
@@ -228,8 +233,10 @@ fn start_both<M: Media + Drop>(
     requires one_open { one.active.is_closed ≡ false }
     requires other_open { other.active.is_closed ≡ false }
 
-    ensures { IfOk result (λ start. Starts M.seen M.may_leave M.is_clean one start.journal
+    ensures starts { IfOk result (λ start. Starts M.seen M.may_leave M.is_clean one start.journal
         ⊎ Starts M.seen M.may_leave M.is_clean other start.journal) }
+    ensures taken { IfOk result (λ start. Takes (TakenFrom M.seen M.is_clean one) start
+        ⊎ Takes (TakenFrom M.seen M.is_clean other) start) }
 {
     let mut one = one;
     let mut other = other;
@@ -256,7 +263,8 @@ fn restore_second<M: Media + Drop>(
     requires one { IsReady M.seen M.may_leave M.is_clean one }
     requires open { one.active.is_closed ≡ false }
 
-    ensures { IfOk result (λ start. Starts M.seen M.may_leave M.is_clean one start.journal) }
+    ensures starts { IfOk result (λ start. Starts M.seen M.may_leave M.is_clean one start.journal) }
+    ensures taken { IfOk result (λ start. Takes (TakenFrom M.seen M.is_clean one) start) }
 {
     if !is_lost(&error) {
         return Err(error);
@@ -276,7 +284,8 @@ fn restore_first<M: Media>(
     requires other { IsReady M.seen M.may_leave M.is_clean other }
     requires open { other.active.is_closed ≡ false }
 
-    ensures { Starts M.seen M.may_leave M.is_clean other result.journal }
+    ensures starts { Starts M.seen M.may_leave M.is_clean other result.journal }
+    ensures taken { Takes (TakenFrom M.seen M.is_clean other) result }
 {
     let mut other = other;
     let (first, state) = rewrite(alloc, &mut other, files, CopyState::Restored(error));
@@ -292,6 +301,8 @@ fn started<M: Media>(
 ) -> MirrorStart<M>
     ensures first { result.journal.first ≡ first }
     ensures second { result.journal.second ≡ second }
+    ensures first_state { result.first ≡ first_state }
+    ensures second_state { result.second ≡ second_state }
 {
     MirrorStart {
         journal: MirroredJournal {
@@ -354,7 +365,9 @@ pub fn open_mirrored<M: Media + Drop>(
     requires second { AreDurable M.seen M.may_leave second }
 
     // It has the batches of one of the copies, in each that isn't given up.
-    ensures { IfOk result (λ start. StartsFrom M.seen M.may_leave M.is_clean first second start.journal) }
+    ensures starts { IfOk result (λ start. StartsFrom M.seen M.may_leave M.is_clean first second start.journal) }
+    // The copy that was taken has them, whatever became of the other.
+    ensures taken { IfOk result (λ start. Takes (HasOneOf M.seen M.is_clean first second) start) }
 {
     match start_copy(alloc, first) {
         Ok(one) => match start_copy(alloc, second) {

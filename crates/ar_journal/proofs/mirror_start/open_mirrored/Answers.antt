@@ -1,11 +1,12 @@
 use Rattle.std.proofs.Common.{inl, inr, ⊎_elim}
 use Rattle.ar_log.proofs.Ahead.{then_ok}
 use Rattle.ar_journal.proofs.Starting.{starts_with}
+use Rattle.ar_journal.proofs.Taking.{takes_one, takes_other}
 use Rattle.ar_journal.proofs.mirror_start.open_mirrored.Goals as goal
 
-pub returns-in-Ok-start_copy : goal.returns-in-Ok-start_copy
-returns-in-Ok-start_copy g c =
-    then_ok _ _ _ c.start_both.result c.start_both.ensures c.start_both.ensures
+pub returns-in-Ok-start_copy-clause-starts : goal.returns-in-Ok-start_copy-clause-starts
+returns-in-Ok-start_copy-clause-starts g c =
+    then_ok _ _ _ c.start_both.result c.start_both.ensures.starts c.start_both.ensures.starts
     (λ start how _. record {
       ready = ⊎_elim (λ s. s.ready) (λ s. s.ready) how;
       goes_on = ⊎_elim (λ s. s.goes_on) (λ s. s.goes_on) how;
@@ -17,4 +18,25 @@ returns-in-Ok-start_copy g c =
           (starts_with g.M.Media.seen g.M.Media.may_leave g.M.Media.is_clean c.in-Ok-start_copy.other start.journal
           _ c.in-Ok-start_copy.ensures.batches s sound))
           how;
+    })
+
+pub returns-in-Ok-start_copy-clause-taken : goal.returns-in-Ok-start_copy-clause-taken
+returns-in-Ok-start_copy-clause-taken g c =
+    then_ok _ _ _ c.start_both.result c.start_both.ensures.taken c.start_both.ensures.taken
+    (λ start how _. ⊎_elim
+    (λ t. takes_one g.M.Media.seen g.M.Media.is_clean c.args.first c.args.second c.in-Ok.one start
+    c.in-Ok.ensures.batches t)
+    (λ t. takes_other g.M.Media.seen g.M.Media.is_clean c.args.first c.args.second c.in-Ok-start_copy.other
+    start c.in-Ok-start_copy.ensures.batches t)
+    how)
+
+pub returns-in-Err-start_copy-clause-starts : goal.returns-in-Err-start_copy-clause-starts
+returns-in-Err-start_copy-clause-starts g c =
+    then_ok _ _ _ c.restore_second.result c.restore_second.ensures.starts c.restore_second.ensures.starts
+    (λ start s _. record {
+      ready = s.ready;
+      goes_on = s.goes_on;
+      has = λ sound. inl
+          (starts_with g.M.Media.seen g.M.Media.may_leave g.M.Media.is_clean c.in-Ok.one start.journal _
+          c.in-Ok.ensures.batches s sound);
     })
