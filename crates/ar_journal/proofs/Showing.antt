@@ -2,7 +2,7 @@
 use Rattle.std.proofs.Common.{◌≡◌, ◌⊎◌, inl, inr, ⊎_elim, ℕ, Bool, true, false, if◌then◌else◌, List, IsTrue, sym, ◌∙◌}
 use Rattle.std.proofs.Common.{ap, subst}
 use Rattle.ar_log.specs.Log.{batches_of}
-use Rattle.ar_journal.specs.Copying.{files_batches, HasOneOf, AreOf, Shows}
+use Rattle.ar_journal.specs.Copying.{files_batches, HasOneOf, AreOf, ShowsFiles}
 use Rattle.ar_journal.specs.Files.{AreClean}
 use Rattle.ar_journal.specs.Journal.{IsReady, Names, journal_batches, batches_now}
 use Rattle.ar_journal.specs.declared.files.JournalFiles.{JournalFiles}
@@ -27,7 +27,7 @@ module _ {M N : Type 0} (seen : M → List ℕ) (is_clean : M → Bool) (seen_no
   pub has_one_of : (may_leave : M → List ℕ → Type 0) (one other : JournalFiles M) (journal : Journal M)
       (files : JournalFiles M) (now : JournalFiles N) → ((m : M) → may_leave m (seen m))
       → IsReady seen may_leave is_clean journal → HasOneOf seen is_clean one other journal → AreOf journal files
-      → Shows seen is_clean seen_now clean_now files now → AreClean clean_now now
+      → ShowsFiles seen is_clean seen_now clean_now files now → AreClean clean_now now
       → (files_batches seen_now now ≡ files_batches seen one) ⊎ (files_batches seen_now now ≡ files_batches seen other)
   has_one_of may_leave one other journal files now stays ready has are shows is =
       let C : M → Type 0 = λ m. IsTrue (is_clean m) in

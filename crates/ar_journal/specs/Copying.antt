@@ -79,15 +79,15 @@ pub record StartsFrom {M : Type 0} (seen : M → List ℕ) (may_leave : M → Li
       → HasBatches seen (files_batches seen one) mirror ⊎ HasBatches seen (files_batches seen other) mirror
 
 -- it was taken, and the other brought up to it
-abbrev pub is_taken : CopyState → Bool
-is_taken Taken = true
-is_taken state = false
+abbrev pub is_copy_taken : CopyState → Bool
+is_copy_taken Taken = true
+is_copy_taken state = false
 
 -- one copy was taken, and has P
 abbrev pub Takes : {M : Type 0} → (Journal M → Type 0) → MirrorStart M → Type 0
 Takes P start =
-    ((is_taken start.first ≡ true) × (is_taken start.second ≡ false) × P start.journal.first)
-    ⊎ ((is_taken start.first ≡ false) × (is_taken start.second ≡ true) × P start.journal.second)
+    ((is_copy_taken start.first ≡ true) × (is_copy_taken start.second ≡ false) × P start.journal.first)
+    ⊎ ((is_copy_taken start.first ≡ false) × (is_copy_taken start.second ≡ true) × P start.journal.second)
 
 -- it isn't given up, and has the batches of this journal
 pub record TakenFrom {M : Type 0} (seen : M → List ℕ) (is_clean : M → Bool) (from taken : Journal M) : Type 0 where
@@ -109,7 +109,7 @@ pub record AreOf {M : Type 0} (journal : Journal M) (files : JournalFiles M) : T
   pub spare : Some (if journal.is_second then files.first else files.second) ≡ journal.spare
 
 -- the files have the batches of others, and are clean only if those are
-pub record Shows {M N : Type 0} (seen : M → List ℕ) (is_clean : M → Bool) (seen_now : N → List ℕ)
+pub record ShowsFiles {M N : Type 0} (seen : M → List ℕ) (is_clean : M → Bool) (seen_now : N → List ℕ)
     (clean_now : N → Bool) (files : JournalFiles M) (now : JournalFiles N) : Type 0 where
   pub clean : AreClean clean_now now → AreClean is_clean files
   pub same : AreClean clean_now now → files_batches seen_now now ≡ files_batches seen files

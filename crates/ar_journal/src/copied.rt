@@ -2,7 +2,7 @@
 ghost use Rattle.std.specs.Prelude.{◌≡◌, ◌⊎◌, if◌then◌else◌, IfOk, OnOk};
 ghost use Rattle.ar_media.specs.Media.{Only};
 ghost use Rattle.ar_copies.specs.Copied.{copied_is_clean, copied_may_leave, copied_seen};
-ghost use Rattle.ar_journal.specs.Copying.{AreOf, Shows, files_batches, is_taken};
+ghost use Rattle.ar_journal.specs.Copying.{AreOf, ShowsFiles, files_batches, is_copy_taken};
 ghost use Rattle.ar_journal.specs.Files.{AreClean, AreDurable, ShowSame, Stay};
 
 use crate::{CopyState, Journal, JournalFiles, MirroredJournal, open_mirrored};
@@ -27,7 +27,7 @@ pub fn single_copy<'a, M: Media + Drop>(
     requires { AreDurable M.seen M.may_leave files }
 
     ensures durable { AreDurable (copied_seen M.seen) (copied_may_leave M.seen M.may_leave) result }
-    ensures shows { Shows M.seen M.is_clean (copied_seen M.seen) (copied_is_clean M.seen M.is_clean) files result }
+    ensures shows { ShowsFiles M.seen M.is_clean (copied_seen M.seen) (copied_is_clean M.seen M.is_clean) files result }
 {
     JournalFiles {
         selector: CopiedFile::single(files.selector, losses),
@@ -84,11 +84,11 @@ fn both<'a, M: Media + Drop>(
         AreDurable (copied_seen M.seen) (copied_may_leave M.seen M.may_leave) start.files) }
 
     // They show what the copy that was taken does.
-    ensures shows { IfOk result (λ start. Shows M.seen M.is_clean (copied_seen M.seen)
-        (copied_is_clean M.seen M.is_clean) (if is_taken states.0 then one else other) start.files) }
+    ensures shows { IfOk result (λ start. ShowsFiles M.seen M.is_clean (copied_seen M.seen)
+        (copied_is_clean M.seen M.is_clean) (if is_copy_taken states.0 then one else other) start.files) }
 {
     let (mut one, mut other) = (one, other);
-    let is_first_taken = is_taken(&states.0);
+    let is_first_taken = is_copy_taken(&states.0);
     let made = if is_first_taken {
         make_same(alloc, &mut one, &mut other)
     } else {
@@ -125,7 +125,7 @@ fn alone<'a, M: Media + Drop>(
 ) -> Result<CopiedStart<'a, M>, LogError>
     ensures durable { IfOk result (λ start.
         AreDurable (copied_seen M.seen) (copied_may_leave M.seen M.may_leave) start.files) }
-    ensures shows { IfOk result (λ start. Shows M.seen M.is_clean (copied_seen M.seen)
+    ensures shows { IfOk result (λ start. ShowsFiles M.seen M.is_clean (copied_seen M.seen)
         (copied_is_clean M.seen M.is_clean) files start.files) }
 {
     let mut files = files;
@@ -152,7 +152,7 @@ fn pair<'a, M: Media + Drop>(
     requires other { AreDurable M.seen M.may_leave other }
 
     ensures durable { AreDurable (copied_seen M.seen) (copied_may_leave M.seen M.may_leave) result }
-    ensures shows { Shows M.seen M.is_clean (copied_seen M.seen) (copied_is_clean M.seen M.is_clean) one result }
+    ensures shows { ShowsFiles M.seen M.is_clean (copied_seen M.seen) (copied_is_clean M.seen M.is_clean) one result }
     ensures clean { AreClean (copied_is_clean M.seen M.is_clean) result → AreClean M.is_clean other }
 {
     JournalFiles {
@@ -210,8 +210,8 @@ fn files_of<M: Media + Drop>(journal: Journal<M>) -> Result<JournalFiles<M>, Log
 }
 
 // Whether a copy was taken.
-fn is_taken(state: &CopyState) -> bool
-    ensures { result ≡ is_taken state.now }
+fn is_copy_taken(state: &CopyState) -> bool
+    ensures { result ≡ is_copy_taken state.now }
 {
     matches!(state, CopyState::Taken)
 }

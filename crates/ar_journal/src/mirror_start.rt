@@ -3,7 +3,7 @@
 ghost use Rattle.std.specs.Prelude.{◌≡◌, ◌⊎◌, ◌≤◌, [], ◌∷◌, length, take, IfOk, IfSome, IsTrue, true, false};
 ghost use Rattle.ar_log.specs.Codec.{items_of};
 ghost use Rattle.ar_journal.specs.Copying.{generation_in, is_ahead, is_ahead_by, HeadIs, Mirrors, Starts};
-ghost use Rattle.ar_journal.specs.Copying.{StartsFrom, files_batches, is_taken, Takes, TakenFrom, HasOneOf};
+ghost use Rattle.ar_journal.specs.Copying.{StartsFrom, files_batches, is_copy_taken, Takes, TakenFrom, HasOneOf};
 ghost use Rattle.ar_journal.specs.Files.{AreDurable};
 ghost use Rattle.ar_journal.specs.Journal.{IsReady, IsClean, IsAfter, ReadsLog, batches_now};
 
@@ -111,10 +111,10 @@ fn fill<M: Media>(
     requires place { IsTrue (M.is_clean from.old.active.media) → IsAfter (batches_now M.seen from.old) place }
     requires prefix { IsTrue (M.is_clean from.old.active.media) → IsTrue (M.is_clean to.active.media)
         → take place.number (batches_now M.seen from.old) ≡ batches_now M.seen to }
-    requires state { is_taken state ≡ false }
+    requires state { is_copy_taken state ≡ false }
 
     ensures mirrors { Mirrors M.seen M.may_leave M.is_clean from.new result.0 }
-    ensures state { is_taken result.1 ≡ false }
+    ensures state { is_copy_taken result.1 ≡ false }
     ensures reads { ReadsLog M.seen M.may_leave M.moment M.left_since M.is_clean from.old from.new }
     ensures ready { IsReady M.seen M.may_leave M.is_clean from.new }
 {
@@ -136,10 +136,10 @@ fn rewrite<M: Media>(
     state: CopyState,
 ) -> (Journal<M>, CopyState)
     requires from { IsReady M.seen M.may_leave M.is_clean from.old }
-    requires state { is_taken state ≡ false }
+    requires state { is_copy_taken state ≡ false }
 
     ensures mirrors { Mirrors M.seen M.may_leave M.is_clean from.new result.0 }
-    ensures state { is_taken result.1 ≡ false }
+    ensures state { is_copy_taken result.1 ≡ false }
     ensures reads { ReadsLog M.seen M.may_leave M.moment M.left_since M.is_clean from.old from.new }
     ensures ready { IsReady M.seen M.may_leave M.is_clean from.new }
 {
@@ -162,7 +162,7 @@ fn bring_up<M: Media>(
     requires to { IsReady M.seen M.may_leave M.is_clean to }
 
     ensures mirrors { Mirrors M.seen M.may_leave M.is_clean from.new result.0 }
-    ensures state { is_taken result.1 ≡ false }
+    ensures state { is_copy_taken result.1 ≡ false }
     ensures reads { ReadsLog M.seen M.may_leave M.moment M.left_since M.is_clean from.old from.new }
     ensures ready { IsReady M.seen M.may_leave M.is_clean from.new }
 {

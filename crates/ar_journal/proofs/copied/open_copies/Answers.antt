@@ -2,7 +2,7 @@ use Rattle.std.proofs.Common.{inl, inr, if◌then◌else◌, Bool, ap, subst}
 use Rattle.std.proofs.lemmas.Bool.{cases_Bool}
 use Rattle.ar_copies.specs.Copied.{copied_is_clean, copied_seen}
 use Rattle.ar_log.proofs.Ahead.{then_ok}
-use Rattle.ar_journal.specs.Copying.{HasOneOf, Shows, is_taken}
+use Rattle.ar_journal.specs.Copying.{HasOneOf, ShowsFiles, is_copy_taken}
 use Rattle.ar_journal.proofs.Showing.{has_one_of}
 use Rattle.ar_journal.proofs.Taking.{first_is, second_is, first_is_left}
 use Rattle.ar_journal.proofs.copied.open_copies.Goals as goal
@@ -13,7 +13,7 @@ returns-in-GivenUp-default-clause-batches g c =
     let seen = g.M.Media.seen in
     let is_clean = g.M.Media.is_clean in
     let has = second_is (HasOneOf seen is_clean c.args.first c.args.second) start
-    (ap is_taken c.in-GivenUp-default.is-0) c.in_ok-start.ensures.taken in
+    (ap is_copy_taken c.in-GivenUp-default.is-0) c.in_ok-start.ensures.taken in
     then_ok _ _ _ c.alone.result c.alone.ensures.shows c.alone.ensures.shows
     (λ made shows _ is. has_one_of seen is_clean (copied_seen seen) (copied_is_clean seen is_clean)
     g.M.Media.may_leave c.args.first c.args.second start.journal.second c.in_ok-other.other made.files
@@ -25,7 +25,7 @@ returns-in_default-GivenUp g c =
     let seen = g.M.Media.seen in
     let is_clean = g.M.Media.is_clean in
     let has = first_is_left (HasOneOf seen is_clean c.args.first c.args.second) start
-    (ap is_taken c.in_default-GivenUp.is-1) c.in_ok-start.ensures.taken in
+    (ap is_copy_taken c.in_default-GivenUp.is-1) c.in_ok-start.ensures.taken in
     record {
       durable = c.alone-in_default-GivenUp.ensures.durable;
       batches = then_ok _ _ _ c.alone-in_default-GivenUp.result c.alone-in_default-GivenUp.ensures.shows
@@ -48,9 +48,9 @@ returns-in_default g c =
       batches = then_ok _ _ _ c.both.result c.both.ensures.shows c.both.ensures.shows
           (λ made shows _ is.
           let S : Bool → Type 0 =
-          λ b. Shows seen is_clean seen_now clean_now (if b then c.in_ok-one.one else c.in_ok-other.other)
+          λ b. ShowsFiles seen is_clean seen_now clean_now (if b then c.in_ok-one.one else c.in_ok-other.other)
           made.files in
-          elim (cases_Bool (is_taken start.first)) [
+          elim (cases_Bool (is_copy_taken start.first)) [
             | inl first ↦ has_one_of seen is_clean seen_now clean_now g.M.Media.may_leave c.args.first
                 c.args.second start.journal.first c.in_ok-one.one made.files g.met.M.Media.seen_may_stay
                 c.in_ok-start.ensures.starts.ready.first
