@@ -1,7 +1,9 @@
 // Arrays whose units outlast the program: their stores are created, checked and served.
-ghost use Rattle.std.specs.Prelude.{◌≡◌, ◌≤◌, IfOk, length};
-ghost use Rattle.ar_media.specs.Regular.{regular_is_clean, regular_seen};
-ghost use Rattle.ar_copies.specs.Copied.{copied_is_clean, copied_seen};
+ghost use Rattle.std.specs.Prelude.{◌≡◌, ◌≤◌, IfOk, IsTrue, length};
+ghost use Rattle.ar_media.specs.Regular.{regular_is_clean, regular_may_leave, regular_seen};
+ghost use Rattle.ar_copies.specs.Copied.{copied_is_clean, copied_may_leave, copied_seen};
+ghost use Rattle.ar_journal.specs.Reader.{IsReading, batches_read};
+ghost use Rattle.ar_checkpoint.specs.Successor.{IsHeadAlone};
 ghost use Rattle.ar_durable.specs.Durable.{AreRecords};
 
 use crate::command_line::{RandomNumbers, Service};
@@ -492,6 +494,10 @@ fn restart_array<'a, R: ServiceRuntime>(
     opened: OpenedStore<'a>,
     began: Option<Instant>,
 ) -> Result<TakenUp<'a>, StoreCause>
+    requires reading { IsReading (copied_seen regular_seen) (copied_may_leave regular_seen regular_may_leave)
+        (copied_is_clean regular_seen regular_is_clean) opened.reader }
+    requires head { IsTrue (copied_is_clean regular_seen regular_is_clean opened.reader.active)
+        → IsHeadAlone (batches_read (copied_seen regular_seen) opened.reader) }
     ensures { IfOk result (λ taken. AreRecords (copied_seen regular_seen)
         (copied_is_clean regular_seen regular_is_clean) taken.2 taken.1.history) }
 {
