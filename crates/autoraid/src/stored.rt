@@ -455,15 +455,19 @@ fn take_up<'a, R: ServiceRuntime>(
             return Err(fault(alloc, folder_in(folders, is_second), error.into()));
         }
     };
-    if let Some(second) = folders.second {
-        tell_copy(rt, folders.first, opened.first);
-        tell_copy(rt, second, opened.second);
+    tell_copies(rt, folders, opened.first, opened.second);
+    match restart_array(rt, alloc, service, options, fuses, opened, began) {
+        Ok(taken) => Ok(taken),
+        Err(cause) => Err(fault(alloc, folders.first, cause)),
     }
-    restart_array(rt, alloc, service, options, fuses, opened, began).map_err(|cause| fault(
-        alloc,
-        folders.first,
-        cause,
-    ))
+}
+
+// Logs what the start made of each of two copies.
+fn tell_copies<R: Log>(rt: &R, folders: StoreFolders<'_>, first: CopyState, second: CopyState) {
+    if let Some(folder) = folders.second {
+        tell_copy(rt, folders.first, first);
+        tell_copy(rt, folder, second);
+    }
 }
 
 // Logs what the start made of a copy.
