@@ -335,9 +335,10 @@ fn serve_by<'s, R: ServiceRuntime + Sync>(
 ) -> Result<(TcpStops<'s, R>, Result<Closing, ServiceFault>), Failure> {
     let alloc = files.alloc();
     let (service, options, random) = asked;
-    let (head, live, store) = take_up(rt, files, alloc, service, options, fuses, losses).map_err(
-        Failure::Store,
-    )?;
+    let (head, live, store) = match take_up(rt, files, alloc, service, options, fuses, losses) {
+        Ok(taken) => taken,
+        Err(cause) => return Err(Failure::Store(cause)),
+    };
     let OperatorsEntry { listener, file } = OperatorsEntry::open(
         files,
         alloc,
