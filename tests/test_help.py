@@ -26,6 +26,7 @@ SUBCOMMANDS = {
             "--http": "PORT",
             "--http-host": "NAME localhost",
             "--iscsi": "PORT",
+            "--name": "64",
             "--login-timeout": "SECONDS default: 10",
             "--idle-timeout": "SECONDS",
             "--audit": "full off",
