@@ -1,7 +1,7 @@
 -- A cache as plain data: keys with blocks that the backing hasn't got yet.
 use Rattle.std.specs.Prelude.{◌≡◌, ◌≢◌, ◌⊎◌, ℕ, ◌-◌, ◌<◌, ◌≤◌, ◌==◌, ◌&&◌, not, Bool, IsTrue, IsSome, IfSome, List, []}
 use Rattle.std.specs.Prelude.{◌∷◌, ◌++◌, Option, Some, None, option_map, All, is_some, length, take, drop, reverse}
-use Rattle.std.specs.Prelude.{filter, nat_lt, unwrap_or, if◌then◌else◌}
+use Rattle.std.specs.Prelude.{count_by, filter, nat_lt, unwrap_or, if◌then◌else◌}
 use Rattle.std.specs.List.{IsDistinct}
 use Rattle.std.specs.Option.{option_map_or}
 use Rattle.std.specs.Map.{keys_of, lookup, remove_entry}
@@ -68,6 +68,10 @@ without_key es key = remove_entry (same_key key) es
 -- the entries without those of an address
 abbrev pub without_addr : List (Key × List ℕ) → Addr → List (Key × List ℕ)
 without_addr es addr = filter (λ e. not (same_addr addr e.0.addr)) es
+
+-- how many blocks of an address are cached
+abbrev pub cached_of : CacheState → Addr → ℕ
+cached_of cache addr = count_by (λ e. same_addr addr e.0.addr) cache.entries
 
 -- the entries without the least recently used
 abbrev pub without_last : List (Key × List ℕ) → List (Key × List ℕ)

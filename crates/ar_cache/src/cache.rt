@@ -54,7 +54,7 @@ impl Cache {
     ghost use Rattle.ar_cache.specs.Cache.{PutsBehind, PutAnswers};
     ghost use Rattle.ar_cache.specs.Cache.{Flushes, DestagesKey, DestagesLast, RemovesEntry, Empties, StopsAt};
     ghost use Rattle.ar_disks.specs.Addresses.{same_addr};
-    ghost use Rattle.ar_cache.specs.Cache.{answer_of, cached, seen, with_entries, with_room, without_addr, without_key};
+    ghost use Rattle.ar_cache.specs.Cache.{answer_of, cached, cached_of, seen, with_entries, with_room, without_addr, without_key};
     ghost use Rattle.ar_cache.specs.Cache.{without_last, turned};
 
     /// Creates an empty cache for `capacity` blocks (at most 65,536; 0 writes through). Fails if out of memory.
@@ -80,6 +80,16 @@ impl Cache {
         ensures sound { IsValidCache self.now }
     {
         self.entries.len()
+    }
+
+    /// Returns how many blocks of the unit at `addr` are cached.
+    pub fn len_of(&self, addr: Addr) -> usize
+        ensures { result ≡ cached_of self.now addr }
+    {
+        self.entries
+            .iter()
+            .filter(|entry| entry.0.addr == addr)
+            .count()
     }
 
     /// Returns how many entries were destaged: evicted or flushed, and not written through or discarded. The number

@@ -5,6 +5,7 @@ ghost use Rattle.ar_disks.specs.Geometry.{block_len_of, rows_of};
 ghost use Rattle.ar_disks.specs.declared.address.Addr.{Addr};
 ghost use Rattle.ar_book.specs.Tables.{room, reserved, free_groups};
 ghost use Rattle.ar_store.specs.Kept.{IsKept};
+ghost use Rattle.ar_cache.specs.Cache.{cached_of};
 ghost use Rattle.ar_volume.specs.Image.{is_broken, geometry_of, image, image_at, IsPadded, CacheAgrees};
 ghost use Rattle.ar_volume.specs.Sectors.{Address};
 ghost use Rattle.ar_unit.specs.Unit.{IsWhole};
@@ -128,6 +129,13 @@ impl<D: Disk> Array<D> {
         ensures { result ≡ length self.now.cache.entries }
     {
         self.blocks.cached_blocks()
+    }
+
+    /// Returns the number of cached blocks of the unit at `addr`.
+    pub fn cached_blocks_of(&self, addr: Addr) -> usize
+        ensures { result ≡ cached_of self.now.cache addr }
+    {
+        self.blocks.cached_blocks_of(addr)
     }
 
     /// How many groups are free.

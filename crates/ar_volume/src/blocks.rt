@@ -8,7 +8,7 @@ ghost use Rattle.ar_extents.specs.Set.{HasExtent};
 ghost use Rattle.ar_extents.specs.Access.{Gets, is_read};
 ghost use Rattle.ar_extents.specs.Plans.{Attempts, read_at};
 ghost use Rattle.ar_book.specs.Tables.{has_unit};
-ghost use Rattle.ar_cache.specs.Cache.{cached};
+ghost use Rattle.ar_cache.specs.Cache.{cached, cached_of};
 ghost use Rattle.ar_volume.specs.Image.{is_broken, geometry_of, seen_at, knows_in, attention_at};
 ghost use Rattle.ar_volume.specs.Following.{ArrayFollows};
 ghost use Rattle.ar_volume.specs.Laws.{follows_refl, follows_then};
@@ -168,6 +168,13 @@ impl<D: Disk> Blocks<D> {
         ensures { result ≡ length self.now.cache.entries }
     {
         self.cache.len()
+    }
+
+    /// Returns the number of cached blocks of the unit at `addr`.
+    pub fn cached_blocks_of(&self, addr: Addr) -> usize
+        ensures { result ≡ cached_of self.now.cache addr }
+    {
+        self.cache.len_of(addr)
     }
 
     /// Returns the geometry of the blocks.

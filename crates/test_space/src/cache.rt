@@ -37,6 +37,8 @@ enum Call {
     Forget(Unit),
     /// How many blocks are cached.
     Len,
+    /// How many of them are a unit's.
+    LenOf(Unit),
     /// How many reads and writes came to the shelf.
     Asked,
 }
@@ -140,6 +142,7 @@ impl Rig {
             Call::FlushAll => stored(self.cache.flush_all(&mut self.shelf)),
             Call::Forget(unit) => self.forget(addr(rt, unit)),
             Call::Len => Answer::Len(self.cache.len()),
+            Call::LenOf(unit) => Answer::Len(self.cache.len_of(addr(rt, unit))),
             Call::Asked => self.asked(),
         }
     }
@@ -275,6 +278,28 @@ fn a_block_put_again_is_flushed_last(rt: HostRuntime) -> Result<(), Fail> {
             (Call::FlushOne, Answer::Flushed(FIRST)),
             (Call::FlushOne, Answer::Idle),
             (Call::Read(FIRST), Answer::Byte(3)),
+        ],
+    )
+}
+
+#[test]
+fn blocks_of_each_unit(rt: HostRuntime) -> Result<(), Fail> {
+    run(
+        &rt,
+        SOUND,
+        &[
+            (Call::LenOf((0, 0)), Answer::Len(0)),
+            (Call::Put(FIRST, 1), Answer::Done),
+            (Call::Put(OF_ANOTHER_HOST, 2), Answer::Done),
+            (Call::Put(OF_ANOTHER_UNIT, 3), Answer::Done),
+            (Call::Put(SECOND, 4), Answer::Done),
+            (Call::LenOf((0, 0)), Answer::Len(2)),
+            (Call::LenOf((1, 0)), Answer::Len(1)),
+            (Call::LenOf((0, 1)), Answer::Len(1)),
+            (Call::LenOf((1, 1)), Answer::Len(0)),
+            (Call::Forget((0, 0)), Answer::Done),
+            (Call::LenOf((0, 0)), Answer::Len(0)),
+            (Call::LenOf((0, 1)), Answer::Len(1)),
         ],
     )
 }
