@@ -44,6 +44,7 @@ pub use request::{
 };
 pub use reset_port::{ResetOutcome, ResetPort};
 pub use translation::data_out_len;
+pub use vpd::serial_number;
 
 /// Law: each command block that the array executes is given to the port, untouched.
 pub fn commands_are_given()

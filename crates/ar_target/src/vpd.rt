@@ -29,8 +29,8 @@ fn hex_digit(value: u8) -> u8
     }
 }
 
-// The serial number of a unit: its array, host and LUN in hexadecimal digits.
-fn serial_number(array: u32, host: u8, lun: u8) -> [u8; 12]
+/// The serial number of a unit: its array, host and LUN in hexadecimal digits.
+pub fn serial_number(array: u32, host: u8, lun: u8) -> [u8; 12]
     ensures { result ≡ page.serial_number array host lun }
 {
     let number = array.to_be_bytes();
