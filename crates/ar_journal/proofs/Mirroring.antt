@@ -1,5 +1,5 @@
 -- Two copies, each by itself.
-use Rattle.std.proofs.Common.{◌≡◌, ◌⊎◌, inl, inr, ⊎_elim, ℕ, Bool, true, false, List, [], ◌∷◌, ◌++◌, Result, Ok, Err}
+use Rattle.std.proofs.Common.{◌≡◌, inl, inr, ⊎_elim, ℕ, Bool, true, false, List, [], ◌++◌, Result, Ok, Err}
 use Rattle.std.proofs.Common.{IfErr, refl, sym, ◌∙◌, ap, subst}
 use Rattle.std.proofs.lemmas.Bool.{cases_Bool}
 use Rattle.std.proofs.lemmas.List.{append-nil}
@@ -9,7 +9,7 @@ use Rattle.ar_log.specs.Log.{IsBeforeOrAfter}
 use Rattle.ar_log.specs.declared.error.LogError.{LogError}
 use Rattle.ar_log.specs.declared.error.LogError.TheVariants.{Memory, Refused, Failed, Closed, TooLong, NotALog}
 use Rattle.ar_log.specs.declared.error.LogError.TheVariants.{OtherVersion, Damaged}
-use Rattle.ar_journal.specs.Journal.{LeavesJournal, batches_now}
+use Rattle.ar_journal.specs.Journal.{LeavesJournal}
 use Rattle.ar_journal.specs.Mirror.{is_of_caller, closed_copy, StaysOrCloses, LeavesCopy, CopyHas, IsSound, HasBatches}
 use Rattle.ar_journal.specs.Mirror.{EachLeaves, StaysGivenUp}
 use Rattle.ar_journal.specs.declared.journal.Journal.{Journal}

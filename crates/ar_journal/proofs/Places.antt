@@ -1,6 +1,6 @@
 -- Places of a log, by its batches.
 use Rattle.std.proofs.Common.{◌≡◌, ℕ, zero, suc, ◌+◌, ◌≤◌, List, [], ◌∷◌, ◌++◌, length, take, drop, refl, sym, ◌∙◌, ap}
-use Rattle.std.proofs.Common.{subst, arith, append_assoc, length-append, length-take, take-append-drop}
+use Rattle.std.proofs.Common.{subst, arith, append_assoc, length-append, take-append-drop}
 use Rattle.std.proofs.lemmas.List.{length-take-le, take_at, take-take, drop-take}
 use Rattle.ar_log.specs.Codec.{Batch, encoded, sealed}
 use Rattle.ar_log.specs.Log.{magic, AreBatchesFrom, HoldsBatches, batches_len, batches_of}

@@ -1,6 +1,6 @@
 -- Reads leave a journal as it was.
-use Rattle.std.proofs.Common.{◌≡◌, inl, inr, ⊎_elim, ℕ, ◌+◌, ◌≤◌, Bool, false, List, length, Result, Ok, Err, OnOk}
-use Rattle.std.proofs.Common.{IsTrue, refl, sym, ◌∙◌, ap, subst, arith}
+use Rattle.std.proofs.Common.{◌≡◌, inl, inr, ⊎_elim, ℕ, ◌+◌, Bool, false, List, length, Result, Ok, Err, OnOk}
+use Rattle.std.proofs.Common.{IsTrue, sym, ◌∙◌, ap, subst, arith}
 use Rattle.ar_media.specs.Media.{Elapses, LeavesOnly}
 use Rattle.ar_log.specs.Codec.{Batch}
 use Rattle.ar_log.specs.Log.{HoldsBatches, batches_len, batches_of, IsSynced}

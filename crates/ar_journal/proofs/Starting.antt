@@ -1,6 +1,6 @@
 -- Two copies that start.
-use Rattle.std.proofs.Common.{◌≡◌, ◌⊎◌, inl, inr, ℕ, zero, suc, Bool, true, false, if◌then◌else◌, List, [], ◌∷◌, get_or}
-use Rattle.std.proofs.Common.{take, IsTrue, refl, sym, ◌∙◌, ap, subst}
+use Rattle.std.proofs.Common.{◌≡◌, inl, inr, ℕ, zero, suc, Bool, true, false, if◌then◌else◌, List, [], ◌∷◌, get_or}
+use Rattle.std.proofs.Common.{take, IsTrue, sym, ◌∙◌, ap, subst}
 use Rattle.ar_log.specs.Codec.{Batch}
 use Rattle.ar_log.specs.Log.{batches_of}
 use Rattle.ar_journal.specs.Copying.{generation_in, generation, Mirrors, Starts}

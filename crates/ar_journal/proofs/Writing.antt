@@ -1,5 +1,5 @@
 -- What calls leave of a journal.
-use Rattle.std.proofs.Common.{◌≡◌, ◌⊎◌, inl, inr, ℕ, ◌≤◌, Bool, true, false, List, ◌++◌, [], ◌∷◌, Result, Ok, Err, OnOk}
+use Rattle.std.proofs.Common.{◌≡◌, inl, inr, ℕ, Bool, true, false, List, Result, Ok, Err, OnOk}
 use Rattle.std.proofs.Common.{IfErr, IsTrue, refl, sym, ◌∙◌, ap, subst}
 use Rattle.std.proofs.lemmas.Bool.{cases_Bool}
 use Rattle.ar_media.specs.Media.{LeavesOnly}
@@ -12,7 +12,7 @@ use Rattle.ar_log.specs.declared.error.LogError.TheVariants.{Memory, Refused, Fa
 use Rattle.ar_log.specs.declared.error.LogError.TheVariants.{OtherVersion, Damaged}
 use Rattle.ar_log.specs.declared.log.Log.{Log}
 use Rattle.ar_media.proofs.Moments.{started}
-use Rattle.ar_journal.specs.Journal.{Names, IsReady, LeavesJournal, ClosesJournal}
+use Rattle.ar_journal.specs.Journal.{Names, IsReady, LeavesJournal}
 use Rattle.ar_journal.specs.declared.journal.Journal.{Journal}
 use Rattle.ar_journal.proofs.Naming.{of_named}
 

@@ -1,5 +1,5 @@
 -- Two copies of a journal.
-use Rattle.std.specs.Prelude.{◌≡◌, ◌⊎◌, ℕ, ◌+◌, Bool, true, false, List, [], ◌∷◌, ◌++◌}
+use Rattle.std.specs.Prelude.{◌≡◌, ◌⊎◌, ℕ, ◌+◌, Bool, true, false, List, ◌++◌}
 use Rattle.ar_log.specs.Codec.{Batch}
 use Rattle.ar_log.specs.Log.{IsBeforeOrAfter}
 use Rattle.ar_log.specs.declared.error.LogError.{LogError}

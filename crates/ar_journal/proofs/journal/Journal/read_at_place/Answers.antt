@@ -1,4 +1,4 @@
-use Rattle.std.proofs.Common.{◌≡◌, ◌+◌, ◌≤◌, ℕ, List, length, IsTrue, refl, ◌∙◌, subst, arith}
+use Rattle.std.proofs.Common.{◌≡◌, ◌+◌, ℕ, List, length, refl, ◌∙◌, subst, arith}
 use Rattle.ar_log.specs.Codec.{Batch, items_of}
 use Rattle.ar_log.specs.Log.{HoldsBatches, batches_of}
 use Rattle.ar_log.specs.Reading.{batches_before, IsAt, ReadsOn}

@@ -1,4 +1,4 @@
-use Rattle.std.proofs.Common.{◌≡◌, ◌≤◌, ℕ, List, length, false, true, IsTrue, ⊎_elim, refl, sym, ◌∙◌, ap, arith}
+use Rattle.std.proofs.Common.{◌≡◌, ◌≤◌, length, true, ⊎_elim, refl, ◌∙◌, ap, arith}
 use Rattle.ar_log.specs.Failure.{is_final}
 use Rattle.ar_log.specs.Log.{HoldsBatches, batches_of}
 use Rattle.ar_journal.proofs.Naming.{of_either, torn_some, named_some}

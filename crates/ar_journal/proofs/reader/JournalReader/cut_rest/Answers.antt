@@ -1,4 +1,4 @@
-use Rattle.std.proofs.Common.{◌≡◌, ℕ, List, IsTrue, refl, sym, ◌∙◌, ap, subst}
+use Rattle.std.proofs.Common.{ℕ, List, IsTrue, sym, subst}
 use Rattle.ar_media.proofs.Moments.{then_goes_on}
 use Rattle.ar_log.specs.Log.{HoldsBatches, batches_of}
 use Rattle.ar_log.proofs.Whole.{read_run}

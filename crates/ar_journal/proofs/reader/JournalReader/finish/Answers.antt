@@ -1,4 +1,4 @@
-use Rattle.std.proofs.Common.{◌≡◌, List, ℕ, IsTrue, ◌∙◌, ap, subst}
+use Rattle.std.proofs.Common.{IsTrue, ◌∙◌, ap, subst}
 use Rattle.ar_log.specs.Log.{batches_of}
 use Rattle.ar_log.proofs.Standing.{batches_of_stands}
 use Rattle.ar_journal.proofs.reader.JournalReader.finish.Goals as goal
