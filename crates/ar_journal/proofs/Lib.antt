@@ -1,4 +1,5 @@
 pub mod Copies
+pub mod Further
 pub mod Mirroring
 pub mod Naming
 pub mod Places

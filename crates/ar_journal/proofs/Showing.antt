@@ -1,8 +1,8 @@
 -- Files that show what others do.
 use Rattle.std.proofs.Common.{◌≡◌, ◌⊎◌, inl, inr, ⊎_elim, ℕ, Bool, true, false, if◌then◌else◌, List, IsTrue, sym, ◌∙◌}
-use Rattle.std.proofs.Common.{ap, subst}
+use Rattle.std.proofs.Common.{Option, IfSome, ap, subst}
 use Rattle.ar_log.specs.Log.{batches_of}
-use Rattle.ar_journal.specs.Copying.{files_batches, HasOneOf, AreOf, ShowsFiles}
+use Rattle.ar_journal.specs.Copying.{files_batches, HasOneOf, AreOf, HasCleanFiles, ShowsFiles}
 use Rattle.ar_journal.specs.Files.{AreClean}
 use Rattle.ar_journal.specs.Journal.{IsReady, Names, journal_batches, batches_now}
 use Rattle.ar_journal.specs.declared.files.JournalFiles.{JournalFiles}
@@ -23,6 +23,40 @@ module _ {M N : Type 0} (seen : M → List ℕ) (is_clean : M → Bool) (seen_no
   clean_active true files clean = clean.second
   clean_active false files clean = clean.first
 
+  clean_spare : (is_second : Bool) (files : JournalFiles M) → AreClean is_clean files
+      → IsTrue (is_clean (if is_second then files.first else files.second))
+  clean_spare true files clean = clean.first
+  clean_spare false files clean = clean.second
+
+  -- a journal is as clean as its files
+  pub all_clean : (journal : Journal M) (files : JournalFiles M) → AreOf journal files → AreClean is_clean files
+      → HasCleanFiles is_clean journal
+  all_clean journal files are clean =
+      let C : M → Type 0 = λ m. IsTrue (is_clean m) in
+      let S : Option M → Type 0 = λ o. IfSome o (λ spare. IsTrue (is_clean spare)) in
+      record {
+        named = record {
+          selector = subst C are.selector clean.selector;
+          active = subst C are.active (clean_active journal.is_second files clean);
+        };
+        spare = subst S are.spare (clean_spare journal.is_second files clean);
+      }
+
+  -- the files of an open journal show its batches
+  pub show_batches : (may_leave : M → List ℕ → Type 0) (journal : Journal M) (files : JournalFiles M)
+      (now : JournalFiles N) → ((m : M) → may_leave m (seen m)) → IsReady seen may_leave is_clean journal
+      → journal.active.is_closed ≡ false → AreOf journal files → ShowsFiles seen is_clean seen_now clean_now files now
+      → AreClean clean_now now → files_batches seen_now now ≡ batches_now seen journal
+  show_batches may_leave journal files now stays ready is_open are shows is =
+      let N : List ℕ → Type 0 = λ s. Names journal.is_second s in
+      let clean = all_clean journal files are (shows.clean is) in
+      let named : Names journal.is_second (seen files.selector) =
+      subst N (sym (ap seen are.selector)) (ready.named is_open clean.named.selector (seen journal.selector)
+      (stays journal.selector)) in
+      shows.same is
+      ∙ ap batches_of
+      (chosen_is seen journal.is_second (seen files.selector) files.first files.second named ∙ ap seen are.active)
+
   -- the files of a journal that has the batches of one of these
   pub has_one_of : (may_leave : M → List ℕ → Type 0) (one other : JournalFiles M) (journal : Journal M)
       (files : JournalFiles M) (now : JournalFiles N) → ((m : M) → may_leave m (seen m))
@@ -30,17 +64,5 @@ module _ {M N : Type 0} (seen : M → List ℕ) (is_clean : M → Bool) (seen_no
       → ShowsFiles seen is_clean seen_now clean_now files now → AreClean clean_now now
       → (files_batches seen_now now ≡ files_batches seen one) ⊎ (files_batches seen_now now ≡ files_batches seen other)
   has_one_of may_leave one other journal files now stays ready has are shows is =
-      let C : M → Type 0 = λ m. IsTrue (is_clean m) in
-      let N : List ℕ → Type 0 = λ s. Names journal.is_second s in
-      let clean = shows.clean is in
-      let selector : IsTrue (is_clean journal.selector) = subst C are.selector clean.selector in
-      let active : IsTrue (is_clean journal.active.media) =
-      subst C are.active (clean_active journal.is_second files clean) in
-      let named : Names journal.is_second (seen files.selector) =
-      subst N (sym (ap seen are.selector)) (ready.named has.goes_on selector (seen journal.selector)
-      (stays journal.selector)) in
-      let same : files_batches seen_now now ≡ batches_now seen journal =
-      shows.same is
-      ∙ ap batches_of
-      (chosen_is seen journal.is_second (seen files.selector) files.first files.second named ∙ ap seen are.active) in
-      ⊎_elim (λ e. inl (same ∙ e)) (λ e. inr (same ∙ e)) (has.has (record { selector = selector; active = active }))
+      let same = show_batches may_leave journal files now stays ready has.goes_on are shows is in
+      ⊎_elim (λ e. inl (same ∙ e)) (λ e. inr (same ∙ e)) (has.has (all_clean journal files are (shows.clean is)).named)

@@ -1,6 +1,6 @@
 -- One copy of a journal and another.
 use Rattle.std.specs.Prelude.{◌≡◌, ◌⊎◌, ℕ, ◌==◌, Bool, false, not, ◌&&◌, ◌||◌, nat_lt, if◌then◌else◌}
-use Rattle.std.specs.Prelude.{List, [], ◌∷◌, length, take, drop, Some, IsTrue, true}
+use Rattle.std.specs.Prelude.{List, [], ◌∷◌, length, take, drop, Some, IfSome, IsTrue, true}
 use Rattle.std.specs.Int.{w64, from_be_bytes}
 use Rattle.ar_log.specs.Codec.{Batch}
 use Rattle.ar_log.specs.declared.place.Place.{Place}
@@ -10,7 +10,7 @@ use Rattle.ar_journal.specs.Files.{AreClean}
 use Rattle.ar_journal.specs.declared.files.JournalFiles.{JournalFiles}
 use Rattle.ar_journal.specs.declared.journal.Journal.{Journal}
 use Rattle.ar_journal.specs.declared.mirror_start.CopyState.{CopyState}
-use Rattle.ar_journal.specs.declared.mirror_start.CopyState.TheVariants.{Taken}
+use Rattle.ar_journal.specs.declared.mirror_start.CopyState.TheVariants.{Taken, Restored, GivenUp}
 use Rattle.ar_journal.specs.declared.mirror_start.MirrorStart.{MirrorStart}
 use Rattle.ar_journal.specs.declared.mirrored.MirroredJournal.{MirroredJournal}
 
@@ -101,6 +101,52 @@ pub record HasOneOf {M : Type 0} (seen : M → List ℕ) (is_clean : M → Bool)
   pub goes_on : journal.active.is_closed ≡ false
   pub has : IsClean is_clean journal → (batches_now seen journal ≡ files_batches seen one)
       ⊎ (batches_now seen journal ≡ files_batches seen other)
+
+-- no read of any file of the journal has returned other bytes than were written
+pub record HasCleanFiles {M : Type 0} (is_clean : M → Bool) (journal : Journal M) : Type 0 where
+  pub named : IsClean is_clean journal
+  pub spare : IfSome journal.spare (λ spare. IsTrue (is_clean spare))
+
+-- no read of a file of either copy has, whatever became of the copy
+pub record HaveCleanFiles {M : Type 0} (is_clean : M → Bool) (mirror : MirroredJournal M) : Type 0 where
+  pub first : HasCleanFiles is_clean mirror.first
+  pub second : HasCleanFiles is_clean mirror.second
+
+-- of a later generation than each of these or, in the same one, of no fewer batches
+pub record IsAsFar (batches one other : List Batch) : Type 0 where
+  pub first : is_ahead batches one ≡ true
+  pub second : is_ahead batches other ≡ true
+
+-- Both copies were read, and the one that was taken is as far as each of these, while no read of a file of either has
+-- returned other bytes than were written.
+pub record IsFurther {M : Type 0} (seen : M → List ℕ) (is_clean : M → Bool) (one other : Journal M)
+    (start : MirrorStart M) : Type 0 where
+  pub compared : start.are_compared ≡ true
+  pub clean : HaveCleanFiles is_clean start.journal → IsClean is_clean one × IsClean is_clean other
+  pub takes : HaveCleanFiles is_clean start.journal
+      → Takes (λ journal. IsAsFar (batches_now seen journal) (batches_now seen one) (batches_now seen other)) start
+
+-- the copy may not have been read, so that it wasn't compared with the other
+abbrev pub is_unread : CopyState → Bool
+is_unread (Restored error) = true
+is_unread (GivenUp error) = true
+is_unread state = false
+
+-- One copy was taken, which has the batches of one of these. Where both were read it is as far as each of them.
+pub record TakesFurther {M : Type 0} (seen : M → List ℕ) (is_clean : M → Bool) (one other : JournalFiles M)
+    (start : MirrorStart M) : Type 0 where
+  pub taken : Takes (HasOneOf seen is_clean one other) start
+  pub further : start.are_compared ≡ true → HaveCleanFiles is_clean start.journal
+      → Takes (λ journal. IsAsFar (batches_now seen journal) (files_batches seen one) (files_batches seen other)) start
+  pub compared : start.are_compared ≡ false → (is_unread start.first ≡ true) ⊎ (is_unread start.second ≡ true)
+
+-- both copies were read and go on, as these states say, and these files are clean only if those of both copies are
+pub record BothGoOn {M N : Type 0} (is_clean : M → Bool) (clean_now : N → Bool) (one other : JournalFiles M)
+    (state others now_state now_others : CopyState) (now : JournalFiles N) : Type 0 where
+  pub first_state : now_state ≡ state
+  pub second_state : now_others ≡ others
+  pub first : AreClean clean_now now → AreClean is_clean one
+  pub second : AreClean clean_now now → AreClean is_clean other
 
 -- the files of this journal
 pub record AreOf {M : Type 0} (journal : Journal M) (files : JournalFiles M) : Type 0 where

@@ -1,8 +1,9 @@
 //! A journal whose files are kept in two copies of the same bytes.
-ghost use Rattle.std.specs.Prelude.{◌≡◌, ◌⊎◌, if◌then◌else◌, IfOk, OnOk};
+ghost use Rattle.std.specs.Prelude.{◌≡◌, ◌⊎◌, if◌then◌else◌, false, IfOk, OnOk};
 ghost use Rattle.ar_media.specs.Media.{Only};
 ghost use Rattle.ar_copies.specs.Copied.{copied_is_clean, copied_may_leave, copied_seen};
 ghost use Rattle.ar_journal.specs.Copying.{AreOf, ShowsFiles, files_batches, is_copy_taken};
+ghost use Rattle.ar_journal.specs.Copying.{BothGoOn, IsAsFar, is_unread};
 ghost use Rattle.ar_journal.specs.Files.{AreClean, AreDurable, ShowSame, Stay};
 
 use crate::{CopyState, Journal, JournalFiles, MirroredJournal, open_mirrored};
@@ -55,6 +56,12 @@ pub fn open_copies<'a, M: Media + Drop>(
     ensures batches { IfOk result (λ start. AreClean (copied_is_clean M.seen M.is_clean) start.files
         → (files_batches (copied_seen M.seen) start.files ≡ files_batches M.seen first)
         ⊎ (files_batches (copied_seen M.seen) start.files ≡ files_batches M.seen second)) }
+
+    // Where both copies were read and go on, these are the batches of the one that is further.
+    ensures further { IfOk result (λ start. is_unread start.first ≡ false → is_unread start.second ≡ false
+        → AreClean (copied_is_clean M.seen M.is_clean) start.files
+        → IsAsFar (files_batches (copied_seen M.seen) start.files) (files_batches M.seen first)
+        (files_batches M.seen second)) }
 {
     let start = open_mirrored(alloc, first, second)?;
     let (first, second) = (start.first, start.second);
@@ -86,6 +93,10 @@ fn both<'a, M: Media + Drop>(
     // They show what the copy that was taken does.
     ensures shows { IfOk result (λ start. ShowsFiles M.seen M.is_clean (copied_seen M.seen)
         (copied_is_clean M.seen M.is_clean) (if is_copy_taken states.0 then one else other) start.files) }
+
+    ensures kept { IfOk result (λ start. is_unread start.first ≡ false → is_unread start.second ≡ false
+        → BothGoOn M.is_clean (copied_is_clean M.seen M.is_clean) one other states.0 states.1 start.first
+        start.second start.files) }
 {
     let (mut one, mut other) = (one, other);
     let is_first_taken = is_copy_taken(&states.0);
@@ -127,6 +138,7 @@ fn alone<'a, M: Media + Drop>(
         AreDurable (copied_seen M.seen) (copied_may_leave M.seen M.may_leave) start.files) }
     ensures shows { IfOk result (λ start. ShowsFiles M.seen M.is_clean (copied_seen M.seen)
         (copied_is_clean M.seen M.is_clean) files start.files) }
+    ensures states { IfOk result (λ start. (start.first ≡ states.0) × (start.second ≡ states.1)) }
 {
     let mut files = files;
     sync_all(&mut files).map_err(LogError::Failed)?;
@@ -171,6 +183,7 @@ fn make_same<M: Media>(
 ) -> Result<(), MediaError>
     ensures same { OnOk result (ShowSame M.seen M.is_clean from.new to.new) }
     ensures from { Stay M.seen M.is_clean from.old from.new }
+    ensures to { AreClean M.is_clean to.new → AreClean M.is_clean to.old }
 {
     let has_selector = are_same(alloc, &mut from.selector, &mut to.selector)?;
     let has_first = are_same(alloc, &mut from.first, &mut to.first)?;

@@ -1,7 +1,7 @@
 //! One copy of a journal brought up to another.
 ghost use Rattle.std.specs.Prelude.{◌≡◌, OnOk, IfOk, IfSome, IsTrue, true};
 ghost use Rattle.ar_log.specs.Codec.{items_of};
-ghost use Rattle.ar_journal.specs.Journal.{IsReady, IsAfter, ReadsLog, batches_now};
+ghost use Rattle.ar_journal.specs.Journal.{IsReady, IsAfter, ReadsLog, KeepsOthers, batches_now};
 ghost use Rattle.ar_journal.specs.Copying.{IsPrefix, IsCopied};
 
 use crate::{Journal, first_place};
@@ -77,6 +77,7 @@ pub fn copy_rest<M: Media>(
     ensures from_ready { IsReady M.seen M.may_leave M.is_clean from.new }
     ensures to_ready { IsReady M.seen M.may_leave M.is_clean to.new }
     ensures to_clean { M.is_clean to.new.active.media ≡ M.is_clean to.old.active.media }
+    ensures to_others { KeepsOthers to.old to.new }
 {
     let mut place = place;
     'copying: loop {

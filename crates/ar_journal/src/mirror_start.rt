@@ -3,8 +3,9 @@
 ghost use Rattle.std.specs.Prelude.{◌≡◌, ◌⊎◌, ◌≤◌, [], ◌∷◌, length, take, IfOk, IfSome, IsTrue, true, false};
 ghost use Rattle.ar_log.specs.Codec.{items_of};
 ghost use Rattle.ar_journal.specs.Copying.{generation_in, is_ahead, is_ahead_by, HeadIs, Mirrors, Starts};
-ghost use Rattle.ar_journal.specs.Copying.{StartsFrom, files_batches, is_copy_taken, Takes, TakenFrom, HasOneOf};
-ghost use Rattle.ar_journal.specs.Files.{AreDurable};
+ghost use Rattle.ar_journal.specs.Copying.{StartsFrom, files_batches, is_copy_taken, Takes, TakenFrom};
+ghost use Rattle.ar_journal.specs.Copying.{HasCleanFiles, IsFurther, is_unread, TakesFurther};
+ghost use Rattle.ar_journal.specs.Files.{AreClean, AreDurable};
 ghost use Rattle.ar_journal.specs.Journal.{IsReady, IsClean, IsAfter, ReadsLog, batches_now};
 
 use crate::copying::{copy_rest, place_after};
@@ -34,6 +35,8 @@ pub struct MirrorStart<M: Media> {
     pub journal: MirroredJournal<M>,
     pub first: CopyState,
     pub second: CopyState,
+    /// Whether both copies were read, so that the further one is taken.
+    pub are_compared: bool,
 }
 
 /// The generation that a head names in its bytes 1 to 8, big-endian. A shorter head is of generation 0.
@@ -83,7 +86,8 @@ fn read_head<M: Media>(
 
 /// A closed journal of these files, for a copy that is given up.
 fn closed_journal<M: Media>(files: JournalFiles<M>) -> Journal<M>
-    ensures { result.active.is_closed ≡ true }
+    ensures closed { result.active.is_closed ≡ true }
+    ensures clean { HasCleanFiles M.is_clean result → AreClean M.is_clean files }
 {
     Journal {
         selector: files.selector,
@@ -115,8 +119,10 @@ fn fill<M: Media>(
 
     ensures mirrors { Mirrors M.seen M.may_leave M.is_clean from.new result.0 }
     ensures state { is_copy_taken result.1 ≡ false }
+    ensures unread { is_unread state ≡ true → is_unread result.1 ≡ true }
     ensures reads { ReadsLog M.seen M.may_leave M.moment M.left_since M.is_clean from.old from.new }
     ensures ready { IsReady M.seen M.may_leave M.is_clean from.new }
+    ensures clean { HasCleanFiles M.is_clean result.0 → HasCleanFiles M.is_clean to }
 {
     let mut to = to;
     match copy_rest(alloc, from, &mut to, place) {
@@ -140,8 +146,10 @@ fn rewrite<M: Media>(
 
     ensures mirrors { Mirrors M.seen M.may_leave M.is_clean from.new result.0 }
     ensures state { is_copy_taken result.1 ≡ false }
+    ensures unread { is_unread state ≡ true → is_unread result.1 ≡ true }
     ensures reads { ReadsLog M.seen M.may_leave M.moment M.left_since M.is_clean from.old from.new }
     ensures ready { IsReady M.seen M.may_leave M.is_clean from.new }
+    ensures clean { HasCleanFiles M.is_clean result.0 → AreClean M.is_clean files }
 {
     match read_head(alloc, from) {
         Err(error) => (closed_journal(files), CopyState::GivenUp(error)),
@@ -165,6 +173,7 @@ fn bring_up<M: Media>(
     ensures state { is_copy_taken result.1 ≡ false }
     ensures reads { ReadsLog M.seen M.may_leave M.moment M.left_since M.is_clean from.old from.new }
     ensures ready { IsReady M.seen M.may_leave M.is_clean from.new }
+    ensures clean { HasCleanFiles M.is_clean result.0 → IsClean M.is_clean to }
 {
     let mut to = to;
     match place_after(alloc, from, &mut to) {
@@ -237,6 +246,7 @@ fn start_both<M: Media + Drop>(
         ⊎ Starts M.seen M.may_leave M.is_clean other start.journal) }
     ensures taken { IfOk result (λ start. Takes (TakenFrom M.seen M.is_clean one) start
         ⊎ Takes (TakenFrom M.seen M.is_clean other) start) }
+    ensures further { IfOk result (λ start. IsFurther M.seen M.is_clean one other start) }
 {
     let mut one = one;
     let mut other = other;
@@ -244,11 +254,11 @@ fn start_both<M: Media + Drop>(
         Err(error) => Err(error),
         Ok(true) => {
             let (second, state) = bring_up(alloc, &mut one, other);
-            Ok(started(one, CopyState::Taken, second, state))
+            Ok(started(one, CopyState::Taken, second, state, true))
         }
         Ok(false) => {
             let (first, state) = bring_up(alloc, &mut other, one);
-            Ok(started(first, state, other, CopyState::Taken))
+            Ok(started(first, state, other, CopyState::Taken, true))
         }
     }
 }
@@ -265,13 +275,14 @@ fn restore_second<M: Media + Drop>(
 
     ensures starts { IfOk result (λ start. Starts M.seen M.may_leave M.is_clean one start.journal) }
     ensures taken { IfOk result (λ start. Takes (TakenFrom M.seen M.is_clean one) start) }
+    ensures unread { IfOk result (λ start. (start.are_compared ≡ false) × (is_unread start.second ≡ true)) }
 {
     if !is_lost(&error) {
         return Err(error);
     }
     let mut one = one;
     let (second, state) = rewrite(alloc, &mut one, files, CopyState::Restored(error));
-    Ok(started(one, CopyState::Taken, second, state))
+    Ok(started(one, CopyState::Taken, second, state, false))
 }
 
 /// Takes the second copy, and rewrites the first.
@@ -286,10 +297,11 @@ fn restore_first<M: Media>(
 
     ensures starts { Starts M.seen M.may_leave M.is_clean other result.journal }
     ensures taken { Takes (TakenFrom M.seen M.is_clean other) result }
+    ensures unread { (result.are_compared ≡ false) × (is_unread result.first ≡ true) }
 {
     let mut other = other;
     let (first, state) = rewrite(alloc, &mut other, files, CopyState::Restored(error));
-    started(first, state, other, CopyState::Taken)
+    started(first, state, other, CopyState::Taken, false)
 }
 
 /// A mirrored journal of two copies.
@@ -298,11 +310,13 @@ fn started<M: Media>(
     first_state: CopyState,
     second: Journal<M>,
     second_state: CopyState,
+    are_compared: bool,
 ) -> MirrorStart<M>
     ensures first { result.journal.first ≡ first }
     ensures second { result.journal.second ≡ second }
     ensures first_state { result.first ≡ first_state }
     ensures second_state { result.second ≡ second_state }
+    ensures compared { result.are_compared ≡ are_compared }
 {
     MirrorStart {
         journal: MirroredJournal {
@@ -313,6 +327,7 @@ fn started<M: Media>(
         },
         first: first_state,
         second: second_state,
+        are_compared,
     }
 }
 
@@ -366,8 +381,8 @@ pub fn open_mirrored<M: Media + Drop>(
 
     // It has the batches of one of the copies, in each that isn't given up.
     ensures starts { IfOk result (λ start. StartsFrom M.seen M.may_leave M.is_clean first second start.journal) }
-    // The copy that was taken has them, whatever became of the other.
-    ensures taken { IfOk result (λ start. Takes (HasOneOf M.seen M.is_clean first second) start) }
+    // The copy that was taken has them, whatever became of the other, and is the further one.
+    ensures taken { IfOk result (λ start. TakesFurther M.seen M.is_clean first second start) }
 {
     match start_copy(alloc, first) {
         Ok(one) => match start_copy(alloc, second) {

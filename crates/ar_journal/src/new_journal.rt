@@ -2,7 +2,8 @@
 ghost use Rattle.std.specs.Prelude.{◌≡◌, ◌+◌, ◌<◌, [], ◌∷◌, OnOk, IfOk, IfErr, IsSome, IfSome, IsTrue, false};
 ghost use Rattle.ar_log.specs.Failure.{is_of_medium, ReportsMedium};
 ghost use Rattle.ar_log.specs.Log.{batches_len};
-ghost use Rattle.ar_journal.specs.Files.{HaveHead, BeginsJournal, all_faults};
+ghost use Rattle.ar_journal.specs.Copying.{HasCleanFiles};
+ghost use Rattle.ar_journal.specs.Files.{AreClean, HaveHead, BeginsJournal, all_faults};
 ghost use Rattle.ar_journal.specs.Journal.{IsReady, batches_now};
 
 use crate::selector::{clear_selector, write_selector};
@@ -21,6 +22,7 @@ fn write_files<M: Media>(
     ensures end { IfOk result (λ end. end ≡ 8 + batches_len ((head.now ∷ []) ∷ [])) }
     ensures any_moment { BeginsJournal M.moment M.left_since M.may_leave head.now files.old files.new }
     ensures cause { ReportsMedium (all_faults M.faults files.old) (all_faults M.faults files.new) result }
+    ensures clean { AreClean M.is_clean files.new → AreClean M.is_clean files.old }
 {
     clear_selector(&mut files.selector)?;
     let end = write_head(alloc, &mut files.first, head)?;
@@ -50,6 +52,8 @@ pub fn create<M: Media>(
     ensures any_moment_err { IfErr result (λ e. BeginsJournal M.moment M.left_since M.may_leave head.now files e.1) }
     ensures cause { IfErr result (λ e. IsTrue (is_of_medium e.0)
         → all_faults M.faults files < all_faults M.faults e.1) }
+    ensures clean { IfOk result (λ journal. HasCleanFiles M.is_clean journal → AreClean M.is_clean files) }
+    ensures clean_err { IfErr result (λ e. AreClean M.is_clean e.1 → AreClean M.is_clean files) }
 {
     let mut files = files;
     match write_files(alloc, &mut files, head) {

@@ -1,5 +1,5 @@
 use Rattle.std.proofs.Common.{◌≡◌, ◌-◌, ◌^◌, take, IsTrue}
-use Rattle.ar_journal.specs.Journal.{IsReady, IsAfter, ReadsLog, batches_now}
+use Rattle.ar_journal.specs.Journal.{IsReady, IsAfter, ReadsLog, KeepsOthers, batches_now}
 use Rattle.ar_journal.proofs.copying.copy_rest.Given as goal
 
 abbrev pub invariant-copying : goal.invariant-copying
@@ -9,6 +9,7 @@ invariant-copying g l = record {
   from_ready : IsReady g.M.Media.seen g.M.Media.may_leave g.M.Media.is_clean l.from;
   to_ready : IsReady g.M.Media.seen g.M.Media.may_leave g.M.Media.is_clean l.to;
   clean : g.M.Media.is_clean l.to.active.media ≡ g.M.Media.is_clean l.fn.to.active.media;
+  others : KeepsOthers l.fn.to l.to;
   behind : IsTrue (g.M.Media.is_clean l.from.active.media) → IsAfter (batches_now g.M.Media.seen l.fn.from) l.place;
   same : IsTrue (g.M.Media.is_clean l.from.active.media) → IsTrue (g.M.Media.is_clean l.to.active.media)
       → take l.fn.place.number (batches_now g.M.Media.seen l.fn.from) ≡ batches_now g.M.Media.seen l.fn.to

@@ -1,7 +1,9 @@
 use Rattle.std.proofs.Common.{inl, inr, ⊎_elim}
 use Rattle.ar_log.proofs.Ahead.{then_ok}
+use Rattle.ar_journal.proofs.Further.{compared_files}
 use Rattle.ar_journal.proofs.Starting.{starts_with}
 use Rattle.ar_journal.proofs.Taking.{takes_one, takes_other}
+use Rattle.ar_journal.proofs.Writing.{not_both}
 use Rattle.ar_journal.proofs.mirror_start.open_mirrored.Goals as goal
 
 pub returns-in-Ok-start_copy-clause-starts : goal.returns-in-Ok-start_copy-clause-starts
@@ -22,13 +24,16 @@ returns-in-Ok-start_copy-clause-starts g c =
 
 pub returns-in-Ok-start_copy-clause-taken : goal.returns-in-Ok-start_copy-clause-taken
 returns-in-Ok-start_copy-clause-taken g c =
-    then_ok _ _ _ c.start_both.result c.start_both.ensures.taken c.start_both.ensures.taken
-    (λ start how _. ⊎_elim
+    then_ok _ _ _ c.start_both.result c.start_both.ensures.taken c.start_both.ensures.further
+    (λ start how further. compared_files g.M.Media.seen g.M.Media.is_clean c.args.first c.args.second c.in-Ok.one
+    c.in-Ok-start_copy.other start c.in-Ok.ensures.batches c.in-Ok-start_copy.ensures.batches
+    (⊎_elim
     (λ t. takes_one g.M.Media.seen g.M.Media.is_clean c.args.first c.args.second c.in-Ok.one start
     c.in-Ok.ensures.batches t)
     (λ t. takes_other g.M.Media.seen g.M.Media.is_clean c.args.first c.args.second c.in-Ok-start_copy.other
     start c.in-Ok-start_copy.ensures.batches t)
     how)
+    further)
 
 pub returns-in-Err-start_copy-clause-starts : goal.returns-in-Err-start_copy-clause-starts
 returns-in-Err-start_copy-clause-starts g c =
@@ -39,4 +44,14 @@ returns-in-Err-start_copy-clause-starts g c =
       has = λ sound. inl
           (starts_with g.M.Media.seen g.M.Media.may_leave g.M.Media.is_clean c.in-Ok.one start.journal _
           c.in-Ok.ensures.batches s sound);
+    })
+
+pub returns-in-Err-start_copy-clause-taken : goal.returns-in-Err-start_copy-clause-taken
+returns-in-Err-start_copy-clause-taken g c =
+    then_ok _ _ _ c.restore_second.result c.restore_second.ensures.taken c.restore_second.ensures.unread
+    (λ start t unread. record {
+      taken = takes_one g.M.Media.seen g.M.Media.is_clean c.args.first c.args.second c.in-Ok.one start
+          c.in-Ok.ensures.batches t;
+      further = λ is. absurd (not_both start.are_compared is unread.0);
+      compared = λ _. inr unread.1;
     })
