@@ -33,6 +33,11 @@ abbrev pub needs_picture : Answer → Bool
 needs_picture answers.Picture = true
 needs_picture answer = false
 
+-- the inventory has to be made
+abbrev pub needs_inventory : Answer → Bool
+needs_inventory answers.Json = true
+needs_inventory answer = false
+
 -- all disks are present
 abbrev pub all_present : ArrayHealth → Bool
 all_present Whole = true

@@ -1,4 +1,5 @@
 pub mod Answers
 pub mod Changes
 pub mod Hosts
+pub mod Pace
 pub mod Serving

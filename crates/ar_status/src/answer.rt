@@ -1,7 +1,8 @@
 // Which answer a method and a path have, with its status code and its media type.
 ghost use Rattle.std.specs.Prelude.{◌≡◌};
 ghost use Rattle.http_header.specs.FieldValue.{plain_value};
-ghost use Rattle.ar_status.specs.Answers.{answer_at, answer_for, code_of, media_type_of, needs_picture};
+ghost use Rattle.ar_status.specs.Answers.{answer_at, answer_for, code_of, media_type_of};
+ghost use Rattle.ar_status.specs.Answers.{needs_inventory, needs_picture};
 
 use crate::ArrayHealth;
 use http::{HeaderValue, StatusCode};
@@ -77,6 +78,13 @@ impl Answer {
         ensures { result ≡ needs_picture self }
     {
         matches!(self, Answer::Picture)
+    }
+
+    /// Whether the inventory has to be made for it.
+    pub fn needs_inventory(self) -> bool
+        ensures { result ≡ needs_inventory self }
+    {
+        matches!(self, Answer::Json)
     }
 
     /// Returns the media type.

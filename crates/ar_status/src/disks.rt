@@ -6,7 +6,7 @@ use serde::{Described, Serialize, Serializer};
 /// The most disks that an array has.
 const DISKS_MAX: usize = 12;
 
-/// What was counted of a disk since it came into the array.
+/// What was counted since the start of the disks of a number: of the one that has it, and of those that it replaced.
 #[derive(Clone, Copy, Debug, PartialEq, Eq, Serialize)]
 pub struct DiskCounters {
     /// Rows that were read or written, or should have been.
@@ -15,7 +15,7 @@ pub struct DiskCounters {
     pub errors: u64,
 }
 
-/// What was counted of each disk, by its number.
+/// What was counted of the disks of each number.
 #[derive(Clone, Copy)]
 pub struct DiskList {
     // The first `count` are of disks.

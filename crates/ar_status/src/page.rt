@@ -35,7 +35,7 @@ header p { margin: 0 }
 meter { width: 120px; vertical-align: middle }
 #store { flex-basis: 100%; color: var(--bad); font-weight: bold }
 nav { display: flex; gap: 12px; font-size: 14px }
-main { display: grid; grid-template-columns: minmax(0, 1fr) 320px; gap: 12px; align-items: start }
+main { display: grid; grid-template-columns: minmax(0, 1fr) 380px; gap: 12px; align-items: start }
 section { padding: 10px 12px; background: var(--card); border: 1px solid var(--line) }
 .tables { display: grid; grid-template-columns: minmax(0, 1fr); min-width: 0 }
 .tables > section { margin-bottom: 12px; break-inside: avoid }
@@ -52,10 +52,11 @@ main > section { padding: 10px 6px }
 table { width: 100%; border-collapse: collapse; font-size: 13px; font-variant-numeric: tabular-nums }
 th, td { padding: 1px 0 1px 8px; font-weight: normal; text-align: right; white-space: nowrap }
 th:first-child, td:first-child { padding-left: 0; text-align: left }
+#array td { white-space: normal }
 #events { max-height: 240px; margin: 0; padding: 0; overflow-y: auto; list-style: none }
 time { display: inline-block; min-width: 84px }
 @media (min-width: 1700px) {
-  main { grid-template-columns: minmax(0, 1fr) 680px }
+  main { grid-template-columns: minmax(0, 1fr) 772px }
   .tables { display: block; columns: 2; column-gap: 12px }
 }
 @media (max-width: 1100px) {
@@ -84,11 +85,14 @@ time { display: inline-block; min-width: 84px }
 <section><h2>Hosts</h2><div class='scrolls'><table>
 <thead><tr><th>host</th><th>session</th><th>ops/s</th><th>read/s</th><th>written/s</th></tr></thead>
 <tbody id='hosts'></tbody></table></div></section>
-<section><h2>Units</h2><table>
-<thead><tr><th>host, LUN</th><th>size</th><th>sectors</th></tr></thead>
-<tbody id='units'></tbody></table></section>
+<section id='sessions' hidden><h2>iSCSI sessions</h2><div class='scrolls'><table>
+<thead><tr><th>initiator</th><th>host</th><th>port</th></tr></thead>
+<tbody id='initiators'></tbody></table></div></section>
+<section><h2>Units</h2><div class='scrolls'><table>
+<thead><tr><th>unit</th><th>size</th><th>written</th><th>cached</th><th>serial number</th></tr></thead>
+<tbody id='units'></tbody></table></div></section>
 <section><h2>Disks</h2><div class='scrolls'><table>
-<thead><tr><th>disk</th><th>state</th><th>size</th><th>accesses</th><th>errors</th></tr></thead>
+<thead><tr><th>disk</th><th>state</th><th>size</th><th>used</th><th>accesses</th><th>errors</th></tr></thead>
 <tbody id='disks'></tbody></table></div></section>
 <section><h2>Array</h2><table><tbody id='array'></tbody></table></section>
 <section><h2>Events</h2><ol id='events'></ol></section>
@@ -119,13 +123,10 @@ function rows(body, texts) {
   }));
 }
 
-// What is left of a rebuild, by its speed since the page has first seen it.
-let seen = null;
-function left(health, extents, now) {
-  if (health.state !== 'rebuilding') { seen = null; return ''; }
-  if (!seen || seen.disk !== health.disk || seen.done > health.done) seen = { ...health, now };
-  const speed = (health.done - seen.done) / (now - seen.now);
-  return speed > 0 ? `, about ${span((extents - health.done) / speed)} left` : '';
+// What is left of a rebuild, where that can be told.
+function left(disks) {
+  const rebuilt = disks.find(disk => disk.seconds_left !== null);
+  return rebuilt ? `, about ${span(rebuilt.seconds_left)} left` : '';
 }
 
 // Which disks an array has lost that has failed.
@@ -144,8 +145,8 @@ function worse(health, store) {
   return health.state === 'whole' && store.state === 'degraded' ? 'alone' : health.state;
 }
 
-function words(status, now) {
-  const { health, disks, extents, lost_disks } = status, rest = left(health, extents, now);
+function words(status) {
+  const { health, disks, extents, lost_disks } = status, rest = left(status.inventory.disks);
   switch (health.state) {
     case 'whole': return `all ${disks} disks are present`;
     case 'out': return `disk ${health.disk} failed, and is not replaced`;
@@ -174,14 +175,9 @@ function fault(store) {
   }
 }
 
-// The units as they are in a status, each with its bytes.
-const unitsOf = status => status.unit_sectors.flatMap((units, host) => units.flatMap((sectors, lun) =>
-  sectors === null ? [] : [{ host, lun, sectors, bytes: sectors * 512 }]));
-
 // How many bytes units have of those that they may have: a unit takes whole blocks.
 function used(status) {
-  const block = status.block_bytes;
-  const given = unitsOf(status).reduce((sum, unit) => sum + Math.ceil(unit.bytes / block), 0);
+  const block = status.block_bytes, given = status.inventory.units.reduce((sum, unit) => sum + unit.blocks, 0);
   return { given: given * block, all: (given + status.room_blocks) * block };
 }
 
@@ -191,17 +187,32 @@ function showUsed(status) {
   at('used').replaceChildren(`${size(given)} of ${size(all)} given to units `, meter);
 }
 
-function stateOf(status, disk) {
-  const { health, extents, lost_disks } = status;
-  if (health.state === 'broken') return lost_disks && lost_disks.includes(disk) ? 'lost' : 'array failed';
-  if (health.disk !== disk) return 'present';
-  return health.state === 'out' ? 'failed' : `rebuilding ${health.done} of ${extents}`;
+function stateOf(status, { state, extents_rebuilt }) {
+  if (status.health.state === 'broken' && !status.lost_disks) return 'array failed';
+  return extents_rebuilt === null ? state : `${state} ${extents_rebuilt} of ${status.extents}`;
 }
 
 function showDisks(status) {
-  const bytes = size(status.extents * status.extent_rows * status.block_bytes);
-  rows(at('disks'), status.disk_counters.map(({ accesses, errors }, disk) =>
-    [disk, stateOf(status, disk), bytes, count(accesses), count(errors)]));
+  const extent = status.extent_rows * status.block_bytes;
+  rows(at('disks'), status.inventory.disks.map(disk => [
+    disk.disk, stateOf(status, disk), size(status.extents * extent), size(disk.extents_used * extent),
+    count(disk.accesses), count(disk.errors),
+  ]));
+}
+
+function showUnits(status) {
+  const blocks = n => size(n * status.block_bytes);
+  rows(at('units'), status.inventory.units.map(unit => [
+    `${unit.host}:${unit.lun}`, size(unit.sectors * 512), blocks(unit.written_blocks), blocks(unit.cached_blocks),
+    unit.serial_number || 'none',
+  ]));
+}
+
+function showSessions({ inventory }) {
+  const sessions = inventory.iscsi_sessions;
+  at('sessions').hidden = !sessions.length;
+  rows(at('initiators'), sessions.map(({ initiator, host, peer_port }) =>
+    [initiator, host === null ? 'discovery' : host, peer_port === null ? '' : peer_port]));
 }
 
 // What has changed since the last sample. A service that was restarted has counted from 0.
@@ -297,9 +308,10 @@ function happened(event) {
 }
 
 function showArray(status) {
-  const { steps, counters, room_blocks, refused_logins, store } = status;
+  const { steps, counters, room_blocks, refused_logins, store } = status, { usage } = status.inventory;
   rows(at('array'), [
     ['room', `${count(room_blocks)} blocks, ${size(room_blocks * status.block_bytes)}`],
+    ...['mirrored', 'parity', 'unwritten'].map(name => [name, size(usage[`${name}_sectors`] * 512)]),
     ['free groups', count(status.free_groups)],
     ['spare disks', status.spares],
     ['discovery sessions', status.sessions.discovery],
@@ -327,7 +339,7 @@ function showEvents(status) {
 
 function show(status, now) {
   named = status.name;
-  head(worse(status.health, status.store), words(status, now));
+  head(worse(status.health, status.store), words(status));
   at('store').textContent = fault(status.store);
   at('store').hidden = !fault(status.store);
   showUsed(status);
@@ -335,8 +347,8 @@ function show(status, now) {
   sample(status, now);
   before = { hosts: status.hosts, latencies: status.latencies, now };
   showGraphs(status.latency_bounds_micros);
-  rows(at('units'), unitsOf(status).map(unit =>
-    [`${unit.host} ${unit.lun}`, size(unit.bytes), count(unit.sectors)]));
+  showSessions(status);
+  showUnits(status);
   showDisks(status);
   showArray(status);
   showEvents(status);

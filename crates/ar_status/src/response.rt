@@ -4,7 +4,10 @@ ghost use Rattle.http_server.specs.Response.{IsBlank, fields_of};
 ghost use Rattle.ar_status.specs.Answers.{IsBodyOf, answer_for, code_of, fields_in, health_words, serving_words};
 
 use crate::status::write_health;
-use crate::{Answer, ArrayHealth, ArrayStatus, LATENCY_BOUNDS, PAGE, answer_to, write_metrics};
+use crate::{
+    Answer, ArrayHealth, ArrayInventory, ArrayStatus, LATENCY_BOUNDS, PAGE, answer_to,
+    write_metrics,
+};
 use ar_cli::VERSION;
 use bytes::Bytes;
 use http::{HeaderName, HeaderValue};
@@ -12,14 +15,15 @@ use http_server::Response;
 use serde::Serialize;
 use std::alloc::{AllocError, Global};
 
-// What is sent as JSON: the status, and what doesn't change.
-#[derive(Clone, Copy, Serialize)]
+// What is sent as JSON: the status with the inventory, and what doesn't change.
+#[derive(Drop, Serialize)]
 struct Document {
     version: &'static str,
     // Of the buckets in which commands are counted by their time.
     latency_bounds_micros: [u64; 11],
     #[serde(flatten)]
     status: ArrayStatus,
+    inventory: Option<ArrayInventory>,
 }
 
 /// A served array, as it was at one moment.
@@ -28,6 +32,8 @@ pub struct Look {
     pub status: ArrayStatus,
     /// The picture as an SVG; empty if none was asked for.
     pub picture: Vec<u8>,
+    /// None: it wasn't asked for.
+    pub inventory: Option<ArrayInventory>,
 }
 
 /// Fills the response to a method at a path; `is_ours` says whether the request asks for this server. HEAD has the
@@ -99,7 +105,7 @@ fn body_of(alloc: Global, answer: Answer, look: Look) -> Result<Bytes, AllocErro
         Answer::Page => Ok(Bytes::from_static(PAGE.as_bytes())),
         Answer::Picture => shared(look.picture),
         Answer::Metrics => metrics_of(alloc, &look.status),
-        Answer::Json => json_of(alloc, &look.status),
+        Answer::Json => json_of(alloc, look.status, look.inventory),
         Answer::Serving => Ok(Bytes::from_static(serving_words(look.status.health))),
         Answer::Health => health_of(alloc, look.status.health),
         Answer::NotFound => Ok(Bytes::from_static(b"not found\n")),
@@ -114,11 +120,16 @@ fn metrics_of(alloc: Global, status: &ArrayStatus) -> Result<Bytes, AllocError> 
     shared(text)
 }
 
-fn json_of(alloc: Global, status: &ArrayStatus) -> Result<Bytes, AllocError> {
+fn json_of(
+    alloc: Global,
+    status: ArrayStatus,
+    inventory: Option<ArrayInventory>,
+) -> Result<Bytes, AllocError> {
     let document = Document {
         version: VERSION,
         latency_bounds_micros: LATENCY_BOUNDS,
-        status: *status,
+        status,
+        inventory,
     };
     shared(serde_json::to_vec(alloc, &document).map_err(|_| AllocError)?)
 }

@@ -2,6 +2,7 @@
 // copied under a lock without an allocation.
 ghost use Rattle.std.specs.Prelude.{◌≡◌, ◌≤◌, [], ◌∷◌, length, take};
 
+use crate::rebuild_pace::RebuildPace;
 use crate::{ArrayStatus, CommandLatencies, LatencyCounters};
 use serde::{Described, Serialize, Serializer};
 
@@ -89,12 +90,13 @@ struct Counted {
     latencies: CommandLatencies,
 }
 
-/// The samples of an array, and the spell that goes on.
+/// The samples of an array, the spell that goes on, and how fast it is rebuilt.
 #[derive(Clone, Copy)]
 pub struct Activity {
     samples: RecentSamples,
     // None: no look was taken.
     since: Option<Counted>,
+    pace: RebuildPace,
 }
 
 impl Activity {
@@ -103,12 +105,14 @@ impl Activity {
         Activity {
             samples: RecentSamples::new(),
             since: None,
+            pace: RebuildPace::new(),
         }
     }
 
-    /// Adds a sample, if the spell that goes on has taken five seconds by this look.
+    /// Adds a sample, if the spell that goes on has taken five seconds by this look, and notes how far a rebuild is.
     pub fn look(&mut self, status: &ArrayStatus) {
         let now = Counted::of(status);
+        self.pace.look(now.seconds, status.health, status.extents);
         let Some(since) = self.since else {
             self.since = Some(now);
             return;
@@ -117,6 +121,11 @@ impl Activity {
             self.samples.add(now.sample_since(&since));
             self.since = Some(now);
         }
+    }
+
+    /// The seconds that a rebuild still takes by its pace, if one goes on and that can be told.
+    pub fn rebuild_seconds_left(&self) -> Option<u64> {
+        self.pace.seconds_left()
     }
 
     /// Returns the samples.

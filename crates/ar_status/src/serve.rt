@@ -37,9 +37,9 @@ pub trait Watched {
     /// What a look may show: the array, whether its picture is drawn, its status, its picture.
     ghost shows: { Self → Bool → ArrayStatus → List ℕ → Type 0 };
 
-    /// Looks at the array. Its picture is drawn if `draws` is set, and otherwise left empty. It fails only when out of
-    /// memory.
-    fn look(&self, alloc: Global, draws: bool) -> Result<Look, AllocError>
+    /// Looks at the array. Its picture is drawn if `draws` is set, and otherwise left empty; its inventory is made if
+    /// `lists` is. It fails only when out of memory.
+    fn look(&self, alloc: Global, draws: bool, lists: bool) -> Result<Look, AllocError>
         ensures { IfOk result (λ look. shows self.now draws look.status look.picture.items) };
 }
 
@@ -64,8 +64,9 @@ impl<V: Watched> Service for Watcher<'_, V> {
     ) -> Result<(), AllocError> {
         let is_ours = asks_us(self.name, host_of(request));
         let (method, path) = (request.method().as_str(), request.uri().path());
-        let draws = answer_to(is_ours, method, path).needs_picture();
-        let look = self.watched.look(self.alloc, draws)?;
+        let answer = answer_to(is_ours, method, path);
+        let (draws, lists) = (answer.needs_picture(), answer.needs_inventory());
+        let look = self.watched.look(self.alloc, draws, lists)?;
         respond(self.alloc, is_ours, method, path, look, response)
     }
 }

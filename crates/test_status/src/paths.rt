@@ -105,7 +105,19 @@ const JSON: &str = "\
 \"events\":[{\"seconds\":60,\"kind\":\"disk_replaced\",\"disk\":3},\
 {\"seconds\":7,\"kind\":\"disk_failed\",\"disk\":3}],\
 \"samples\":[{\"seconds\":61,\"spell\":6,\"commands\":0,\"bytes\":0,\"slowest\":null},\
-{\"seconds\":55,\"spell\":5,\"commands\":6,\"bytes\":7,\"slowest\":11}]}";
+{\"seconds\":55,\"spell\":5,\"commands\":6,\"bytes\":7,\"slowest\":11}],\"inventory\":{\
+\"usage\":{\"room_sectors\":36,\"mirrored_sectors\":1,\"parity_sectors\":2,\"unwritten_sectors\":18446744073709551615},\
+\"units\":[{\"host\":0,\"lun\":0,\"serial_number\":\"0A0B0C0D0000\",\"sectors\":24,\"blocks\":12,\
+\"written_blocks\":4,\"cached_blocks\":3},\
+{\"host\":3,\"lun\":7,\"serial_number\":null,\"sectors\":24,\"blocks\":12,\"written_blocks\":4,\"cached_blocks\":3}],\
+\"disks\":[{\"disk\":0,\"state\":\"in use\",\"extents_used\":5,\"accesses\":31,\"errors\":2,\
+\"extents_rebuilt\":null,\"seconds_left\":null},\
+{\"disk\":1,\"state\":\"rebuilding\",\"extents_used\":5,\"accesses\":31,\"errors\":2,\
+\"extents_rebuilt\":12,\"seconds_left\":42},\
+{\"disk\":2,\"state\":\"rebuilding\",\"extents_used\":5,\"accesses\":31,\"errors\":2,\
+\"extents_rebuilt\":0,\"seconds_left\":null}],\
+\"iscsi_sessions\":[{\"number\":1,\"host\":0,\"peer_port\":41204,\"initiator\":\"iqn.2026-11.example:a\"},\
+{\"number\":2,\"host\":null,\"peer_port\":null,\"initiator\":\"?\"}]}}";
 
 #[test]
 fn status_as_json(rt: HostRuntime) {

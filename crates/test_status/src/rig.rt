@@ -1,9 +1,10 @@
 // An array that stands still, and connections to it.
 use ar_status::{
-    ArrayCounters, ArrayHealth, ArrayName, ArrayStatus, CommandLatencies, DiskCounters, DiskList,
-    EventKind, HostCounters, LatencyCounters, Look, MaintenanceSteps, OperationCounters,
-    RecentEvent, RecentEvents, RecentSamples, RefusedLogins, ReplyCounters, Sample, SessionNumbers,
-    Watched, serve_named,
+    ArrayCounters, ArrayHealth, ArrayInventory, ArrayName, ArrayStatus, CommandLatencies,
+    DiskCounters, DiskList, DiskUsage, EventKind, HostCounters, InitiatorSession, LatencyCounters,
+    Look, MaintenanceSteps, OperationCounters, RecentEvent, RecentEvents, RecentSamples,
+    RefusedLogins, ReplyCounters, Sample, SectorUsage, SessionNumbers, UnitUsage, Watched,
+    serve_named,
 };
 use std::alloc::{AllocError, Global};
 use std::hash::RandomState;
@@ -24,7 +25,7 @@ pub struct Still {
 impl Watched for Still {
     ghost shows = { λ _ _ _ _. Unit {0} };
 
-    fn look(&self, alloc: Global, draws: bool) -> Result<Look, AllocError> {
+    fn look(&self, alloc: Global, draws: bool, lists: bool) -> Result<Look, AllocError> {
         if !self.has_memory {
             return Err(AllocError);
         }
@@ -32,7 +33,81 @@ impl Watched for Still {
         Ok(Look {
             status: self.status,
             picture: picture.to_vec(alloc)?,
+            inventory: if lists { Some(inventory(alloc)?) } else { None },
         })
+    }
+}
+
+// An inventory with a unit that initiators see and one that they don't, a disk of each kind, and a session of each.
+fn inventory(alloc: Global) -> Result<ArrayInventory, AllocError> {
+    Ok(ArrayInventory {
+        usage: SectorUsage {
+            room_sectors: 36,
+            mirrored_sectors: 1,
+            parity_sectors: 2,
+            unwritten_sectors: u64::MAX,
+        },
+        units: vec![in alloc;
+            unit(0, 0, Some(String::from_str(alloc, "0A0B0C0D0000")?)),
+            unit(3, 7, None),
+        ]?,
+        disks: vec![in alloc;
+            disk(0, "in use", None, None),
+            disk(1, "rebuilding", Some(12), Some(42)),
+            disk(2, "rebuilding", Some(0), None),
+        ]?,
+        iscsi_sessions: vec![in alloc;
+            session(
+                1,
+                Some(0),
+                Some(41204),
+                String::from_str(alloc, "iqn.2026-11.example:a")?
+            ),
+            session(2, None, None, String::from_str(alloc, "?")?),
+        ]?,
+    })
+}
+
+fn unit(host: u8, lun: u8, serial_number: Option<String>) -> UnitUsage {
+    UnitUsage {
+        host,
+        lun,
+        serial_number,
+        sectors: 24,
+        blocks: 12,
+        written_blocks: 4,
+        cached_blocks: 3,
+    }
+}
+
+fn disk(
+    disk: u8,
+    state: &'static str,
+    extents_rebuilt: Option<u16>,
+    seconds_left: Option<u64>,
+) -> DiskUsage {
+    DiskUsage {
+        disk,
+        state,
+        extents_used: 5,
+        accesses: 31,
+        errors: 2,
+        extents_rebuilt,
+        seconds_left,
+    }
+}
+
+fn session(
+    number: u64,
+    host: Option<u8>,
+    peer_port: Option<u16>,
+    initiator: String,
+) -> InitiatorSession {
+    InitiatorSession {
+        number,
+        host,
+        peer_port,
+        initiator,
     }
 }
 

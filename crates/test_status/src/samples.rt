@@ -1,4 +1,4 @@
-// What is sampled of a status that is looked at again and again, and names of arrays.
+// What is noted of a status that is looked at again and again, and names of arrays.
 use crate::rig::array_in;
 use ar_status::{Activity, ArrayHealth, ArrayName, ArrayStatus, SAMPLES_MAX, Sample};
 use std::process::Abort;
@@ -50,6 +50,40 @@ fn a_spell_has_five_seconds(rt: HostRuntime) {
         slowest: None,
     };
     is_sampled(&rt, &activity, &[second, first]);
+}
+
+// An array that is looked at after some seconds in this health.
+fn look_at(activity: &mut Activity, seconds: u64, health: ArrayHealth) -> Option<u64> {
+    let mut status = array_in(health).status;
+    status.uptime_seconds = seconds;
+    activity.look(&status);
+    activity.rebuild_seconds_left()
+}
+
+#[test]
+fn a_rebuild_takes_as_long_as_its_pace_says(rt: HostRuntime) {
+    let rebuilding = |disk, done| ArrayHealth::Rebuilding { disk, done };
+    let mut activity = Activity::new();
+    // Of 64 extents. Where no extent was rebuilt since the first look, nothing can be told.
+    for (seconds, health, wanted) in [
+        (5, ArrayHealth::Whole, None),
+        (10, rebuilding(3, 4), None),
+        (12, rebuilding(3, 4), None),
+        (20, rebuilding(3, 14), Some(50)),
+        (30, rebuilding(3, 44), Some(10)),
+        (40, rebuilding(3, 64), Some(0)),
+        (41, ArrayHealth::Whole, None),
+        (50, rebuilding(3, 60), None),
+        (51, rebuilding(3, 62), Some(1)),
+        // (the disk was replaced again, and then another)
+        (52, rebuilding(3, 1), None),
+        (53, rebuilding(3, 2), Some(62)),
+        (54, rebuilding(4, 2), None),
+        (55, ArrayHealth::Out { disk: 4 }, None),
+    ] {
+        let left = look_at(&mut activity, seconds, health);
+        assert!(&rt; left == wanted, "{left:?} seconds left after {seconds}");
+    }
 }
 
 #[test]
