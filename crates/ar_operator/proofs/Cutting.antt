@@ -1,7 +1,7 @@
 -- No order has more than two arguments, so that those after the seventh count for nothing.
 use Rattle.std.proofs.Common.{◌≡◌, ◌∙◌, ◌<◌, ◌≤◌, ◌==◌, ℕ, Bool, true, false, List, [], ◌∷◌, length, take, codes}
-use Rattle.std.proofs.Common.{bytes_eq, Option, Some, None, Result, Ok, Err, MatchBool, refl, sym, ap, subst, arith}
-use Rattle.std.proofs.Common.{ltb, map}
+use Rattle.std.proofs.Common.{bytes_eq, Option, Some, None, Result, Ok, Err, MatchBool, inl, inr, refl, sym, ap}
+use Rattle.std.proofs.Common.{arith, ltb, map, subst}
 use Rattle.std.proofs.lemmas.List.{take_all, length-take}
 use Rattle.std.proofs.lemmas.Bool.{ltb-true, ltb-false}
 use Rattle.std.specs.List.{list_any, slice_split}
@@ -9,7 +9,8 @@ use Rattle.ar_language.specs.Forms.{Words, is_silent, value}
 use Rattle.ar_operator.specs.declared.order.LineFault.{LineFault}
 use Rattle.ar_operator.specs.declared.order.OperatorOrder.{OperatorOrder}
 use Rattle.ar_operator.specs.declared.order.OperatorOrder.TheVariants.{Fail}
-use Rattle.ar_operator.specs.Orders.{HasForce, HasFuse, IsFuse, AsksFuse, argument, ReadsArguments, ReadsAlone}
+use Rattle.ar_operator.specs.Orders.{AsksEnd, HasEnd, HasForce, HasFuse, HasHost, HasSession, IsFuse, AsksFuse}
+use Rattle.ar_operator.specs.Orders.{argument, ReadsArguments, ReadsAlone}
 use Rattle.ar_operator.specs.Orders.{ReadsOperatorWord, ReadsReportWord}
 use Rattle.ar_operator.specs.Orders.{ReadsOperatorWords, ReadsOperatorLine, ReadsFirstWord, ReadsOut, text_of}
 
@@ -45,6 +46,16 @@ module _ (line name : List ℕ) (xs ys : List (List ℕ)) (r : Result (Option Op
   no_fuse : (l : List (List ℕ)) → 3 ≤ length l → ¬ HasFuse l
   no_fuse l many = λ has. let count = has.count in absurd (omega arith)
 
+  no_host : (l : List (List ℕ)) → 3 ≤ length l → ¬ HasHost l
+  no_host l many = λ has. let count = has.count in absurd (omega arith)
+
+  no_session : (l : List (List ℕ)) → 3 ≤ length l → ¬ HasSession l
+  no_session l many = λ has. let count = has.count in absurd (omega arith)
+
+  no_end : (l : List (List ℕ)) → 3 ≤ length l → ¬ HasEnd l
+  no_end l many (inl has) = no_host l many has
+  no_end l many (inr has) = no_session l many has
+
   no_force : (l : List (List ℕ)) → 3 ≤ length l → ¬ HasForce l
   no_force l many = λ has. let count = has.count in absurd (omega arith)
 
@@ -59,6 +70,9 @@ module _ (line name : List ℕ) (xs ys : List (List ℕ)) (r : Result (Option Op
   fuse : ReadsArguments (HasFuse xs) (AsksFuse xs) r → ReadsArguments (HasFuse ys) (AsksFuse ys) r
   fuse = alike (HasFuse xs) (HasFuse ys) (AsksFuse xs) (AsksFuse ys) r (no_fuse xs some) (no_fuse ys more)
 
+  ended : ReadsArguments (HasEnd xs) (AsksEnd xs) r → ReadsArguments (HasEnd ys) (AsksEnd ys) r
+  ended = alike (HasEnd xs) (HasEnd ys) (AsksEnd xs) (AsksEnd ys) r (no_end xs some) (no_end ys more)
+
   out : ReadsOut line xs r → ReadsOut line ys r
   out reads = record {
     forced = λ has. absurd (no_force ys more has);
@@ -67,15 +81,15 @@ module _ (line name : List ℕ) (xs ys : List (List ℕ)) (r : Result (Option Op
 
   report_word : ReadsReportWord line name xs r → ReadsReportWord line name ys r
   report_word =
-      row (bytes_eq name (codes "usage")) _ _ _ _ (alone _) (row (bytes_eq name (codes "units")) _ _ _ _ (alone _)
-      (row (bytes_eq name (codes "disks")) _ _ _ _ (alone _)
-      (row (bytes_eq name (codes "version")) _ _ _ _ (alone _) (λ shared. shared))))
+      row (bytes_eq name (codes "sessions")) _ _ _ _ (alone _) (row (bytes_eq name (codes "usage")) _ _ _ _ (alone _)
+      (row (bytes_eq name (codes "units")) _ _ _ _ (alone _) (row (bytes_eq name (codes "disks")) _ _ _ _ (alone _)
+      (row (bytes_eq name (codes "version")) _ _ _ _ (alone _) (λ shared. shared)))))
 
   any_word : ReadsOperatorWord line name xs r → ReadsOperatorWord line name ys r
   any_word =
-      row (bytes_eq name (codes "sessions")) _ _ _ _ (alone _) (row (bytes_eq name (codes "counts")) _ _ _ _ (alone _)
-      (row (bytes_eq name (codes "out")) _ _ _ _ out
-      (row (bytes_eq name (codes "fail")) _ _ _ _ fuse (row (bytes_eq name (codes "help")) _ _ _ _ (alone _)
+      row (bytes_eq name (codes "counts")) _ _ _ _ (alone _) (row (bytes_eq name (codes "out")) _ _ _ _ out
+      (row (bytes_eq name (codes "fail")) _ _ _ _ fuse (row (bytes_eq name (codes "end")) _ _ _ _ ended
+      (row (bytes_eq name (codes "help")) _ _ _ _ (alone _)
       (row (bytes_eq name (codes "stop")) _ _ _ _ (alone _) report_word)))))
 
 -- the first seven arguments decide

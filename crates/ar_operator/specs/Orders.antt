@@ -1,6 +1,6 @@
 -- What an operator's line asks for, by its first word.
-use Rattle.std.specs.Prelude.{◌≡◌, ◌⊎◌, ◌==◌, ℕ, Bool, if◌then◌else◌, List, [], ◌∷◌, length, map, slice_index_or, codes}
-use Rattle.std.specs.Prelude.{bytes_eq, Option, Some, None, Result, Ok, Err, MatchBool}
+use Rattle.std.specs.Prelude.{◌≡◌, ◌⊎◌, ◌==◌, ◌<◌, ℕ, Bool, if◌then◌else◌, List, [], ◌∷◌, length, map, codes}
+use Rattle.std.specs.Prelude.{bytes_eq, slice_index_or, Option, Some, None, Result, Ok, Err, MatchBool}
 use Rattle.std.specs.List.{list_any, slice_split}
 use Rattle.std.specs.Borrow.{Bor}
 use Rattle.ar_language.specs.declared.fault.FaultKind.{FaultKind}
@@ -14,8 +14,8 @@ use Rattle.ar_numbers.specs.Numbers.{IsDecimal}
 use Rattle.ar_language.specs.Forms.{IsNumberOf, ReadsLine, Words, is_silent, value}
 use Rattle.ar_script.specs.Orders.{IsView}
 use Rattle.ar_operator.specs.declared.order.OperatorOrder.{OperatorOrder}
-use Rattle.ar_operator.specs.declared.order.OperatorOrder.TheVariants.{Act, Ask, ForceOut, Sessions, Counts, Fail, Help}
-use Rattle.ar_operator.specs.declared.order.OperatorOrder.TheVariants.{Stop, Usage, Units, Disks, Version}
+use Rattle.ar_operator.specs.declared.order.OperatorOrder.TheVariants.{Act, Ask, End, ForceOut, Counts, Fail, Help}
+use Rattle.ar_operator.specs.declared.order.OperatorOrder.TheVariants.{Sessions, Stop, Usage, Units, Disks, Version}
 use Rattle.ar_operator.specs.declared.order.LineFault.{LineFault}
 use Rattle.ar_operator.specs.declared.order.LineFault.TheVariants.{Line, NotOperatorWord}
 
@@ -85,6 +85,38 @@ IsFuse arguments fuse = (fuse.0 ≡ value (argument arguments 0)) × (fuse.1 ≡
 abbrev pub AsksFuse : List (List ℕ) → OperatorOrder → Type 0
 AsksFuse arguments order = order ≡ Fail (value (argument arguments 0)) (accesses_in (argument arguments 1))
 
+-- the number of a host
+pub record IsHostNumber (digits : List ℕ) : Type 0 where
+  pub number : IsDecimal digits
+  pub below : value digits < 4
+
+-- a host, whose sessions are all meant
+pub record HasHost (arguments : List (List ℕ)) : Type 0 where
+  pub count : length arguments ≡ 1
+  pub host : IsHostNumber (argument arguments 0)
+
+-- a host, and a session of it
+pub record HasSession (arguments : List (List ℕ)) : Type 0 where
+  pub count : length arguments ≡ 2
+  pub host : IsHostNumber (argument arguments 0)
+  pub session : IsDecimal (argument arguments 1)
+
+-- the sessions of a host, or one of them
+abbrev pub HasEnd : List (List ℕ) → Type 0
+HasEnd arguments = HasHost arguments ⊎ HasSession arguments
+
+-- the session that is meant: all of the host, if there is no second word
+abbrev pub session_in : List (List ℕ) → Option ℕ
+session_in arguments = if length arguments == 2 then Some (value (argument arguments 1)) else None
+
+-- the host and the session
+abbrev pub IsEnd : List (List ℕ) → ℕ × Option ℕ → Type 0
+IsEnd arguments ended = (ended.0 ≡ value (argument arguments 0)) × (ended.1 ≡ session_in arguments)
+
+-- `end H` and `end H S`
+abbrev pub AsksEnd : List (List ℕ) → OperatorOrder → Type 0
+AsksEnd arguments order = order ≡ End (value (argument arguments 0)) (session_in arguments)
+
 -- The result for the words after a name: an order that they ask for if they have this form, otherwise `BadArgument`.
 abbrev pub ReadsArguments : Type 0 → (OperatorOrder → Type 0) → Result (Option OperatorOrder) LineFault → Type 0
 ReadsArguments Form Asked (Ok (Some order)) = Form × Asked order
@@ -110,19 +142,20 @@ pub record ReadsOut (line : List ℕ) (arguments : List (List ℕ)) (result : Re
 -- the words that show what the array has, and then those that operators share with scripts
 abbrev pub ReadsReportWord : List ℕ → List ℕ → List (List ℕ) → Result (Option OperatorOrder) LineFault → Type 0
 ReadsReportWord line name arguments result =
+    MatchBool (bytes_eq name (codes "sessions")) (ReadsAlone arguments Sessions result) (
     MatchBool (bytes_eq name (codes "usage")) (ReadsAlone arguments Usage result) (
     MatchBool (bytes_eq name (codes "units")) (ReadsAlone arguments Units result) (
     MatchBool (bytes_eq name (codes "disks")) (ReadsAlone arguments Disks result) (
     MatchBool (bytes_eq name (codes "version")) (ReadsAlone arguments Version result) (
-    ReadsSharedWord line name result))))
+    ReadsSharedWord line name result)))))
 
 -- the operator's own words, and then those that it shares with scripts
 abbrev pub ReadsOperatorWord : List ℕ → List ℕ → List (List ℕ) → Result (Option OperatorOrder) LineFault → Type 0
 ReadsOperatorWord line name arguments result =
-    MatchBool (bytes_eq name (codes "sessions")) (ReadsAlone arguments Sessions result) (
     MatchBool (bytes_eq name (codes "counts")) (ReadsAlone arguments Counts result) (
     MatchBool (bytes_eq name (codes "out")) (ReadsOut line arguments result) (
     MatchBool (bytes_eq name (codes "fail")) (ReadsArguments (HasFuse arguments) (AsksFuse arguments) result) (
+    MatchBool (bytes_eq name (codes "end")) (ReadsArguments (HasEnd arguments) (AsksEnd arguments) result) (
     MatchBool (bytes_eq name (codes "help")) (ReadsAlone arguments Help result) (
     MatchBool (bytes_eq name (codes "stop")) (ReadsAlone arguments Stop result) (
     ReadsReportWord line name arguments result))))))

@@ -33,9 +33,12 @@ pub struct Fuse {
     // The accesses to the disk, and those of them that faulted.
     accesses: AtomicU64,
     errors: AtomicU64,
+    // Those to the disks whose places it took.
+    former_accesses: AtomicU64,
+    former_errors: AtomicU64,
 }
 
-/// What was counted of a disk since the start of the program or, if it is newer, since it was put in its place.
+/// What was counted of a disk.
 #[derive(Clone, Copy, Debug, PartialEq, Eq)]
 pub struct DiskCounts {
     /// The rows, or parts of them, that were read or written, with those that failed.
@@ -54,6 +57,8 @@ impl Fuse {
             is_latest: AtomicBool::new(false),
             accesses: AtomicU64::new(0),
             errors: AtomicU64::new(0),
+            former_accesses: AtomicU64::new(0),
+            former_errors: AtomicU64::new(0),
         }
     }
 
@@ -90,19 +95,31 @@ impl Fuse {
         self.is_out() || self.is_blown.load(Ordering::SeqCst)
     }
 
-    // Begins with a new disk, its fuse off and nothing counted.
+    // Begins with a new disk, its fuse off and nothing counted of it.
     fn renew(&self) {
         self.set(None);
         self.is_blown.store(false, Ordering::SeqCst);
         self.is_out.store(false, Ordering::SeqCst);
-        self.accesses.store(0, Ordering::SeqCst);
-        self.errors.store(0, Ordering::SeqCst);
+        let (accesses, errors) = (&self.accesses, &self.errors);
+        self.former_accesses
+            .fetch_add(accesses.swap(0, Ordering::SeqCst), Ordering::SeqCst);
+        self.former_errors
+            .fetch_add(errors.swap(0, Ordering::SeqCst), Ordering::SeqCst);
     }
 
     fn counts(&self) -> DiskCounts {
         DiskCounts {
             accesses: self.accesses.load(Ordering::SeqCst),
             errors: self.errors.load(Ordering::SeqCst),
+        }
+    }
+
+    // The same with the disks whose places it took.
+    fn totals(&self) -> DiskCounts {
+        let DiskCounts { accesses, errors } = self.counts();
+        DiskCounts {
+            accesses: accesses.saturating_add(self.former_accesses.load(Ordering::SeqCst)),
+            errors: errors.saturating_add(self.former_errors.load(Ordering::SeqCst)),
         }
     }
 
@@ -288,8 +305,8 @@ pub fn lost_disks(fuses: &[Fuse; 12]) -> Option<[u8; 2]> {
     }
 }
 
-/// Returns what was counted of each disk, by its number. Where the array has no disk, both counts are 0. They are
-/// counted under the array's lock: with it held, they are those of one moment.
+/// Returns what was counted of each disk, by its number, since it was put in its place. Where the array has no disk, both
+/// counts are 0. They are counted under the array's lock: with it held, they are those of one moment.
 pub fn disk_counts(fuses: &[Fuse; 12]) -> [DiskCounts; 12] {
     let none = DiskCounts {
         accesses: 0,
@@ -300,6 +317,15 @@ pub fn disk_counts(fuses: &[Fuse; 12]) -> [DiskCounts; 12] {
         *count = fuse.counts();
     }
     counts
+}
+
+/// Returns what was counted of the disks of each number since the start of the program, as `disk_counts` does.
+pub fn disk_totals(fuses: &[Fuse; 12]) -> [DiskCounts; 12] {
+    let mut totals = disk_counts(fuses);
+    for (total, fuse) in totals.iter_mut().zip(fuses) {
+        *total = fuse.totals();
+    }
+    totals
 }
 
 /// Returns which disks an operator has taken out, by their numbers (`Fuse::is_out`).

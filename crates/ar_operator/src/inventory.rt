@@ -6,17 +6,76 @@ use ar_core::Array;
 use ar_disks::{Addr, Disk, Host};
 use ar_picture::{Class, Group, Health, Picture, Unit};
 use ar_script::picture_of;
+use ar_target::serial_number;
 use std::alloc::{AllocError, Global};
 use std::io;
 use std::io::Write;
+
+/// How the sectors of an array are used: those that units may still be given, and the blocks of units, in sectors.
+#[derive(Clone, Copy, Debug, PartialEq, Eq)]
+pub struct SectorUsage {
+    pub room: u64,
+    pub mirrored: u64,
+    pub parity: u64,
+    /// Of blocks that aren't on the disks.
+    pub unwritten: u64,
+}
+
+/// How much a unit has, and how much of it is where.
+#[derive(Clone, Copy, Debug, PartialEq, Eq)]
+pub struct UnitUsage {
+    pub host: u8,
+    pub lun: u8,
+    pub sectors: u32,
+    pub blocks: u32,
+    /// Blocks that are on the disks.
+    pub written: u32,
+    /// Blocks that are cached.
+    pub cached: u32,
+    /// Its serial number, as initiators see it, where they may come.
+    pub serial: Option<[u8; 12]>,
+}
+
+/// How a disk is.
+#[derive(Clone, Copy, Debug, PartialEq, Eq)]
+pub enum DiskState {
+    InUse,
+    /// An operator has taken it out.
+    Out,
+    Failed,
+    /// It was replaced, and this many of its extents are rebuilt.
+    Rebuilding(u16),
+}
+
+impl DiskState {
+    /// The state in a word, without how far it has come.
+    pub fn word(self) -> &'static str {
+        match self {
+            DiskState::InUse => "in use",
+            DiskState::Out => "out",
+            DiskState::Failed => "failed",
+            DiskState::Rebuilding(_) => "rebuilding",
+        }
+    }
+}
+
+/// How much of a disk is used, and how it is.
+#[derive(Clone, Copy, Debug, PartialEq, Eq)]
+pub struct DiskUsage {
+    pub disk: u8,
+    /// Extents in groups that hold blocks.
+    pub used: u32,
+    pub extents: u16,
+    pub counts: DiskCounts,
+    pub state: DiskState,
+}
 
 /// The tables of an array and what was counted of its disks, at one moment.
 #[derive(Drop)]
 pub struct Inventory {
     // That of a failed array names the disks that it has lost.
     picture: Picture,
-    // The sectors of each unit of the picture.
-    lengths: Vec<u32>,
+    units: Vec<UnitUsage>,
     // The sectors of a block.
     block_sectors: u32,
     // Blocks that units may still be given.
@@ -27,19 +86,21 @@ pub struct Inventory {
 }
 
 impl Inventory {
-    /// Copies the tables of an array whose disks are on these fuses. It looks at each block of each unit. Fails only
-    /// when out of memory.
+    /// Copies the tables of an array whose disks are on these fuses. `number` distinguishes it from other arrays in the
+    /// serial numbers of its units, if initiators see them. It looks at each block of each unit. Fails only when out
+    /// of memory.
     pub fn of<D: Disk>(
         alloc: Global,
         array: &Array<D>,
         fuses: &[Fuse; 12],
+        number: Option<u32>,
     ) -> Result<Inventory, AllocError> {
         let mut picture = picture_of(alloc, array)?;
         picture.name_lost(lost_disks(fuses));
-        let lengths = lengths_of(alloc, array, &picture.units)?;
+        let units = usages_of(alloc, array, &picture.units, number)?;
         Ok(Inventory {
             picture,
-            lengths,
+            units,
             block_sectors: array.geometry().sectors(),
             room: array.free_room(),
             counts: disk_counts(fuses),
@@ -47,13 +108,46 @@ impl Inventory {
         })
     }
 
+    /// How the sectors are used.
+    pub fn usage(&self) -> SectorUsage {
+        SectorUsage {
+            room: self.sectors_of(u64::from(self.room)),
+            mirrored: self.sectors_of(self.blocks_of(Class::Mirrored)),
+            parity: self.sectors_of(self.blocks_of(Class::Parity)),
+            unwritten: self.sectors_of(self.blocks_unwritten()),
+        }
+    }
+
+    /// The units, in the order of their hosts and LUNs.
+    pub fn units(&self) -> &[UnitUsage] {
+        &self.units
+    }
+
+    /// How many disks there are.
+    pub fn disks(&self) -> u8 {
+        self.picture.disks
+    }
+
+    /// How a disk is used.
+    pub fn disk(&self, disk: u8) -> DiskUsage {
+        DiskUsage {
+            disk,
+            used: self.extents_used(disk),
+            extents: self.picture.extents,
+            counts: self.counts[usize::from(disk % 12)],
+            state: self.state_of(disk),
+        }
+    }
+
     /// Writes how many sectors units may still be given, and how many blocks of units in sectors are mirrored, have
     /// parity, or aren't on the disks; and how many spare disks are left.
     pub fn write_usage<W: Write>(&self, out: &mut W, spares: u8) -> io::Result<()> {
-        let room = self.sectors_of(u64::from(self.room));
-        let mirrored = self.sectors_of(self.blocks_of(Class::Mirrored));
-        let parity = self.sectors_of(self.blocks_of(Class::Parity));
-        let unwritten = self.sectors_of(self.blocks_unwritten());
+        let SectorUsage {
+            room,
+            mirrored,
+            parity,
+            unwritten,
+        } = self.usage();
         writeln!(
             out,
             "room {room} sectors\nmirrored {mirrored} sectors\nparity {parity} sectors"
@@ -61,44 +155,30 @@ impl Inventory {
         writeln!(out, "unwritten {unwritten} sectors\nspares {spares}")
     }
 
-    /// Writes the units, as a line for each: its length in sectors, its blocks, and how many of these are on the disks.
+    /// Writes the units, as a line for each: its length in sectors, its blocks, how many of these are on the disks and
+    /// how many cached, and its serial number, if it has one.
     pub fn write_units<W: Write>(&self, out: &mut W) -> io::Result<()> {
-        for (unit, sectors) in self.picture.units.iter().zip(self.lengths.iter()) {
-            write_unit(out, *unit, *sectors)?;
+        for unit in self.units.iter() {
+            write_unit(out, *unit)?;
         }
         Ok(())
     }
 
     /// Writes the disks, as a line for each: its extents that hold blocks, what was counted of it, and its state.
-    pub fn write_disks<W: Write>(&self, out: &mut W) -> io::Result<()> {
+    /// `left` is how many seconds a rebuild still takes, if that can be told.
+    pub fn write_disks<W: Write>(&self, out: &mut W, left: Option<u64>) -> io::Result<()> {
         for disk in 0..self.picture.disks {
-            self.write_disk(out, disk)?;
+            write_disk(out, self.disk(disk), left)?;
         }
         Ok(())
     }
 
-    fn write_disk<W: Write>(&self, out: &mut W, disk: u8) -> io::Result<()> {
-        let (used, all) = (self.extents_used(disk), self.picture.extents);
-        let DiskCounts { accesses, errors } = self.counts[usize::from(disk % 12)];
-        write!(
-            out,
-            "disk {disk} extents {used} of {all} accesses {accesses} errors {errors} "
-        )?;
+    fn state_of(&self, disk: u8) -> DiskState {
         match self.picture.health {
-            Health::Rebuilding(rebuilt, done) if rebuilt == disk => {
-                writeln!(out, "rebuilding {done} of {all}")
-            }
-            health if is_missing(health, disk) => self.write_cause(out, disk),
-            _ => writeln!(out, "in use"),
-        }
-    }
-
-    // Writes why a disk is missing.
-    fn write_cause<W: Write>(&self, out: &mut W, disk: u8) -> io::Result<()> {
-        if self.out[usize::from(disk % 12)] {
-            writeln!(out, "out")
-        } else {
-            writeln!(out, "failed")
+            Health::Rebuilding(rebuilt, done) if rebuilt == disk => DiskState::Rebuilding(done),
+            health if !is_missing(health, disk) => DiskState::InUse,
+            _ if self.out[usize::from(disk % 12)] => DiskState::Out,
+            _ => DiskState::Failed,
         }
     }
 
@@ -121,8 +201,8 @@ impl Inventory {
     // How many blocks of all units aren't on the disks.
     fn blocks_unwritten(&self) -> u64 {
         let mut blocks: u64 = 0;
-        for unit in self.picture.units.iter() {
-            blocks = blocks.saturating_add(u64::from(unit.blocks.saturating_sub(unit.placed)));
+        for unit in self.units.iter() {
+            blocks = blocks.saturating_add(u64::from(unit.blocks.saturating_sub(unit.written)));
         }
         blocks
     }
@@ -139,38 +219,95 @@ impl Inventory {
     }
 }
 
-// The sectors of each unit.
-fn lengths_of<D: Disk>(
+// How each unit is used.
+fn usages_of<D: Disk>(
     alloc: Global,
     array: &Array<D>,
     units: &[Unit],
-) -> Result<Vec<u32>, AllocError> {
-    let mut lengths = Vec::with_capacity(alloc, units.len())?;
+    number: Option<u32>,
+) -> Result<Vec<UnitUsage>, AllocError> {
+    let mut usages = Vec::with_capacity(alloc, units.len())?;
     for unit in units {
-        lengths.push(length_of(array, *unit))?;
+        usages.push(usage_of(array, *unit, number))?;
     }
-    Ok(lengths)
+    Ok(usages)
 }
 
-fn length_of<D: Disk>(array: &Array<D>, unit: Unit) -> u32 {
-    let Some(host) = Host::new(unit.host) else {
-        return 0;
-    };
-    let lun = unit.lun;
-    array.sectors(Addr { host, lun }).unwrap_or(0)
-}
-
-fn write_unit<W: Write>(out: &mut W, unit: Unit, sectors: u32) -> io::Result<()> {
+fn usage_of<D: Disk>(array: &Array<D>, unit: Unit, number: Option<u32>) -> UnitUsage {
     let Unit {
         host,
         lun,
         blocks,
         placed,
     } = unit;
-    writeln!(
+    let (sectors, cached) = match Host::new(host) {
+        Some(host) => length_and_cached(array, Addr { host, lun }),
+        None => (0, 0),
+    };
+    UnitUsage {
+        host,
+        lun,
+        sectors,
+        blocks,
+        written: placed,
+        cached,
+        serial: number.map(|number| serial_number(number, host, lun)),
+    }
+}
+
+// The sectors of a unit, and how many of its blocks are cached.
+fn length_and_cached<D: Disk>(array: &Array<D>, addr: Addr) -> (u32, u32) {
+    let cached = array.cached_blocks_of(addr).min(u32::MAX as usize) as u32;
+    (array.sectors(addr).unwrap_or(0), cached)
+}
+
+fn write_unit<W: Write>(out: &mut W, unit: UnitUsage) -> io::Result<()> {
+    let UnitUsage {
+        host,
+        lun,
+        sectors,
+        blocks,
+        written,
+        cached,
+        serial,
+    } = unit;
+    write!(
         out,
-        "unit {host} {lun} sectors {sectors} blocks {blocks} written {placed}"
-    )
+        "unit {host} {lun} sectors {sectors} blocks {blocks} written {written} cached {cached}"
+    )?;
+    if let Some(serial) = serial {
+        out.write_all(b" serial ")?;
+        out.write_all(&serial)?;
+    }
+    out.write_all(b"\n")
+}
+
+fn write_disk<W: Write>(out: &mut W, usage: DiskUsage, left: Option<u64>) -> io::Result<()> {
+    let DiskUsage {
+        disk,
+        used,
+        extents,
+        counts,
+        state,
+    } = usage;
+    let (accesses, errors, word) = (counts.accesses, counts.errors, state.word());
+    write!(
+        out,
+        "disk {disk} extents {used} of {extents} accesses {accesses} errors {errors} {word}"
+    )?;
+    if let DiskState::Rebuilding(done) = state {
+        write!(out, " {done} of {extents}")?;
+        write_left(out, left)?;
+    }
+    out.write_all(b"\n")
+}
+
+// Writes how many seconds a rebuild still takes.
+fn write_left<W: Write>(out: &mut W, left: Option<u64>) -> io::Result<()> {
+    match left {
+        Some(seconds) => write!(out, ", {seconds} s left"),
+        None => Ok(()),
+    }
 }
 
 // Whether a disk is missing, and isn't being rebuilt.

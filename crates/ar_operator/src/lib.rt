@@ -19,8 +19,10 @@ pub use controller::Controller;
 pub use conversation::{Buffers, MOST_LINES, OperatorEnd, converse, converse_in};
 pub use executing::{DiskMaker, execute};
 pub use fail::set_fuse;
-pub use fused::{DiskCounts, Fuse, FusedDisk, FusedMaker, disk_counts, lost_disks, start_fused};
-pub use inventory::Inventory;
+pub use fused::{
+    DiskCounts, Fuse, FusedDisk, FusedMaker, disk_counts, disk_totals, lost_disks, start_fused,
+};
+pub use inventory::{DiskState, DiskUsage, Inventory, SectorUsage, UnitUsage};
 pub use order::{LineFault, OperatorOrder, operator_order_in};
 pub use spare::{Prepared, SpareDisk, WantedDisk, wanted_disk};
 pub use text::{write_counts, write_help, write_initiator, write_session, write_version};

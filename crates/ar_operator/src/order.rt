@@ -2,7 +2,8 @@
 ghost use Rattle.std.specs.Prelude.{◌≡◌, map, IfOk, IfSome};
 ghost use Rattle.std.specs.Option.{SomeIff};
 ghost use Rattle.ar_language.specs.Forms.{Gives, IsNumberOf, value};
-ghost use Rattle.ar_operator.specs.Orders.{AreAccesses, AsksFuse, HasForce, HasFuse, IsFuse, IsOperatorOrder};
+ghost use Rattle.ar_operator.specs.Orders.{AreAccesses, AsksEnd, AsksFuse, HasEnd, HasForce, HasFuse, IsEnd, IsFuse};
+ghost use Rattle.ar_operator.specs.Orders.{IsHostNumber, IsOperatorOrder};
 ghost use Rattle.ar_operator.specs.Orders.{ReadsAlone};
 ghost use Rattle.ar_operator.specs.Orders.{ReadsArguments, ReadsFirstWord, ReadsOperatorLine, ReadsOperatorWord};
 ghost use Rattle.ar_operator.specs.Orders.{ReadsReportWord};
@@ -39,6 +40,8 @@ pub enum OperatorOrder {
     Version,
     /// `fail`: let a disk, by its number, pass this many more accesses and fault at the next one. None: `off`.
     Fail { disk: u8, accesses: Option<u64> },
+    /// `end`: end the iSCSI sessions of a host, by its number from 0 to 3, or the one of this number.
+    End { host: u8, session: Option<u64> },
     /// `help`: show the operator's words.
     Help,
     /// `stop`: end the service.
@@ -109,10 +112,10 @@ fn order_named(
     ensures allowed { IfOk result (λ asked. IfSome asked IsOperatorOrder) }
 {
     match name {
-        "sessions" => alone(arguments, OperatorOrder::Sessions),
         "counts" => alone(arguments, OperatorOrder::Counts),
         "out" => out(line, arguments),
         "fail" => fail(arguments),
+        "end" => end(arguments),
         "help" => alone(arguments, OperatorOrder::Help),
         "stop" => alone(arguments, OperatorOrder::Stop),
         _ => report_order(line, name, arguments),
@@ -130,6 +133,7 @@ fn report_order(
     ensures allowed { IfOk result (λ asked. IfSome asked IsOperatorOrder) }
 {
     match name {
+        "sessions" => alone(arguments, OperatorOrder::Sessions),
         "usage" => alone(arguments, OperatorOrder::Usage),
         "units" => alone(arguments, OperatorOrder::Units),
         "disks" => alone(arguments, OperatorOrder::Disks),
@@ -240,6 +244,35 @@ fn fuse_in(arguments: &[&str]) -> Option<(u8, Option<u64>)>
         return None;
     };
     Some((disk_number(disk)?, accesses_in(accesses)?))
+}
+
+// `end H` and `end H S`.
+fn end(arguments: &[&str]) -> Result<Option<OperatorOrder>, LineFault>
+    ensures reads { ReadsArguments (HasEnd (map text_of arguments.now)) (AsksEnd (map text_of arguments.now)) result }
+    ensures allowed { IfOk result (λ asked. IfSome asked IsOperatorOrder) }
+{
+    match ended_in(arguments) {
+        Some((host, session)) => Ok(Some(OperatorOrder::End { host, session })),
+        None => Err(LineFault::Line(FaultKind::BadArgument)),
+    }
+}
+
+// A host, and the session that is meant, if not all are.
+fn ended_in(arguments: &[&str]) -> Option<(u8, Option<u64>)>
+    ensures { Gives (HasEnd (map text_of arguments.now)) (IsEnd (map text_of arguments.now)) result }
+{
+    match arguments {
+        [host] => Some((host_number(host)?, None)),
+        [host, session] => Some((host_number(host)?, Some(number(session)?))),
+        _ => None,
+    }
+}
+
+fn host_number(word: &str) -> Option<u8>
+    ensures { SomeIff result (IsHostNumber word.now) (value word.now) }
+{
+    let host = number(word)?;
+    if host < 4 { Some(host as u8) } else { None }
 }
 
 fn disk_number(word: &str) -> Option<u8>

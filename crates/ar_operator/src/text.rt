@@ -21,6 +21,8 @@ out D force
 replace D
 fail D N
 fail D off
+end H
+end H S
 flush
 demote
 clean

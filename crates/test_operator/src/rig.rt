@@ -70,7 +70,7 @@ impl<'a, L: Ledger> Rig<'a, L> {
 
 impl<L: Ledger> Rig<'_, L> {
     fn inventory(&self) -> Result<Inventory, AllocError> {
-        Inventory::of(self.alloc, self.kept.array(), self.fuses)
+        Inventory::of(self.alloc, self.kept.array(), self.fuses, Some(0x0A0B_0C0D))
     }
 }
 
@@ -112,10 +112,10 @@ impl<L: Ledger> Controller for Rig<'_, L> {
             }
             OperatorOrder::Disks => {
                 let inventory = self.inventory()?;
-                inventory.write_disks(out).map_err(|_| AllocError)
+                inventory.write_disks(out, Some(42)).map_err(|_| AllocError)
             }
             OperatorOrder::Version => write_version(out, "1.2.3").map_err(|_| AllocError),
-            OperatorOrder::Sessions | OperatorOrder::Stop => {
+            OperatorOrder::Sessions | OperatorOrder::End { .. } | OperatorOrder::Stop => {
                 self.silent = self.silent.saturating_add(1);
                 Ok(())
             }

@@ -132,8 +132,8 @@ spares 0
             (b"make 3 7 5\n", b"ok\n"),
             (
                 b"units\n",
-                b"unit 0 0 sectors 12 blocks 6 written 6
-unit 3 7 sectors 5 blocks 3 written 0
+                b"unit 0 0 sectors 12 blocks 6 written 6 cached 0 serial 0A0B0C0D0000
+unit 3 7 sectors 5 blocks 3 written 0 cached 0 serial 0A0B0C0D0307
 ",
             ),
             (
@@ -171,7 +171,7 @@ disk 3 extents 0 of 4 accesses 0 errors 0 in use
                 b"ok
 rebuilt 0 left 3
 disk 0 extents 0 of 4 accesses 0 errors 0 in use
-disk 1 extents 0 of 4 accesses 0 errors 0 rebuilding 1 of 4
+disk 1 extents 0 of 4 accesses 0 errors 0 rebuilding 1 of 4, 42 s left
 disk 2 extents 0 of 4 accesses 0 errors 0 in use
 disk 3 extents 0 of 4 accesses 0 errors 0 in use
 ",
@@ -206,6 +206,8 @@ out D force
 replace D
 fail D N
 fail D off
+end H
+end H S
 flush
 demote
 clean
