@@ -1,7 +1,7 @@
 -- The iSCSI sessions that are open.
 use Rattle.std.specs.Prelude.{ℕ, Bool, true, false, not, ◌==◌, ◌&&◌, bytes_eq, if◌then◌else◌, nat_lt, List, Option}
 use Rattle.std.specs.Prelude.{Some}
-use Rattle.std.specs.Prelude.{count_by, filter, is_none, take}
+use Rattle.std.specs.Prelude.{count_by, filter, is_none, take, unwrap_or}
 use Rattle.std.specs.List.{insert}
 use Rattle.ar_service.specs.declared.attached.Attached.{Attached}
 use Rattle.ar_service.specs.declared.initiator_name.InitiatorName.{InitiatorName}
@@ -24,6 +24,15 @@ takes_place_of new old =
 -- a session once another logs in: ended, if that takes its place
 abbrev pub after_login : Attached → Attached → Attached
 after_login new old = if takes_place_of new old then record old { is_ended = true } else old
+
+-- a session that an operator means: one of this host, and of this number, if there is one
+abbrev pub is_meant : ℕ → Option ℕ → Attached → Bool
+is_meant host number session =
+    are_of_one_host session.host (Some host) && (session.number == unwrap_or number session.number)
+
+-- a session once an operator ends those that are meant
+abbrev pub after_order : ℕ → Option ℕ → Attached → Attached
+after_order host number session = if is_meant host number session then record session { is_ended = true } else session
 
 -- how many sessions of a list have lower numbers
 abbrev pub numbers_below : ℕ → List Attached → ℕ

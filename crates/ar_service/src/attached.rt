@@ -2,12 +2,15 @@
 // the name and ISID of one with the same host takes its place, and ends it (RFC 7143, 6.3.5).
 ghost use Rattle.std.specs.Prelude.{◌≡◌, ◌≤◌, [], IfOk, OnOk, OnErr, false, is_none, length, map};
 ghost use Rattle.std.specs.Prelude.{min, take};
-ghost use Rattle.ar_service.specs.Attached.{after_entry, after_login, are_of_one_host, attached_with, attached_without};
+ghost use Rattle.std.specs.List.{list_any};
+ghost use Rattle.ar_service.specs.Attached.{after_entry, after_login, after_order, are_of_one_host, attached_with};
+ghost use Rattle.ar_service.specs.Attached.{attached_without, is_meant};
 ghost use Rattle.ar_service.specs.Attached.{discoveries, name_text, numbers_below, takes_place_of};
 
 use crate::initiator_name::InitiatorName;
 use ar_frames::Progress;
 use ar_operator::write_initiator;
+use ar_status::InitiatorSession;
 use ar_target::InitiatorLogin;
 use std::alloc::{AllocError, Global};
 use std::marker::Model;
@@ -84,6 +87,13 @@ impl Attached {
         }
     }
 
+    // Whether it is a session of this host, and has this number, if there is one.
+    fn is_meant(&self, host: u8, number: Option<u64>) -> bool
+        ensures { result ≡ is_meant host number self.now }
+    {
+        are_of_one_host(self.host, Some(host)) && self.number == number.unwrap_or(self.number)
+    }
+
     // Whether it takes the place of another: it has its initiator's name, its ISID and its host.
     fn takes_place_of(&self, old: &Attached) -> bool
         ensures { result ≡ takes_place_of self.now old.now }
@@ -129,6 +139,18 @@ impl Entry {
         ensures { self.new ≡ after_login new.now self.old }
     {
         if new.takes_place_of(&self.session) {
+            if let Some(progress) = &self.progress {
+                progress.end();
+            }
+            self.session.is_ended = true;
+        }
+    }
+
+    // Ends it, if an operator means it.
+    fn see_order(&mut self, host: u8, number: Option<u64>)
+        ensures { self.new ≡ after_order host number self.old }
+    {
+        if self.session.is_meant(host, number) {
             if let Some(progress) = &self.progress {
                 progress.end();
             }
@@ -192,6 +214,16 @@ impl Initiators {
         note_entry(&mut self.list, number);
     }
 
+    /// Ends the sessions of a host, or the one of this number. Returns whether there is one.
+    pub fn end_sessions(&mut self, host: u8, number: Option<u64>) -> bool
+        ensures ended { self.new ≡ map (after_order host number) self.old }
+        ensures found { result ≡ list_any (is_meant host number) self.old }
+    {
+        let is_found = has_meant(&self.list, host, number);
+        end_meant(&mut self.list, host, number);
+        is_found
+    }
+
     /// Removes the session of this number, if there is one.
     pub fn end(&mut self, number: u64)
         ensures { self.new ≡ attached_without number self.old }
@@ -229,12 +261,43 @@ impl Initiators {
     }
 }
 
+impl Initiators {
+    /// Lists those whose login was accepted. It fails only when out of memory.
+    pub fn listed(&self, alloc: Global) -> Result<Vec<InitiatorSession>, AllocError> {
+        let mut sessions = Vec::with_capacity(alloc, self.list.len())?;
+        for entry in &self.list {
+            let session = entry.session();
+            if session.has_entered {
+                sessions.push(listed_session(alloc, &session)?)?;
+            }
+        }
+        Ok(sessions)
+    }
+}
+
 // Ends the sessions whose place another takes.
 fn end_former(list: &mut Vec<Entry>, new: &Attached)
     ensures items { list.new.items ≡ map (after_login new.now) list.old.items }
 {
     for entry in list.iter_mut() {
         entry.see_login(new);
+    }
+}
+
+// Whether a session of a host, or the one of this number, is there.
+fn has_meant(list: &[Entry], host: u8, number: Option<u64>) -> bool
+    ensures { result ≡ list_any (is_meant host number) list.now }
+{
+    list.iter()
+        .any(|entry| entry.session().is_meant(host, number))
+}
+
+// Ends the sessions of a host, or the one of this number.
+fn end_meant(list: &mut Vec<Entry>, host: u8, number: Option<u64>)
+    ensures items { list.new.items ≡ map (after_order host number) list.old.items }
+{
+    for entry in list.iter_mut() {
+        entry.see_order(host, number);
     }
 }
 
@@ -284,6 +347,17 @@ fn count_discoveries(list: &[Entry]) -> u8
         .filter(|entry| entry.session().host.is_none())
         .count();
     count.min(255) as u8
+}
+
+fn listed_session(alloc: Global, session: &Attached) -> Result<InitiatorSession, AllocError> {
+    let name = session.name.shown();
+    let initiator = str::from_utf8(name.as_slice()).unwrap_or("?");
+    Ok(InitiatorSession {
+        number: session.number,
+        host: session.host,
+        peer_port: session.peer,
+        initiator: String::from_str(alloc, initiator)?,
+    })
 }
 
 // Writes the line of a session.

@@ -26,6 +26,9 @@ use std::time::Clock;
 /// The answer of an action that was done.
 const DONE: &[u8] = b"ok\n";
 
+/// The answer where a host has no iSCSI session of which an operator orders the end.
+const NO_SESSION: &[u8] = b"refused: no such session\n";
+
 /// The answer where the store has failed: what an order has done, if anything, may not last.
 const STORE_FAILED: &[u8] = b"fault: store failed\n";
 
@@ -53,6 +56,16 @@ impl<'a, R: Wait, A: ControlledArray<L, M> + Drop, L: Ledger, M> LockController<
     fn fail(&self, disk: u8, accesses: Option<u64>, out: &mut Vec<u8>) -> Result<(), AllocError> {
         let array = self.array.array.lock(self.array.rt);
         array.set_fuse(self.array.fuses, disk, accesses, out)
+    }
+
+    // Ends the iSCSI sessions of a host, or one of them.
+    fn end(&self, host: u8, session: Option<u64>, out: &mut Vec<u8>) -> Result<(), AllocError> {
+        let is_found = self
+            .array
+            .initiators
+            .lock(self.array.rt)
+            .end_sessions(host, session);
+        out.extend_from_slice(if is_found { DONE } else { NO_SESSION })
     }
 
     // Writes a line for each host that has a session, and one for each iSCSI session.
@@ -84,13 +97,14 @@ impl<'a, R: Wait, A: ControlledArray<L, M> + Drop, L: Ledger, M> LockController<
 
     fn show_disks(&self, out: &mut Vec<u8>) -> Result<(), AllocError> {
         let inventory = self.inventory()?;
-        inventory.write_disks(out).map_err(|_| AllocError)
+        let left = self.array.rebuild_seconds_left();
+        inventory.write_disks(out, left).map_err(|_| AllocError)
     }
 
     // Copies what the words above show. Hosts wait meanwhile, as for a picture.
     fn inventory(&self) -> Result<Inventory, AllocError> {
         let array = self.array.array.lock(self.array.rt);
-        array.inventory(self.array.alloc, self.array.fuses)
+        array.inventory(self.array.alloc, self.array.fuses, self.array.number)
     }
 }
 
@@ -287,6 +301,7 @@ impl<'a, R: Wait + Clock, A: ControlledArray<L, M> + Drop, L: Ledger, M: Copy> C
             OperatorOrder::Disks => self.show_disks(out),
             OperatorOrder::Version => write_version(out, VERSION).map_err(|_| AllocError),
             OperatorOrder::Fail { disk, accesses } => self.fail(disk, accesses, out),
+            OperatorOrder::End { host, session } => self.end(host, session, out),
             OperatorOrder::Help => write_help(out).map_err(|_| AllocError),
             OperatorOrder::Stop => Ok(()),
         }

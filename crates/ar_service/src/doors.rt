@@ -13,7 +13,7 @@ use crate::watching::Watch;
 use ar_disks::Host;
 use ar_frames::{Linked, PairWrite, Sink, Source};
 use ar_iscsi::IscsiEnd;
-use ar_operator::{Fuse, OperatorEnd, disk_counts, lost_disks};
+use ar_operator::{Fuse, OperatorEnd, disk_totals, lost_disks};
 use ar_sessions::{Desk, Door, Handler, NoMemory, SharedDoor, Starter, run_pool, start_pool};
 use ar_status::{Activity, ArrayName, ArrayStatus, EventLog, SessionNumbers};
 use log::Log;
@@ -59,6 +59,8 @@ pub struct OperatedArray<'a, R: Wait, A: Drop, L: Ledger, M> {
     pub activity: &'a Mutex<Activity>,
     /// The array's name.
     pub name: ArrayName,
+    /// Distinguishes it from others in the serial numbers of its units, if initiators see them.
+    pub number: Option<u32>,
     /// A name by which HTTP clients may ask for the service, beside those of 127.0.0.1.
     pub http_host: Option<&'a str>,
     /// When the service began, if the clock could be read.
@@ -92,6 +94,13 @@ type Sides<'s, O, T, W, I> = (
     &'s Option<SideDoor<O, W>>,
     &'s Option<SideDoor<O, I>>,
 );
+
+impl<'a, R: Wait, A: Drop, L: Ledger, M> OperatedArray<'a, R, A, L, M> {
+    /// The seconds that a rebuild still takes by its pace, if one goes on and that can be told.
+    pub fn rebuild_seconds_left(&self) -> Option<u64> {
+        self.activity.lock(self.rt).rebuild_seconds_left()
+    }
+}
 
 impl<'a, R: Wait + Clock, A: ControlledArray<L, M> + Drop, L: Ledger, M> OperatedArray<
     'a,
@@ -132,7 +141,7 @@ impl<'a, R: Wait + Clock, A: ControlledArray<L, M> + Drop, L: Ledger, M> Operate
             name: self.name,
             seconds,
             lost: lost_disks(self.fuses),
-            disks: disk_counts(self.fuses),
+            disks: disk_totals(self.fuses),
             sessions,
             spares,
             refused: self.tallies.refused(),

@@ -11,6 +11,7 @@ mod initiator_name;
 mod initiators;
 mod latencies;
 mod lengths;
+mod listing;
 mod monitoring;
 mod operators;
 mod runtime;

@@ -304,6 +304,7 @@ fn serve_array<
         tallies: &tallies,
         activity: &activity,
         name: plan.name,
+        number: plan.iscsi.map(|iscsi| iscsi.array),
         http_host: plan.http_host,
         began: Instant::now(rt).ok(),
         system: plan.system,

@@ -43,7 +43,7 @@ pub struct Beside {
     pub seconds: u64,
     /// The disks that it has lost, if it has failed and they are known.
     pub lost: Option<[u8; 2]>,
-    /// What was counted of its disks, by number.
+    /// What was counted of its disks since the start, by number.
     pub disks: [DiskCounts; 12],
     pub sessions: SessionNumbers,
     /// The spare disks that are left.
@@ -104,7 +104,12 @@ pub trait ControlledArray<L: Ledger, M>: ServedArray<L> {
         ensures { IfOk result (IsPicture (Self.state self.now).array) };
 
     /// Returns what operators are shown of the array (`ar_operator::Inventory`). It fails only when out of memory.
-    fn inventory(&self, alloc: Global, fuses: &[Fuse; 12]) -> Result<Inventory, AllocError>;
+    fn inventory(
+        &self,
+        alloc: Global,
+        fuses: &[Fuse; 12],
+        number: Option<u32>,
+    ) -> Result<Inventory, AllocError>;
 }
 
 impl<A: OperableArray<L>, L: Ledger, M: DiskMaker<A::Disk>> ControlledArray<L, M> for A {
@@ -161,8 +166,13 @@ impl<A: OperableArray<L>, L: Ledger, M: DiskMaker<A::Disk>> ControlledArray<L, M
         picture_of(alloc, self.array())
     }
 
-    fn inventory(&self, alloc: Global, fuses: &[Fuse; 12]) -> Result<Inventory, AllocError> {
-        Inventory::of(alloc, self.array(), fuses)
+    fn inventory(
+        &self,
+        alloc: Global,
+        fuses: &[Fuse; 12],
+        number: Option<u32>,
+    ) -> Result<Inventory, AllocError> {
+        Inventory::of(alloc, self.array(), fuses, number)
     }
 }
 

@@ -4,11 +4,13 @@ ghost use Rattle.std.specs.Prelude.{◌≡◌, IfOk};
 ghost use Rattle.ar_service.specs.Watching.{CopiesMoment, IsDrawing, MayDraw, text_drawn};
 
 use crate::doors::OperatedArray;
+use crate::listing::inventory_of;
 use crate::shown::{Beside, ControlledArray};
 use ar_frames::Linked;
+use ar_operator::Inventory;
 use ar_picture::{Picture, write_svg};
 use ar_sessions::{Handler, Refusals};
-use ar_status::{ArrayStatus, EventLog, Look, Watched, serve_named};
+use ar_status::{ArrayInventory, ArrayStatus, EventLog, Look, Watched, serve_named};
 use log::Log;
 use std::alloc::{AllocError, Global};
 use std::hash::RandomState;
@@ -26,6 +28,14 @@ pub struct Watch<'a, R: Wait + Clock, A: ControlledArray<L, M> + Drop, L: Ledger
     refusals: Refusals,
 }
 
+// What is copied of an array at one moment.
+#[derive(Drop)]
+struct Moment {
+    status: ArrayStatus,
+    picture: Option<Picture>,
+    inventory: Option<Inventory>,
+}
+
 impl<'a, R: Wait + Clock, A: ControlledArray<L, M> + Drop, L: Ledger, M> Watch<'a, R, A, L, M> {
     /// A watch over an array, with the keys of the maps of header fields.
     pub fn new(
@@ -39,21 +49,51 @@ impl<'a, R: Wait + Clock, A: ControlledArray<L, M> + Drop, L: Ledger, M> Watch<'
         }
     }
 
-    // The status, and the data of the picture if it is to be drawn. The log's lock is taken before the array's, so that
-    // looks are compared in the order in which they were taken.
-    fn copied(
-        &self,
-        alloc: Global,
-        draws: bool,
-    ) -> Result<(ArrayStatus, Option<Picture>), AllocError>
-        ensures { IfOk result (λ copied. CopiesMoment A.persists draws copied.0 copied.1) }
+    // The status, the data of the picture if it is to be drawn, and the inventory if it is to be made. The log's lock is
+    // taken before the array's, so that looks are compared in the order in which they were taken.
+    fn copied(&self, alloc: Global, draws: bool, lists: bool) -> Result<Moment, AllocError>
+        ensures { IfOk result (λ moment. CopiesMoment A.persists draws moment.status moment.picture) }
     {
         let (sessions, spares) = (self.array.sessions(), self.array.spares_left());
         let mut log = self.array.log.lock(self.array.rt);
         let seconds = self.array.seconds();
         let array = self.array.array.lock(self.array.rt);
         let beside = self.array.beside(sessions, spares, seconds);
-        copy_moment::<A, L, M>(alloc, &array, &mut log, &beside, draws)
+        let (status, picture) = copy_moment::<A, L, M>(alloc, &array, &mut log, &beside, draws)?;
+        let inventory = self.inventory_if(alloc, &array, lists)?;
+        Ok(Moment {
+            status,
+            picture,
+            inventory,
+        })
+    }
+
+    // The inventory, if it is to be made.
+    fn inventory_if(
+        &self,
+        alloc: Global,
+        array: &A,
+        lists: bool,
+    ) -> Result<Option<Inventory>, AllocError> {
+        if !lists {
+            return Ok(None);
+        }
+        let inventory = array.inventory(alloc, self.array.fuses, self.array.number)?;
+        Ok(Some(inventory))
+    }
+
+    // The inventory as it is sent, with the iSCSI sessions.
+    fn listed(
+        &self,
+        alloc: Global,
+        inventory: Option<Inventory>,
+    ) -> Result<Option<ArrayInventory>, AllocError> {
+        let Some(inventory) = inventory else {
+            return Ok(None);
+        };
+        let sessions = self.array.initiators.lock(self.array.rt).listed(alloc)?;
+        let left = self.array.rebuild_seconds_left();
+        Ok(Some(inventory_of(alloc, &inventory, left, sessions)?))
     }
 }
 
@@ -119,10 +159,19 @@ impl<'a, R: Wait + Clock, A: ControlledArray<L, M> + Drop, L: Ledger, M> Watched
 
     ghost shows = { λ _ draws status picture. ShowsMoment A.persists draws status picture };
 
-    fn look(&self, alloc: Global, draws: bool) -> Result<Look, AllocError> {
-        let (status, picture) = self.copied(alloc, draws)?;
+    fn look(&self, alloc: Global, draws: bool, lists: bool) -> Result<Look, AllocError> {
+        let Moment {
+            status,
+            picture,
+            inventory,
+        } = self.copied(alloc, draws, lists)?;
         let picture = draw(alloc, &picture)?;
-        Ok(Look { status, picture })
+        let inventory = self.listed(alloc, inventory)?;
+        Ok(Look {
+            status,
+            picture,
+            inventory,
+        })
     }
 }
 
