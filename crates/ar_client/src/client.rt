@@ -10,6 +10,11 @@ use ar_scsi::Reply;
 use std::alloc::Global;
 use std::io::{BufWriter, Read, Write};
 
+/// Why a line of a script isn't a host's.
+const NO_COMMAND: &str = "a host sends commands alone: other words are an operator's";
+
+const OTHER_HOST: &str = "the command is of another host than that of --host";
+
 /// A session after its login.
 #[derive(Drop)]
 pub struct Client<S: Source + Drop, W: Sink + Drop> {
@@ -105,7 +110,7 @@ impl<S: Source + Drop, W: Sink + Drop> Client<S, W> {
         let Some(order) = order_in(line).map_err(fault)? else {
             return Ok(());
         };
-        let asked = self.asked_by(order).map_err(fault)?;
+        let asked = self.asked_by(number, order)?;
         let reply = self
             .ask(asked)
             .map_err(|kind| Failure::asked(number, kind))?;
@@ -114,7 +119,7 @@ impl<S: Source + Drop, W: Sink + Drop> Client<S, W> {
     }
 
     // The command of a line. Any other word is unknown here, and another host's commands are out of range.
-    fn asked_by(&self, order: Order) -> Result<Asked, FaultKind> {
+    fn asked_by(&self, number: u32, order: Order) -> Result<Asked, Failure> {
         let Order::Act(
             Action::Command {
                 addr,
@@ -124,10 +129,10 @@ impl<S: Source + Drop, W: Sink + Drop> Client<S, W> {
             },
         ) = order
         else {
-            return Err(FaultKind::UnknownWord);
+            return Err(Failure::misplaced(number, FaultKind::UnknownWord, NO_COMMAND));
         };
         if addr.host.number() != self.host.number() {
-            return Err(FaultKind::BadArgument);
+            return Err(Failure::misplaced(number, FaultKind::BadArgument, OTHER_HOST));
         }
         Ok(Asked {
             lun: addr.lun,

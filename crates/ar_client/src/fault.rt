@@ -37,6 +37,9 @@ pub enum Failure {
     /// The same, and what is wrong with the line.
     #[error("{0}\n{1}")]
     Explained(Fault, String),
+    /// A line that a script may have, and why a host's can't have it.
+    #[error("{0}\n{1}")]
+    Misplaced(Fault, &'static str),
 }
 
 impl ExitStatus for Failure {
@@ -52,6 +55,12 @@ impl Failure {
     pub fn at(line: u32, kind: FaultKind) -> Failure {
         let line = line.max(1);
         Failure::Line(Fault::Line { line, kind })
+    }
+
+    /// A line that a host can't send, and why.
+    pub fn misplaced(line: u32, kind: FaultKind, why: &'static str) -> Failure {
+        let line = line.max(1);
+        Failure::Misplaced(Fault::Line { line, kind }, why)
     }
 
     /// What went wrong with the answer to a line.

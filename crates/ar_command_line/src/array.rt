@@ -339,6 +339,12 @@ fn name_of(alloc: Global, options: &ArgMatches<'_>) -> Result<String, UsageFault
             "invalid value for '--name <NAME>': at most 64 bytes are allowed",
         ));
     }
+    if name.bytes().any(|byte| byte.is_ascii_control()) {
+        return Err(bad_value(
+            alloc,
+            "invalid value for '--name <NAME>': control characters are not allowed",
+        ));
+    }
     Ok(String::from_str(alloc, name)?)
 }
 

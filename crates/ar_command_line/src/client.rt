@@ -55,9 +55,22 @@ static EXAMPLE: &str = "It reads its lines from standard input, and prints the a
 
 /// Reads the words of a command line, the program's name first.
 pub fn account_in<S: AsStr>(alloc: Global, words: &[S]) -> Result<Account, UsageFault> {
+    // (`help` shows what the program's name alone does)
+    let words = if asks_help(words) {
+        words.get(..1).unwrap_or(words)
+    } else {
+        words
+    };
     match parse(alloc, command(alloc)?, words)? {
         Parsed::Shown(text) => Ok(Account::Shown(text)),
         Parsed::Matches(matches) => account_of(alloc, &matches),
+    }
+}
+
+fn asks_help<S: AsStr>(words: &[S]) -> bool {
+    match words {
+        [_, word] => word.as_str() == "help",
+        _ => false,
     }
 }
 
