@@ -120,6 +120,9 @@ class Names(Case):
         initiator = self.kept(server.initiator(0))
         data, said = initiator.asks(bytes.fromhex("12 01 80 00 FF 00"), flags=0xC1, expected=255)
         self.wants((data[:2], said.status), (b"\x00\x80", GOOD), "the Unit Serial Number page")
+        units = server.answers_to("units\n").splitlines()
+        wanted = f"unit 0 0 sectors 24 blocks 12 written 0 cached 0 serial {data[4:].decode()}"
+        self.wants(units, [wanted], "an operator's `units`")
         return data[4:]
 
     def test_two_arrays_have_other_names(self):

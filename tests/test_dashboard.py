@@ -2,12 +2,15 @@
 import json
 import re
 
-from tests.harness import Case, text_of
+from tests.harness import text_of
+from tests.test_store import Stored
 
 
-class Dashboard(Case):
+class Dashboard(Stored):
     def test_metrics(self):
-        server = self.serve("0:0:8", doors=("operator", "http"))
+        """Those of an array with a store, which are all."""
+        self.creates()
+        server = self.takes_up("0:0:8", doors=("operator", "http"))
         served = set(re.findall(r"^(autoraid_\w+)", server.get("/metrics")[2], re.MULTILINE))
         shown = json.loads(text_of("examples", "grafana.json"))
         targets = [target["expr"] for panel in shown["panels"] for target in panel["targets"]]

@@ -76,6 +76,7 @@ WRONG = {
         f"{SERVE} --audit none": "none --audit full off",
         f"{SERVE} --http-host array.example": "--http-host --http PORT",
         f"{SERVE} --name {65 * 'n'}": "--name 64",
+        f"{SERVE} --name a\x07b": "--name control",
         f"{SERVE} --mirror folder": "--mirror --store FOLDER",
         f"{SERVE} --sync always": "--sync --store FOLDER",
         f"{SERVE} --commit-every 5": "--commit-every --store FOLDER",
@@ -89,6 +90,7 @@ WRONG = {
         "create --store folder --disks 3": "3 --disks 4 12",
         "create --store folder --cache 4": "--cache",
         f"create --store folder --name {65 * 'n'}": "--name 64",
+        "create --store folder --name a\x7Fb": "--name control",
         "check": "--store FOLDER",
         "check folder": "folder --store",
         "export --store folder": "UNIT",
@@ -131,11 +133,12 @@ class Help(Case):
         self.holds(max(map(len, text.splitlines())) <= COLUMNS, f"at most {COLUMNS} columns", text)
 
     def test_programs(self):
-        """Without a word a program shows its help, as `--help` and `-h` do."""
+        """Without a word a program shows its help, as `help`, `--help` and `-h` do."""
         for name, words in ("autoraid", SUBCOMMANDS), ("ar_client", ("--port", "--host", "--operator", "--wait")):
             text = self.shown(name)
             self.wants(self.shown(name, "--help"), text, f"{name} --help")
             self.wants(self.shown(name, "-h"), text, f"{name} -h")
+            self.wants(self.shown(name, "help"), text, f"{name} help")
             self.holds(has(text, words), f"{words} in the help", text)
             self.holds(re.search(rf"^Examples?:|^  .*{name} ", text, re.MULTILINE), "an example", text)
             self.fits(text, 24)
@@ -159,9 +162,6 @@ class Help(Case):
         words = [str(free_port()) if re.fullmatch(r"711\d", word) else word for word in rest.split()]
         running = self.starts(program("autoraid"), "serve", *words)
         self.wants(running.line(), f"listening {words[1]}\n", rest)
-
-    def test_help_as_a_word(self):
-        self.wants(self.shown("autoraid", "help"), self.shown("autoraid"), "autoraid help")
 
     def test_versions(self):
         version = re.search(r'VERSION.* = "(.*)"', text_of("crates", "ar_cli", "src", "version.rt"))[1]

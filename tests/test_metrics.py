@@ -143,6 +143,10 @@ class Metrics(Case):
         server.client(0, WRITE.format(24))
         errors = self.counted(server)[1]
         self.holds(errors[2] >= 1 and errors[:2] + errors[3:] == [0] * 3, "errors of disk 2 alone", errors)
+        self.wants(server.answers_to("replace 2\n"), "ok\n", "a new disk")
+        self.wants(self.counted(server)[1], errors, "the errors of all disks that had these numbers")
+        line = server.answers_to("disks\n").splitlines()[2]
+        self.wants(line.split()[8:10], ["errors", "0"], "those of the new disk alone")
         self.stops(server, [2, 0, 0, 0], error=None)
 
     def test_refused_logins(self):

@@ -3,7 +3,8 @@ place of another session (RFC 7143, 6.3.5)."""
 import re
 import time
 
-from tests.harness import ACCEPTED, TARGET, TEST_UNIT_READY, Case, Initiator, read_10, rest_of, untimed, write_10
+from tests.harness import ACCEPTED, TARGET, TEST_UNIT_READY, Case, Initiator, read_10, rest_of, untimed, waited
+from tests.harness import write_10
 
 NAME, OTHER = "iqn.1993-08.org.debian:01:abc", "iqn.2026-11.example:other"
 ISID, ANOTHER = 0x400001370000, 0x400001370001
@@ -42,6 +43,17 @@ class NamedCase(Case):
     def stays(self, initiator, what):
         self.wants(initiator.ping(b"here").data, b"here", f"a NOP-In of {what}")
 
+    def has_written(self, initiator):
+        """Writes a sector, once the unit has reported that the session is new."""
+        initiator.asks(write_10(LBA, 1), flags=0xA1, expected=512, data=SECTOR)
+        self.wants(initiator.asks(write_10(LBA, 1), flags=0xA1, expected=512, data=SECTOR)[1].status, 0, "a WRITE")
+
+    def has_kept(self, initiator):
+        """A new session reports that it is new, and then reads what the old one has written."""
+        said = initiator.asks(read_10(LBA, 1), flags=0xC1, expected=512)[1]
+        self.wants(said.code, b"\x06\x29\x00", "the first READ")
+        self.wants(initiator.asks(read_10(LBA, 1), flags=0xC1, expected=512)[0], SECTOR, "what was written")
+
     def ended(self):
         """Stops the server, and returns what its log says, without times and how long sessions took."""
         self.wants(self.server.answers_to("stop\n"), "stopped\n", "a stop")
@@ -70,6 +82,10 @@ class Shown(NamedCase):
         wanted += [f"iscsi 3 host 0 {three} {NAME}"]
         self.wants(self.server.answers_to("sessions\n").splitlines(), wanted, "an operator's `sessions`")
         self.are_open([1, 1, 0, 0], 2)
+        found = self.server.status_json()["inventory"]["iscsi_sessions"]
+        said = [tuple(session[name] for name in ("number", "host", "peer_port", "initiator")) for session in found]
+        wanted = [(1, None, port_of(first), NAME), (2, None, port_of(second), OTHER), (3, 0, port_of(third), NAME)]
+        self.wants(said, wanted, "the iSCSI sessions as JSON")
         for link in first, second, third, host:
             link.close()
         self.wants(self.server.wait_for_none(), "", "sessions once all have left")
@@ -112,17 +128,6 @@ class Reinstatement(NamedCase):
     def counted(self):
         """How many commands of host 0 the array has counted."""
         return int(self.server.answers_to("counts\n").split()[3])
-
-    def has_written(self, initiator):
-        """Writes a sector, once the unit has reported that the session is new."""
-        initiator.asks(write_10(LBA, 1), flags=0xA1, expected=512, data=SECTOR)
-        self.wants(initiator.asks(write_10(LBA, 1), flags=0xA1, expected=512, data=SECTOR)[1].status, 0, "a WRITE")
-
-    def has_kept(self, initiator):
-        """A new session reports that it is new, and then reads what the old one has written."""
-        said = initiator.asks(read_10(LBA, 1), flags=0xC1, expected=512)[1]
-        self.wants(said.code, b"\x06\x29\x00", "the first READ")
-        self.wants(initiator.asks(read_10(LBA, 1), flags=0xC1, expected=512)[0], SECTOR, "what was written")
 
     def test_idle_session(self):
         old = self.logs_in(0)
@@ -229,3 +234,48 @@ class Alone(Case):
         begun = time.monotonic()
         self.stops(server)
         self.holds(time.monotonic() - begun < 3, "an end within three seconds", time.monotonic() - begun)
+
+
+class Ended(NamedCase):
+    """Sessions that an operator ends."""
+
+    def answers(self, line, wanted):
+        self.wants(self.server.answers_to(f"{line}\n"), f"{wanted}\n", f"an operator's `{line}`")
+
+    def open_sessions(self):
+        """The numbers of the iSCSI sessions."""
+        lines = self.server.answers_to("sessions\n").splitlines()
+        return [line.split()[1] for line in lines if line.startswith("iscsi")]
+
+    def test_sessions_of_a_host(self):
+        """Its session ends though it does not read, and its seat is free; all others go on."""
+        old, discovery, other = self.logs_in(0), self.logs_in(None, OTHER, ANOTHER), self.logs_in(1)
+        self.has_written(old)
+        for _ in range(1024):
+            old.sends(read_10(0, 24), flags=0xC1, expected=24 * 512)
+        begun = time.monotonic()
+        self.answers("end 0", "ok")
+        self.wants(waited(self.open_sessions, ["2", "3"]), ["2", "3"], "the sessions that are left")
+        self.has_kept(self.logs_in(0, OTHER))
+        passed = time.monotonic() - begun
+        self.holds(passed < MOST, f"a login of another initiator within {MOST} s", f"{passed:.2f} s")
+        self.stays(other, "another host's session")
+        self.stays(discovery, "a session for discovery")
+
+    def test_one_session(self):
+        """A number that another host's session has, or none, ends nothing."""
+        first, second = self.logs_in(0), self.logs_in(1)
+        self.answers("end 2", "refused: no such session")
+        self.answers("end 1 1", "refused: no such session")
+        self.answers("end 0 2", "refused: no such session")
+        self.stays(first, "a session that nobody has ended")
+        self.answers("end 1 2", "ok")
+        rest_of(second.link)
+        self.wants(waited(self.open_sessions, ["1"]), ["1"], "the sessions that are left")
+        self.answers("end 1", "refused: no such session")
+        self.stays(first, "the other session")
+
+    def test_session_by_frames(self):
+        host = self.kept(self.server.log_in(0))
+        self.answers("end 0", "refused: no such session")
+        self.wants(host.is_ready(), True, "a session by frames")

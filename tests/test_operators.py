@@ -14,6 +14,8 @@ out D force
 replace D
 fail D N
 fail D off
+end H
+end H S
 flush
 demote
 clean
@@ -70,6 +72,7 @@ FAULTY = {
 FAULTY["not an operator's word"] += ["unmap"]
 FAULTY["bad argument"] += ["fail", "fail 0", "fail 0 x", "fail 256 1", "fail 0 off off", "fail 0 12345678901"]
 FAULTY["bad argument"] += ["fail 0 1 1 1 1 1 1 1 1", "usage 0", "units 0 0", "disks 0", "version 1"]
+FAULTY["bad argument"] += ["end", "end 4", "end x", "end 0 x", "end 0 1 2", "end -1"]
 
 # Units and views of an array of four disks of four extents, in order, by the tables of scripts' lines and answers.
 UNITS = [
@@ -78,7 +81,7 @@ UNITS = [
     ("room", "room 16"),
     # (in sectors, of which a block has two)
     ("usage", "room 32 sectors\nmirrored 0 sectors\nparity 0 sectors\nunwritten 4 sectors\nspares 0"),
-    ("units", "unit 0 0 sectors 4 blocks 2 written 0"),
+    ("units", "unit 0 0 sectors 4 blocks 2 written 0 cached 0"),
     ("disks", "\n".join(f"disk {disk} extents 0 of 4 accesses 0 errors 0 in use" for disk in range(4))),
     ("make 0 0 4", "refused M1 Exists"),
     ("make 0 8 4", "refused M7 BadLun"),
@@ -275,7 +278,7 @@ class Operators(Case):
         # (the units have 15 of 18 blocks of two sectors)
         wanted = {"room": "6", "unwritten": "22", "spares": "0"}
         self.wants((said, placed), (wanted, 8), "how the sectors are used")
-        units = ["unit 0 0 sectors 24 blocks 12 written 4", "unit 1 3 sectors 5 blocks 3 written 0"]
+        units = ["unit 0 0 sectors 24 blocks 12 written 4 cached 0", "unit 1 3 sectors 5 blocks 3 written 0 cached 0"]
         self.wants(operator.asks("units"), units, "the units")
         self.wants(operator.asks("version"), [ran(program("autoraid"), "--version").out.strip()], "the version")
 

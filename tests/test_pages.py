@@ -207,6 +207,61 @@ class Pages(Case):
         self.holds(late >= 2, "an event of 3 s ago", f"{late} s ago")
 
 
+UNIT = (
+    "unit {host} {lun} sectors {sectors} blocks {blocks} written {written_blocks} cached {cached_blocks} "
+    "serial {serial_number}"
+)
+DISK = "disk {disk} extents {extents_used} of {extents} accesses {accesses} errors {errors} {state}"
+
+
+def as_words(status):
+    """What operators' words answer, by the JSON."""
+    inventory, extents = status["inventory"], status["extents"]
+    kinds = "room", "mirrored", "parity", "unwritten"
+    usage = [f"{kind} {inventory['usage'][f'{kind}_sectors']} sectors" for kind in kinds]
+    return {
+        "usage": [*usage, f"spares {status['spares']}"],
+        "units": [UNIT.format(**unit) for unit in inventory["units"]],
+        "disks": [DISK.format(**disk, extents=extents) for disk in inventory["disks"]],
+    }
+
+
+class Inventory(Case):
+    """What operators' words say of units, disks and sectors is in the JSON, too."""
+
+    def setUp(self):
+        super().setUp()
+        words = "--extents", "16", "--cache", "2", "0:0:24", "1:3:5"
+        self.server = self.serve(*words, audit="off", doors=(*DOORS, "iscsi"))
+        self.operator = self.kept(self.server.operator())
+
+    def said(self):
+        return {word: self.operator.asks(word) for word in ("usage", "units", "disks")}
+
+    def agrees(self):
+        """Compares the words with the JSON, which is read between two times that they say the same."""
+        for _ in range(100):
+            said, status = self.said(), self.server.status_json()
+            if said == self.said():
+                break
+            time.sleep(0.05)
+        self.wants(as_words(status), said, "the JSON")
+        return {word: [line.split() for line in lines] for word, lines in said.items()}
+
+    def test_what_words_say(self):
+        """Before and after writes, with a disk out, and once it was rebuilt."""
+        self.agrees()
+        host = self.kept(self.server.log_in(0))
+        self.wants(host.writes(0, b"w" * 8192).status, 0, "a WRITE of eight blocks")
+        unit = self.agrees()["units"][0]
+        self.holds(int(unit[8]) + int(unit[10]) >= 8, "eight blocks that are on the disks or cached", unit)
+        self.wants(self.operator.asks("out 1"), ["ok"], "a disk that is taken out")
+        self.wants(self.agrees()["disks"][1][10:], ["out"], "it")
+        self.wants(self.operator.asks("replace 1"), ["ok"], "a new disk")
+        self.wants(self.operator.waits("health", ["whole"]), ["whole"], "a rebuild")
+        self.wants([disk[10:] for disk in self.agrees()["disks"]], [["in", "use"]] * 4, "the disks afterwards")
+
+
 class End(Case):
     def test_end_of_a_watched_service(self):
         """A service without operators ends with its last session, whoever watches."""

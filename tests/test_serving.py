@@ -94,7 +94,8 @@ class Serving(Case):
             if number:
                 self.wants(server.wait_for_none(), "", "sessions once a client has left")
             said = server.client(0, f"read 0 0 0 8\n{word}\nwrite 0 0 0 8 AA\n")
-            self.wants(said, Ended(1, "good 4096x00\n", "line 2: unknown word\n"), f"a client's script with {word}")
+            error = "line 2: unknown word\na host sends commands alone: other words are an operator's\n"
+            self.wants(said, Ended(1, "good 4096x00\n", error), f"a client's script with {word}")
         self.ends(server, [len(words), 0, 0, 0])
 
     def test_default_of_the_audit(self):
