@@ -1,7 +1,8 @@
-// Appends, beside a bare loop of the same writes and syncs, and reading.
+// Appends, beside a bare loop of the same writes and syncs, and reading, as a start does it.
 use crate::failure::Failure;
-use crate::reading::count_records;
+use crate::reading::read_through;
 use crate::writing::{append_all, new_log};
+use std::fmt::{self, Display, Formatter, Write};
 use std::fs::{self, File};
 use std::os::unix::fs::FileExt;
 use std::time::{Clock, Instant};
@@ -25,19 +26,32 @@ fn measure_row(rt: &HostRuntime, path: &str, len: usize, count: u64) -> Result<(
     append_all(alloc, &mut log, count, len)?;
     let appended = since(rt, begin)?;
     let begin = now(rt)?;
-    let found = count_records(alloc, &mut log.media)?;
+    let found = read_through(alloc, &mut log.media)?;
     let read = since(rt, begin)?;
     drop(log);
     let bare = measure_bare(rt, path, len, count)?;
     let bytes = count.saturating_mul(len as u64);
     println!(rt;
-        "{len}: {} appends/s, {} MB/s, bare {} appends/s; read {found} at {} MB/s",
+        "{len}: {} appends/s, {} MB/s; bare {} appends/s, {} MB/s; reads {found} at {} GB/s",
         rate(count, appended),
-        rate(bytes, appended) / 1_000_000,
+        Decimal(rate(bytes, appended) / 10_000),
         rate(count, bare),
-        rate(bytes, read) / 1_000_000
+        Decimal(rate(bytes, bare) / 10_000),
+        Decimal(rate(bytes, read) / 10_000_000)
     )?;
     Ok(())
+}
+
+/// A number of hundredths.
+#[derive(Clone, Copy)]
+struct Decimal(u64);
+
+impl Display for Decimal {
+    fn fmt<W: Write>(&self, f: &mut Formatter<W>) -> fmt::Result {
+        let whole = self.0 / 100;
+        let rest = self.0 % 100;
+        write!(f, "{whole}.{rest:02}")
+    }
 }
 
 // The same writes and syncs on a file of their own.

@@ -22,6 +22,18 @@ pub fn count_records<M: Media>(alloc: Global, media: &mut M) -> Result<u64, Fail
     Ok(0)
 }
 
+/// Reads the log to its end, each batch against its digest, and returns how many it has after its head.
+pub fn read_through<M: Media>(alloc: Global, media: &mut M) -> Result<u64, Failure> {
+    let mut place = open(alloc, media)?;
+    for number in 0..u64::MAX {
+        match next_batch(alloc, media, place)? {
+            None => return Ok(number.saturating_sub(1)),
+            Some(read) => place = read.next,
+        }
+    }
+    Ok(0)
+}
+
 /// Prints how many records the log at `path` has.
 pub fn print_count(rt: &HostRuntime, path: &str) -> Result<(), Failure> {
     let mut file = RegularFile::open(rt, path)?;
