@@ -176,6 +176,15 @@ class Tests(Refused):
     def test_cached_put(self):
         self.goes_on("test_space", "cache::no_put_is_refused_for_memory")
 
+    def test_log(self):
+        self.goes_on("test_log", "scarce::a_log_goes_on")
+
+    def test_journal(self):
+        self.goes_on("test_log", "scarce::a_journal_goes_on")
+
+    def test_two_copies(self):
+        self.goes_on("test_log", "scarce::two_copies_go_on")
+
     def test_array_first_run(self):
         self.goes_on("test_array", "scarce::the_first_run")
 

@@ -1,7 +1,9 @@
-//! Tests of logs over files in memory: what no contract says.
+//! Tests of logs and journals: what no contract says.
 #![tactic(auto)]
 
 #[cfg(test)]
 mod bytes;
 #[cfg(test)]
 mod rig;
+#[cfg(test)]
+mod scarce;

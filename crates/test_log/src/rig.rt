@@ -42,7 +42,8 @@ pub fn are_all(log: &WholeLog) -> bool {
             .all(|(found, wanted)| is_batch(found, wanted))
 }
 
-fn is_batch(found: &[Vec<u8>], wanted: &[&[u8]]) -> bool {
+/// Whether a batch has these records.
+pub fn is_batch(found: &[Vec<u8>], wanted: &[&[u8]]) -> bool {
     found.len() == wanted.len()
         && found
             .iter()
