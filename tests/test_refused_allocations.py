@@ -101,6 +101,7 @@ class Refused(Case):
         super().setUp()
         room = tempfile.TemporaryDirectory()
         self.addCleanup(room.cleanup)
+        self.room = room.name
         source, self.library, self.mark = (os.path.join(room.name, name) for name in ("refuse.c", "refuse.so", "mark"))
         with open(source, "w", encoding="utf-8") as file:
             file.write(REFUSE)
@@ -112,7 +113,7 @@ class Refused(Case):
         for number in itertools.count():
             with open(self.mark, "w", encoding="utf-8"):
                 names = {"LD_PRELOAD": self.library, "REFUSED_ALLOCATION": str(number), "NOT_REFUSED": self.mark}
-            said = ran(*words(), text=self.text, env={**os.environ, **names})
+            said = ran(*words(), text=self.text, env={**os.environ, **names}, cwd=self.room)
             if number > 0 and os.path.exists(self.mark):
                 return
             yield number, said

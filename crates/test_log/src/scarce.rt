@@ -331,9 +331,15 @@ fn start<'a>(
     }
 }
 
-// The further copy was taken, and the other has all of it, or is given up for want of memory.
-fn is_started(rt: &impl Abort, taken: CopyState, other: CopyState) -> bool {
-    assert!(rt; taken == CopyState::Taken, "{taken:?}");
+// One copy was taken: the further one, unless a start that was refused has brought the other up to it. That has all of
+// it now, or is given up for want of memory.
+fn is_started(rt: &impl Abort, further: CopyState, behind: CopyState) -> bool {
+    let other = if further == CopyState::Taken {
+        behind
+    } else {
+        assert!(rt; behind == CopyState::Taken, "{further:?} {behind:?}");
+        further
+    };
     let is_given_up = other == CopyState::GivenUp(LogError::Memory);
     assert!(rt; is_given_up || other == CopyState::Extended, "{other:?}");
     !is_given_up
@@ -347,7 +353,7 @@ fn read_copies(rt: &impl Abort, host: &HostRuntime, alloc: Global, is_other_take
         first,
         second,
     } = start(rt, host, alloc, &losses);
-    let (taken, behind) = if is_other_taken {
+    let (further, behind) = if is_other_taken {
         (second, first)
     } else {
         (first, second)
@@ -356,7 +362,7 @@ fn read_copies(rt: &impl Abort, host: &HostRuntime, alloc: Global, is_other_take
         Ok(mut reader) => reads(rt, alloc, &mut reader),
         Err((error, _files)) => is_refused(rt, error),
     }
-    is_started(rt, taken, behind)
+    is_started(rt, further, behind)
 }
 
 fn copies_go_on(rt: &impl Abort, host: &HostRuntime, alloc: Global, is_other_taken: bool) {
