@@ -10,11 +10,6 @@ use ar_scsi::Reply;
 use std::alloc::Global;
 use std::io::{BufWriter, Read, Write};
 
-/// Why a line of a script isn't a host's.
-const NO_COMMAND: &str = "a host sends commands alone: other words are an operator's";
-
-const OTHER_HOST: &str = "the command is of another host than that of --host";
-
 /// A session after its login.
 #[derive(Drop)]
 pub struct Client<S: Source + Drop, W: Sink + Drop> {
@@ -129,10 +124,10 @@ impl<S: Source + Drop, W: Sink + Drop> Client<S, W> {
             },
         ) = order
         else {
-            return Err(Failure::misplaced(number, FaultKind::UnknownWord, NO_COMMAND));
+            return Err(Failure::no_command(number));
         };
         if addr.host.number() != self.host.number() {
-            return Err(Failure::misplaced(number, FaultKind::BadArgument, OTHER_HOST));
+            return Err(Failure::other_host(number));
         }
         Ok(Asked {
             lun: addr.lun,

@@ -37,9 +37,12 @@ pub enum Failure {
     /// The same, and what is wrong with the line.
     #[error("{0}\n{1}")]
     Explained(Fault, String),
-    /// A line that a script may have, and why a host's can't have it.
-    #[error("{0}\n{1}")]
-    Misplaced(Fault, &'static str),
+    /// A word of scripts that isn't a host's.
+    #[error("{0}\na host sends commands alone: other words are an operator's")]
+    NoCommand(Fault),
+    /// A command of another host.
+    #[error("{0}\nthe command is of another host than that of --host")]
+    OtherHost(Fault),
 }
 
 impl ExitStatus for Failure {
@@ -57,10 +60,16 @@ impl Failure {
         Failure::Line(Fault::Line { line, kind })
     }
 
-    /// A line that a host can't send, and why.
-    pub fn misplaced(line: u32, kind: FaultKind, why: &'static str) -> Failure {
-        let line = line.max(1);
-        Failure::Misplaced(Fault::Line { line, kind }, why)
+    /// A line with a word of scripts that isn't a host's.
+    pub fn no_command(line: u32) -> Failure {
+        let (line, kind) = (line.max(1), FaultKind::UnknownWord);
+        Failure::NoCommand(Fault::Line { line, kind })
+    }
+
+    /// A line with a command of another host.
+    pub fn other_host(line: u32) -> Failure {
+        let (line, kind) = (line.max(1), FaultKind::BadArgument);
+        Failure::OtherHost(Fault::Line { line, kind })
     }
 
     /// What went wrong with the answer to a line.
