@@ -1,7 +1,13 @@
+pub mod Advancing
 pub mod Ahead
 pub mod Appending
+pub mod Beginning
+pub mod Counting
 pub mod Creating
 pub mod Encoding
+pub mod Found
+pub mod Rereading
 pub mod Standing
 pub mod Starting
 pub mod Whole
+pub mod Zeroing

@@ -3,3 +3,4 @@ pub mod Failure
 pub mod Log
 pub mod Reading
 pub mod Write
+pub mod Zeroed

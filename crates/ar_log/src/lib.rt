@@ -17,6 +17,10 @@ mod read;
 mod recover_log;
 mod start;
 mod write;
+mod zeroed;
+mod zeroed_codec;
+mod zeroed_read;
+mod zeroed_start;
 
 pub use error::LogError;
 pub use log::Log;
@@ -26,3 +30,6 @@ pub use read::{next_batch, open};
 pub use recover_log::{WholeLog, recover};
 pub use start::{create, cut_torn, resume};
 pub use write::write_synced;
+pub use zeroed::ZeroedLog;
+pub use zeroed_read::{ZeroedBatches, read_medium, read_zeroed};
+pub use zeroed_start::{create_zeroed, recover_zeroed, resume_zeroed};

@@ -24,7 +24,12 @@ struct Head {
 }
 
 /// Returns `len` bytes from `at` on.
-fn fetch<M: Media>(alloc: Global, media: &mut M, at: usize, len: usize) -> Result<Vec<u8>, LogError>
+pub fn fetch<M: Media>(
+    alloc: Global,
+    media: &mut M,
+    at: usize,
+    len: usize,
+) -> Result<Vec<u8>, LogError>
     ensures bytes { IfOk result (λ bytes. IsTrue (M.is_clean media.new)
         → bytes.items ≡ take len (drop at (M.seen media.old))) }
     ensures len { IfOk result (λ bytes. length bytes.items ≡ len) }
@@ -41,7 +46,7 @@ fn fetch<M: Media>(alloc: Global, media: &mut M, at: usize, len: usize) -> Resul
 }
 
 /// The number in the eight bytes from `at` on.
-fn number_at(bytes: &[u8], at: usize) -> u64
+pub fn number_at(bytes: &[u8], at: usize) -> u64
     requires { at + 8 ≤ length bytes.now }
     ensures { number_bytes result ≡ take 8 (drop at bytes.now) }
 {
