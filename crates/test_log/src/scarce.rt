@@ -332,7 +332,7 @@ fn start<'a>(
 }
 
 // One copy was taken: the further one, unless a start that was refused has brought the other up to it. That has all of
-// it now, or is given up for want of memory.
+// it now, or is given up because an allocation failed.
 fn is_started(rt: &impl Abort, further: CopyState, behind: CopyState) -> bool {
     let other = if further == CopyState::Taken {
         behind
