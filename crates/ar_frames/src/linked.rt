@@ -91,6 +91,13 @@ impl<S> Linked<S> {
         }
     }
 
+    // Notes that bytes have come.
+    fn note_bytes(&self) {
+        if let Some(progress) = &self.progress {
+            progress.note_bytes();
+        }
+    }
+
     // Notes an accepted login.
     fn note_login(&self) {
         if let Some(progress) = &self.progress {
@@ -142,7 +149,10 @@ impl<R: Read> Source for Linked<R> {
         }
         for _ in 0..=INTERRUPTIONS {
             match self.stream.read(into) {
-                Ok(n) => return Some(n),
+                Ok(n) => {
+                    self.note_bytes();
+                    return Some(n);
+                }
                 Err(error) if error.kind() == ErrorKind::Interrupted => {}
                 Err(_) => return self.read_fault(),
             }

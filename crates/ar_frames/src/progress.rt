@@ -1,5 +1,6 @@
 // How far the session of a connection has come. The session notes it, and its streams and its door look at it: so that
-// one that doesn't log in is not waited for without end, and isn't counted. Another session may end it here.
+// one that doesn't log in is not waited for without end, and isn't counted. Another session may end it here. A session
+// that pings a silent peer notes here that it waits for a request, and its stream that the peer is silent.
 use std::net::{Shutdown, TcpStream};
 use std::sync::Arc;
 use std::sync::atomic::{AtomicBool, AtomicU64, Ordering};
@@ -22,6 +23,15 @@ const DISCOVERY: u64 = 1;
 
 const ENTERED: u64 = 2;
 
+// What a session waits for, as numbers: it pings nobody, or some bytes of a request have come.
+const NO_PING: u64 = 0;
+
+// For the first byte of a request.
+const REQUEST: u64 = 1;
+
+// The same, and the read was ended since the peer is silent.
+const SILENCE: u64 = 2;
+
 /// Counts the sessions of a door up to its last one, which closes it.
 #[derive(Drop)]
 pub struct SessionCount {
@@ -37,6 +47,8 @@ pub struct Progress {
     stage: AtomicU64,
     count: Option<Arc<SessionCount>>,
     peer: Option<u16>,
+    // What the session waits for.
+    wait: AtomicU64,
     // Whether the session is to end.
     ended: AtomicBool,
 }
@@ -72,6 +84,7 @@ impl Progress {
             stage: AtomicU64::new(SILENT),
             count,
             peer,
+            wait: AtomicU64::new(NO_PING),
             ended: AtomicBool::new(false),
         }
     }
@@ -113,5 +126,31 @@ impl Progress {
                 count.count();
             }
         }
+    }
+
+    /// Notes that the session waits for the first byte of a request, and pings a peer that is silent.
+    pub fn await_request(&self) {
+        self.wait.store(REQUEST, Ordering::SeqCst);
+    }
+
+    /// Notes that bytes have come: the peer is not silent, and a ping would have to wait for the rest of a request.
+    pub fn note_bytes(&self) {
+        if self.wait.load(Ordering::SeqCst) != NO_PING {
+            self.wait.store(NO_PING, Ordering::SeqCst);
+        }
+    }
+
+    /// Notes that the peer is silent. True: the session can ping it, once the read has faulted.
+    pub fn note_silence(&self) -> bool {
+        let can_ping = self.wait.load(Ordering::SeqCst) == REQUEST;
+        if can_ping {
+            self.wait.store(SILENCE, Ordering::SeqCst);
+        }
+        can_ping
+    }
+
+    /// Whether the last read faulted only because the peer is silent. It is reported once.
+    pub fn take_silence(&self) -> bool {
+        self.wait.swap(NO_PING, Ordering::SeqCst) == SILENCE
     }
 }
