@@ -1,9 +1,20 @@
-// How long a connection may take, by how far its session has come, and what counts as a login.
+// How long a connection may take and be silent, by how far its session has come, and what counts as a login.
 ghost use Rattle.std.specs.Prelude.{◌≡◌};
-ghost use Rattle.ar_sessions.specs.Limits.{session_limit};
+ghost use Rattle.ar_sessions.specs.Limits as rule;
 
 use crate::tcp::{Protocol, Timeouts};
 use ar_frames::Stage;
+
+/// What the silence of a peer calls for.
+#[derive(Clone, Copy, Debug, PartialEq, Eq)]
+pub(crate) enum SilenceStep {
+    /// It is waited for.
+    Wait,
+    /// Its session pings it, if it hasn't done so in this silence.
+    Ping,
+    /// Its session ends.
+    End,
+}
 
 /// How far the bytes have come that count as a login.
 #[derive(Clone, Copy, Debug, PartialEq, Eq)]
@@ -28,12 +39,46 @@ impl Greeting {
 
 /// The seconds from its opening that a connection may take at this stage of its session. None: there is no limit.
 pub(crate) fn session_limit(stage: Stage, timeouts: Timeouts) -> Option<u32>
-    ensures { result ≡ session_limit stage timeouts }
+    ensures { result ≡ rule.session_limit stage timeouts }
 {
     match stage {
         Stage::Silent => timeouts.login,
         Stage::Discovery => timeouts.discovery,
         Stage::Entered => None,
+    }
+}
+
+/// What is done about a peer that has been silent for this many milliseconds.
+pub(crate) fn silence_step(silent: u64, stage: Stage, timeouts: Timeouts) -> SilenceStep
+    ensures { result ≡ rule.silence_step silent stage timeouts }
+{
+    let ping = ping_limit(stage, timeouts);
+    if has_lasted(silent, timeouts.idle, 1_000) || has_lasted(silent, ping, 2_000) {
+        SilenceStep::End
+    } else if has_lasted(silent, ping, 1_000) {
+        SilenceStep::Ping
+    } else {
+        SilenceStep::Wait
+    }
+}
+
+// The seconds of silence after which a session at this stage pings its peer.
+fn ping_limit(stage: Stage, timeouts: Timeouts) -> Option<u32>
+    ensures { result ≡ rule.ping_limit stage timeouts }
+{
+    match stage {
+        Stage::Silent | Stage::Discovery => None,
+        Stage::Entered => timeouts.ping,
+    }
+}
+
+// Whether a silence of this many milliseconds has reached a limit in units of `unit` milliseconds, if there is one.
+fn has_lasted(silent: u64, limit: Option<u32>, unit: u32) -> bool
+    ensures { result ≡ rule.has_lasted silent limit unit }
+{
+    match limit {
+        Some(count) => silent >= u64::from(count) * u64::from(unit),
+        None => false,
     }
 }
 

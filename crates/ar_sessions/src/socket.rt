@@ -1,7 +1,7 @@
 // The two streams of a connection. Each waits in slices: between them it looks at its limits, at the stop flag, and at
 // whether the session is to end, so that no peer holds a session for longer than that. A limit that is reached is a
 // fault of the stream.
-use crate::limits::{Greeting, greeting_after, session_limit};
+use crate::limits::{Greeting, SilenceStep, greeting_after, session_limit, silence_step};
 use crate::tcp::{Protocol, Timeouts};
 use ar_frames::{PairWrite, Progress};
 use std::alloc::Global;
@@ -46,6 +46,8 @@ pub struct SocketReader<'a, R: Clock> {
     progress: Arc<Progress>,
     // Milliseconds since the last byte, in whole slices.
     silent: u64,
+    // Whether the session was to ping its peer since the last byte.
+    is_pinged: bool,
     // Whether more may come.
     is_open: bool,
     // How far the bytes have come that count as a login.
@@ -83,14 +85,6 @@ impl Limits<'_> {
             None => false,
         }
     }
-
-    // Whether a peer was silent for too long.
-    fn is_idle(&self, silent: u64) -> bool {
-        match self.timeouts.idle {
-            Some(seconds) => silent >= u64::from(seconds) * 1_000,
-            None => false,
-        }
-    }
 }
 
 impl<'a, R: Clock> SocketReader<'a, R> {
@@ -122,6 +116,7 @@ impl<'a, R: Clock> SocketReader<'a, R> {
             opened,
             progress: Arc::try_clone(progress)?,
             silent: 0,
+            is_pinged: false,
             is_open: true,
             greeting: Greeting::first(limits.protocol),
             stopped: None,
@@ -138,9 +133,27 @@ impl<'a, R: Clock> SocketReader<'a, R> {
     fn is_over(&mut self) -> bool {
         self.progress.is_ended()
             || self.is_stopped()
-            || self.limits.is_idle(self.silent)
+            || self.is_silent()
             || is_late(self.rt, self.opened, &self.progress, self.limits.timeouts)
             || is_past(self.rt, self.opened, self.limits.timeouts.whole)
+    }
+
+    // Whether the silence of the peer ends a read: for good, or once, so that the session can ping.
+    fn is_silent(&mut self) -> bool {
+        match silence_step(self.silent, self.progress.stage(), self.limits.timeouts) {
+            SilenceStep::Wait => false,
+            SilenceStep::Ping => self.is_ping_due(),
+            SilenceStep::End => true,
+        }
+    }
+
+    // Whether the session is to ping now. Inside a request it can't, and the rest is waited for.
+    fn is_ping_due(&mut self) -> bool {
+        if self.is_pinged {
+            return false;
+        }
+        self.is_pinged = self.progress.note_silence();
+        self.is_pinged
     }
 
     // Whether it is to read no more after the stop.
@@ -155,6 +168,7 @@ impl<'a, R: Clock> SocketReader<'a, R> {
     // Notes what a read has brought: this many bytes.
     fn note(&mut self, buf: &[u8], count: usize) {
         self.silent = 0;
+        self.is_pinged = false;
         self.is_open = count > 0;
         if self.greeting != Greeting::Over {
             self.note_greeting(buf, count);
@@ -202,10 +216,19 @@ impl<R: Clock> SocketWriter<'_, R> {
     // Whether a peer that has taken nothing for this many milliseconds is waited for no longer.
     fn is_over(&mut self, silent: u64) -> bool {
         self.progress.is_ended()
-            || self.limits.is_idle(silent)
+            || self.is_silent(silent)
             || is_late(self.rt, self.opened, &self.progress, self.limits.timeouts)
             || is_past(self.rt, self.opened, self.limits.timeouts.whole)
             || (self.limits.is_stopped() && is_past_first(self.rt, &mut self.stopped, GRACE))
+    }
+
+    // Whether the session ends since its peer has taken nothing for this many milliseconds. A ping would reach it no
+    // sooner than what it is owed.
+    fn is_silent(&self, silent: u64) -> bool {
+        match silence_step(silent, self.progress.stage(), self.limits.timeouts) {
+            SilenceStep::Wait | SilenceStep::Ping => false,
+            SilenceStep::End => true,
+        }
     }
 }
 
@@ -257,6 +280,7 @@ impl<R: Clock> Drop for SocketReader<'_, R> {
             opened: _,
             progress: _progress,
             silent: _,
+            is_pinged: _,
             is_open: _,
             greeting: _,
             stopped: _,

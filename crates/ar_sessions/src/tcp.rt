@@ -30,6 +30,8 @@ pub struct Timeouts {
     pub login: Option<u32>,
     /// Until the next byte comes, or the peer takes more of a reply.
     pub idle: Option<u32>,
+    /// Until a session that has entered pings its silent peer; as long after that, without a byte, it ends.
+    pub ping: Option<u32>,
     /// From its opening to its end, if it is a session for discovery.
     pub discovery: Option<u32>,
     /// From its opening until its last byte has come, or was taken.
@@ -86,6 +88,7 @@ impl Timeouts {
     pub const NONE: Timeouts = Timeouts {
         login: None,
         idle: None,
+        ping: None,
         discovery: None,
         whole: None,
     };
