@@ -51,6 +51,7 @@ response_is a b c d lun tag fifth numbers ninth tenth last segment short =
 
 pub responses_are : ResponsesArePdus
 responses_are (pdu.NopIn lun tag) numbers segment short = response_is _ _ _ _ _ _ _ _ _ _ _ segment short
+responses_are (pdu.Ping tag) numbers segment short = response_is _ _ _ _ _ _ _ _ _ _ _ segment short
 responses_are (pdu.ScsiResponse tag status residual sn) numbers segment short =
     response_is _ _ _ _ _ _ _ _ _ _ _ segment short
 responses_are (pdu.TaskManagementResponse tag response) numbers segment short =

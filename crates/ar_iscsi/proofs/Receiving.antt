@@ -63,7 +63,10 @@ pub stops_read : (a b : SourceState) (limit : ℕ) (header front part : List ℕ
     → ReadsNoPdu (header ++ front) limit a b end.Read
 stops_read a b limit header front part wanted header_is within fits short read = record {
   rest = part;
-  stops = cut_behind limit header front part header_is within (omega (arith, fits, short));
+  stops = (
+    cut_behind limit header front part header_is within (omega (arith, fits, short)),
+    some_bytes header front part header_is,
+  );
   read = read;
   ended = tt;
 }

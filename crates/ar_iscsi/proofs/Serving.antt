@@ -1,18 +1,20 @@
 -- How the PDUs of a phase join, and what becomes of a full feature phase.
-use Rattle.std.proofs.Common.{◌≡◌, ℕ, ◌+◌, false, List, [], refl, subst, take, Option, Some, None}
+use Rattle.std.proofs.Common.{◌≡◌, ℕ, ◌+◌, true, false, List, [], refl, subst, take, Option, Some, None}
 use Rattle.std.proofs.Math.Numerals.{suc-eq-add-one}
 use Rattle.ar_frames.specs.Conversation.{Commands}
 use Rattle.ar_frames.specs.Port.{CommandRefusals}
-use Rattle.ar_frames.specs.Stream.{SourceState, SinkState}
+use Rattle.ar_frames.specs.Stream.{SourceState, SinkState, Reading}
 use Rattle.ar_target.specs.ResetPort.{UnitResets}
 use Rattle.ar_frames.specs.declared.fill.Sent.{Sent}
 use Rattle.ar_frames.specs.declared.fill.Sent.TheVariants.{Whole, Part}
 use Rattle.ar_iscsi.specs.declared.negotiation.Limits.{Limits}
+use Rattle.ar_iscsi.specs.declared.receive.ReceiveEnd.{ReceiveEnd}
+use Rattle.ar_iscsi.specs.declared.receive.ReceiveEnd.TheVariants as unread
 use Rattle.ar_iscsi.specs.declared.session.FeatureEnd.{FeatureEnd}
 use Rattle.ar_iscsi.specs.declared.turn.TurnEnd.{TurnEnd}
 use Rattle.ar_iscsi.specs.declared.turn.TurnEnd.TheVariants.{Next, LoggedOut, BrokenData, Rejected}
 use Rattle.ar_iscsi.specs.Pdu.{segment_len}
-use Rattle.ar_iscsi.specs.Receive.{ReadsPdu}
+use Rattle.ar_iscsi.specs.Receive.{ReadsPdu, ReadsNoPdu}
 use Rattle.ar_iscsi.specs.Task.{MayGive}
 use Rattle.ar_iscsi.specs.Turn.{Spot}
 use Rattle.ar_iscsi.specs.Waiting.{is_next_waiting}
@@ -21,6 +23,7 @@ use Rattle.ar_iscsi.specs.Arrival.{FeatureSpot, ArrivalTurn, MayUse}
 use Rattle.ar_iscsi.specs.Phase.{Turns, PhaseSteps, Place, ServesPdu, ServesPdus, HasNoAnswer, AnswersPdu, turned}
 use Rattle.ar_iscsi.specs.Phase.{unanswered, most_segment}
 use Rattle.ar_iscsi.specs.Session.{NextIsServed, EndsFeature, RunsFeature, FeatureStep, of_waiting, of_arrival}
+use Rattle.ar_iscsi.specs.Session.{of_silence, MayPing, result_of_ping}
 use Rattle.ar_iscsi.specs.Session.{TakesWaiting, WaitingTurn}
 use Rattle.ar_iscsi.specs.Session.{read_lacks, waiting_lacks, result_of_turn, result_of_answer}
 
@@ -91,6 +94,30 @@ module _ {P : Type 0} (commands : Commands P) (refuses : CommandRefusals P) (res
   arrival_served old new (Some (left, sent)) none_next serves =
       by_step old new left sent (of_arrival (record { none_next = none_next; serves = serves }))
   arrival_served old new None none_next none = λ count. read_lacks none
+
+  -- no PDU that was read, and perhaps a ping
+  pub unread_served :
+      (old : Place FeatureSpot P) (source : SourceState) (sink : SinkState) (reason : ReceiveEnd) (pinged : Option Sent)
+      → is_next_waiting old.spot.session.flow old.spot.waiting ≡ false
+      → ReadsNoPdu [] most_segment old.source source reason
+      → MayPing old.spot.session.flow reason old.sink pinged sink
+      → NextIsServed commands refuses resets address limits old (result_of_ping reason pinged)
+      (record { source = source; sink = sink; spot = old.spot; port = old.port })
+  unread_served old source sink reason None none_next reads same =
+      λ count. record { reads = reads; sink = same; spot = refl; port = refl }
+  unread_served old source sink reason (Some sent) none_next reads (is_idle, sending) =
+      let idle : ReadsNoPdu [] most_segment old.source source unread.Idle =
+      subst (λ (r : ReceiveEnd). ReadsNoPdu [] most_segment old.source source r) is_idle reads in
+      by_step old _ Next sent
+      (of_silence
+      (record {
+        none_next = none_next;
+        read = subst (λ (l : List ℕ). Reading old.source source l true) idle.stops idle.read;
+        spot = refl;
+        port = refl;
+        left_is = refl;
+        sending = sending;
+      }))
 
   -- a PDU that waited
   pub waiting_served :

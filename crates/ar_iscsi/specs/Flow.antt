@@ -28,6 +28,11 @@ numbers_of flow = record {
   max_cmd_sn = last_in_window flow.exp_cmd_sn;
 }
 
+-- the Target Transfer Tag of a ping: that of the next R2T, which no outstanding R2T has, and never the reserved one
+-- (RFC 7143, 11.19.1)
+abbrev pub ping_tag : Flow → ℕ
+ping_tag flow = if flow.next_tag == 0xFFFFFFFF then 0 else flow.next_tag
+
 -- a request is done now: it is immediate, or has the expected CmdSN while no data are collected
 abbrev pub is_accepted : Flow → Bool → ℕ → Bool
 is_accepted flow immediate cmd_sn = immediate || (is_open flow.collecting && (cmd_sn == flow.exp_cmd_sn))

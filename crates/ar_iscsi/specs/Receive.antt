@@ -52,8 +52,10 @@ abbrev pub StopsPdu : ReceiveEnd → ℕ → List ℕ → Type 0
 StopsPdu end.End limit bytes = bytes ≡ []
 -- input ended inside a PDU
 StopsPdu end.Cut limit bytes = IsCutPdu limit bytes × (0 < length bytes)
--- a read faulted, before or inside a PDU
-StopsPdu end.Read limit bytes = IsCutPdu limit bytes
+-- a read faulted between two PDUs
+StopsPdu end.Idle limit bytes = bytes ≡ []
+-- a read faulted inside a PDU
+StopsPdu end.Read limit bytes = IsCutPdu limit bytes × (0 < length bytes)
 -- a header was read whose data segment is longer than `limit`, and nothing after it
 StopsPdu (end.TooLong n) limit bytes = (length bytes ≡ 48) × (segment_len bytes ≡ n) × (limit < n)
 
@@ -61,6 +63,7 @@ StopsPdu (end.TooLong n) limit bytes = (length bytes ≡ 48) × (segment_len byt
 abbrev pub is_end_by_fault : ReceiveEnd → Bool
 is_end_by_fault end.End = false
 is_end_by_fault end.Cut = false
+is_end_by_fault end.Idle = true
 is_end_by_fault end.Read = true
 is_end_by_fault (end.TooLong n) = false
 
@@ -68,6 +71,7 @@ is_end_by_fault (end.TooLong n) = false
 abbrev pub IsInputLeft : ReceiveEnd → Option (List ℕ) → Type 0
 IsInputLeft end.End left = IsAtEnd left
 IsInputLeft end.Cut left = IsAtEnd left
+IsInputLeft end.Idle left = ⊤
 IsInputLeft end.Read left = ⊤
 IsInputLeft (end.TooLong n) left = ⊤
 

@@ -74,6 +74,9 @@ abbrev pub target_header : TargetPdu → SequenceNumbers → ℕ → List ℕ
 -- NOP-In (RFC 7143, 11.19)
 target_header (pdu.NopIn lun tag) numbers len =
     header_by (0x20 ∷ 0x80 ∷ 0x00 ∷ 0x00 ∷ []) len lun tag no_tag numbers 0 0 0
+-- NOP-In as a ping: the initiator answers it with its Target Transfer Tag (RFC 7143, 11.19)
+target_header (pdu.Ping tag) numbers len =
+    header_by (0x20 ∷ 0x80 ∷ 0x00 ∷ 0x00 ∷ []) len no_lun no_tag tag numbers 0 0 0
 -- SCSI Response (RFC 7143, 11.4): the command was completed at the target
 target_header (pdu.ScsiResponse tag status residual exp_data_sn) numbers len =
     header_by (0x21 ∷ (0x80 + residual_flag residual) ∷ 0x00 ∷ status ∷ []) len no_lun tag 0 numbers exp_data_sn 0

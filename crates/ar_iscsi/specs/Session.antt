@@ -3,11 +3,13 @@ use Rattle.std.specs.Prelude.{◌≡◌, ℕ, true, false, List, [], ◌∷◌, 
 use Rattle.ar_frames.specs.Conversation.{Commands}
 use Rattle.ar_frames.specs.Port.{CommandRefusals}
 use Rattle.ar_target.specs.ResetPort.{UnitResets}
-use Rattle.ar_frames.specs.Stream.{Sending}
+use Rattle.ar_frames.specs.Stream.{SinkState, Reading, Sending}
 use Rattle.ar_frames.specs.declared.fill.Sent.{Sent}
 use Rattle.ar_frames.specs.declared.fill.Sent.TheVariants.{Whole, Part}
 use Rattle.ar_iscsi.specs.declared.flow.Flow.{Flow}
 use Rattle.ar_iscsi.specs.declared.negotiation.Limits.{Limits}
+use Rattle.ar_iscsi.specs.declared.receive.ReceiveEnd.{ReceiveEnd}
+use Rattle.ar_iscsi.specs.declared.receive.ReceiveEnd.TheVariants as unread
 use Rattle.ar_iscsi.specs.declared.session.FeatureEnd.{FeatureEnd}
 use Rattle.ar_iscsi.specs.declared.session.FeatureEnd.TheVariants as end
 use Rattle.ar_iscsi.specs.declared.session.PduResult.{PduResult}
@@ -22,7 +24,7 @@ use Rattle.ar_iscsi.specs.Arrival.{FeatureSpot, ArrivalTurn, MayUse}
 use Rattle.ar_iscsi.specs.Phase.{Place, ServesPdu, ServesPdus, IsLeftAlone, HasNoAnswer, IsAnswerLost, most_pdus}
 use Rattle.ar_iscsi.specs.Task.{MayGive}
 use Rattle.ar_iscsi.specs.Turn.{Spot, AnswersBy, FeatureTurn, Responds}
-use Rattle.ar_iscsi.specs.Flow.{is_open, numbers_of, received}
+use Rattle.ar_iscsi.specs.Flow.{is_open, numbers_of, ping_tag, received}
 use Rattle.ar_iscsi.specs.Request.{task_tag}
 use Rattle.ar_iscsi.specs.Response.{no_lun, no_tag, target_pdu}
 use Rattle.ar_iscsi.specs.Waiting.{is_next_waiting}
@@ -70,6 +72,21 @@ pub record ServesArrival {P : Type 0} (commands : Commands P) (refuses : Command
   pub none_next : is_next_waiting old.spot.session.flow old.spot.waiting ≡ false
   pub serves : ServesPdu (ArrivalTurn commands refuses resets address limits) old new left sent
 
+-- The ping of a silent peer: a NOP-In that wants a NOP-Out with its tag. It has the next StatSN, and doesn't take it
+-- (RFC 7143, 11.19.2).
+abbrev pub ping_of : Flow → List ℕ
+ping_of flow = target_pdu (pdu.Ping (ping_tag flow)) (numbers_of flow) []
+
+-- none that waits is next, a read faulted before the first byte of a PDU, and a ping was written, whole or up to a
+-- write fault; all else is as it was
+pub record PingsPeer {P : Type 0} (old new : Place FeatureSpot P) (left : TurnEnd) (sent : Sent) : Type 0 where
+  pub none_next : is_next_waiting old.spot.session.flow old.spot.waiting ≡ false
+  pub read : Reading old.source new.source [] true
+  pub spot : new.spot ≡ old.spot
+  pub port : new.port ≡ old.port
+  pub left_is : left ≡ Next
+  pub sending : Sending old.sink new.sink (ping_of old.spot.session.flow) sent
+
 -- a step of the phase
 pub data FeatureStep {P : Type 0} (commands : Commands P) (refuses : CommandRefusals P) (resets : UnitResets P)
     (address : List ℕ) (limits : Limits) (old new : Place FeatureSpot P) (left : TurnEnd) (sent : Sent) : Type 0 where
@@ -77,6 +94,7 @@ pub data FeatureStep {P : Type 0} (commands : Commands P) (refuses : CommandRefu
       → FeatureStep commands refuses resets address limits old new left sent
   of_arrival : ServesArrival commands refuses resets address limits old new left sent
       → FeatureStep commands refuses resets address limits old new left sent
+  of_silence : PingsPeer old new left sent → FeatureStep commands refuses resets address limits old new left sent
 
 -- memory for the answer to a PDU that was read, or waited, ran out: nothing was written, and the port was given at most
 -- one command, or units were reset
@@ -87,7 +105,7 @@ pub data LacksAnswer {P : Type 0} (commands : Commands P) (resets : UnitResets P
       new.source ≡ old.source → new.sink ≡ old.sink → MayGive commands old.port new.port
       → LacksAnswer commands resets old new
 
--- when each end comes, after `count` PDUs, from the last moment between two of them
+-- when each end comes, after `count` PDUs and pings, from the last moment between two of them
 abbrev pub EndsFeature : {P : Type 0} → Commands P → CommandRefusals P → UnitResets P → List ℕ → Limits → ℕ
     → Place FeatureSpot P → FeatureEnd → Place FeatureSpot P → Type 0
 EndsFeature commands refuses resets address limits count old (end.Unread reason) new = IsLeftAlone old new reason
@@ -103,7 +121,7 @@ EndsFeature commands refuses resets address limits count old end.NoMemory new =
     LacksAnswer commands resets old new
 EndsFeature commands refuses resets address limits count old end.Bound new = (count ≡ most_pdus) × (new ≡ old)
 
--- one more PDU was served, or the phase has ended, after however many PDUs
+-- one more PDU was served, or a ping sent, or the phase has ended, after however many of them
 abbrev pub NextIsServed : {P : Type 0} → Commands P → CommandRefusals P → UnitResets P → List ℕ → Limits
     → Place FeatureSpot P → PduResult → Place FeatureSpot P → Type 0
 NextIsServed commands refuses resets address limits old Served new =
@@ -124,7 +142,18 @@ abbrev pub result_of_answer : Option (TurnEnd × Sent) → PduResult
 result_of_answer None = Ended end.NoMemory
 result_of_answer (Some answered) = result_of_turn answered.0 answered.1
 
--- A full feature phase: PDUs were served in order, each did what its turn says and was answered, and then its end came.
+-- what was done where no PDU was read, for this reason: nothing, or a ping was written where that may be
+abbrev pub MayPing : Flow → ReceiveEnd → SinkState → Option Sent → SinkState → Type 0
+MayPing flow reason old None new = new ≡ old
+MayPing flow reason old (Some sent) new = (reason ≡ unread.Idle) × Sending old new (ping_of flow) sent
+
+-- what becomes of the session after that
+abbrev pub result_of_ping : ReceiveEnd → Option Sent → PduResult
+result_of_ping reason None = Ended (end.Unread reason)
+result_of_ping reason (Some sent) = result_of_turn Next sent
+
+-- A full feature phase: PDUs were served in order, each did what its turn says and was answered, with pings between
+-- them, and then its end came.
 pub record RunsFeature {P : Type 0} (commands : Commands P) (refuses : CommandRefusals P) (resets : UnitResets P)
     (address : List ℕ) (limits : Limits) (old : Place FeatureSpot P) (reason : FeatureEnd) (new : Place FeatureSpot P)
     : Type 0 where

@@ -1,10 +1,10 @@
 // A session's numbers in the full feature phase, and the WRITE whose data it collects. The window has 16 commands; they
 // are done one at a time, in CmdSN's order. Numbers count modulo 2^32.
-ghost use Rattle.std.specs.Prelude.{◌≡◌, ◌==◌};
+ghost use Rattle.std.specs.Prelude.{◌≡◌, ◌≢◌, ◌==◌};
 ghost use Rattle.ar_iscsi.specs.Flow as state;
 
 use crate::request::{Lun, ScsiCommand};
-use crate::response::SequenceNumbers;
+use crate::response::{NO_TAG, SequenceNumbers};
 
 /// The number of commands in the window, those that an initiator may send ahead.
 pub const WINDOW: usize = 16;
@@ -46,6 +46,18 @@ impl Flow {
             stat_sn: self.stat_sn,
             exp_cmd_sn: self.exp_cmd_sn,
             max_cmd_sn: last_in_window(self.exp_cmd_sn),
+        }
+    }
+
+    /// The target transfer tag of a ping: that of the next R2T, so that it is in no use, unless that is reserved.
+    pub fn ping_tag(&self) -> u32
+        ensures tag { result ≡ state.ping_tag self.now }
+        ensures valid { result ≢ 4294967295 }
+    {
+        if self.next_tag == NO_TAG {
+            0
+        } else {
+            self.next_tag
         }
     }
 

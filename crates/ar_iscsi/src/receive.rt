@@ -15,7 +15,9 @@ pub enum ReceiveEnd {
     End,
     /// Input ended inside a PDU.
     Cut,
-    /// A read faulted.
+    /// A read faulted between two PDUs.
+    Idle,
+    /// A read faulted inside a PDU.
     Read,
     /// A PDU's data segment has this many bytes, more than the limit.
     TooLong(u32),
@@ -40,6 +42,7 @@ pub fn receive_pdu<R: Source>(reader: &mut R, buffer: &mut [u8]) -> Received
         Came::All => receive_rest(reader, buffer, &header),
         Came::Ended(0) => Received::Nothing(ReceiveEnd::End),
         Came::Ended(_) => Received::Nothing(ReceiveEnd::Cut),
+        Came::Failed(0) => Received::Nothing(ReceiveEnd::Idle),
         Came::Failed(_) => Received::Nothing(ReceiveEnd::Read),
     }
 }

@@ -1,7 +1,7 @@
 // The headers of a target's PDUs (RFC 7143, 11), and whole PDUs. Reserved fields are 0.
 //
 //     | first four bytes | 11 words | data segment | zeros up to a whole word |
-ghost use Rattle.std.specs.Prelude.{◌≡◌, ◌<◌, ◌^◌, ◌++◌, OnOk, length, slice_index};
+ghost use Rattle.std.specs.Prelude.{◌≡◌, ◌<◌, ◌^◌, ◌++◌, [], OnOk, length, slice_index};
 ghost use Rattle.ar_iscsi.specs.Pdu.{padding_len};
 ghost use Rattle.ar_iscsi.specs.Response as wire;
 
@@ -61,6 +61,10 @@ pub enum TargetPdu {
         lun: Lun,
         task_tag: u32,
     },
+    /// A NOP-In that asks for a NOP-Out with this target transfer tag, which isn't FFFFFFFFh.
+    Ping {
+        transfer_tag: u32,
+    },
     /// The status of a command; its data are the sense data with their length in two bytes.
     ScsiResponse {
         task_tag: u32,
@@ -105,6 +109,13 @@ pub enum TargetPdu {
 
 // The tag that stands for no task.
 pub(crate) const NO_TAG: u32 = 0xFFFF_FFFF;
+
+/// A ping, whole: it has no data.
+pub(crate) fn ping_pdu(transfer_tag: u32, numbers: SequenceNumbers) -> [u8; 48]
+    ensures { result ≡ wire.target_pdu (TargetPdu.Ping transfer_tag) numbers [] }
+{
+    target_header(TargetPdu::Ping { transfer_tag }, numbers, 0)
+}
 
 /// Appends a whole PDU to `out`: its header, `segment` and the padding. `Err` if the allocation fails; `out` then ends
 /// in an unspecified part of the PDU.
@@ -193,6 +204,17 @@ fn target_header(pdu: TargetPdu, numbers: SequenceNumbers, len: u32) -> [u8; 48]
                 lun,
                 task_tag,
                 NO_TAG,
+                numbers,
+                [0, 0, 0],
+            )
+        }
+        TargetPdu::Ping { transfer_tag } => {
+            header_by(
+                [0x20, 0x80, 0, 0],
+                len,
+                NO_LUN,
+                NO_TAG,
+                transfer_tag,
                 numbers,
                 [0, 0, 0],
             )

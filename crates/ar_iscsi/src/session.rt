@@ -1,4 +1,5 @@
-// The full feature phase of a session: PDUs are read, each does what its turn says, and its answer is written.
+// The full feature phase of a session: PDUs are read, each does what its turn says, and its answer is written. A peer
+// that is silent between two of them is pinged.
 ghost use Rattle.std.specs.Prelude.{◌≡◌, false, true, [], IfOk, OnSome, length};
 ghost use Rattle.ar_iscsi.specs.Arrival.{ArrivalTurn, MayUse};
 ghost use Rattle.ar_iscsi.specs.Phase as phase;
@@ -10,7 +11,7 @@ use crate::arrival::take_arrival;
 use crate::flow::Flow;
 use crate::receive::{ReceiveEnd, Received, receive_pdu};
 use crate::request::{segment_len, word};
-use crate::response::{NO_LUN, NO_TAG, TargetPdu, put_pdu};
+use crate::response::{NO_LUN, NO_TAG, TargetPdu, ping_pdu, put_pdu};
 use crate::turn::{TurnEnd, Work, respond, take_turn};
 use crate::waiting::is_next_waiting;
 use crate::waiting_pdu::{WaitingPdu, WaitingState};
@@ -36,14 +37,14 @@ pub enum FeatureEnd {
     Rejected,
     /// An answer couldn't be allocated.
     NoMemory,
-    /// 2^64 - 1 PDUs were served.
+    /// 2^64 - 1 PDUs were served or pings sent.
     Bound,
 }
 
 // What became of a PDU.
 #[derive(Clone, Copy)]
 pub(crate) enum PduResult {
-    // It was read and answered.
+    // It was read and answered, or a ping was sent in its place.
     Served,
     Ended(FeatureEnd),
 }
@@ -151,7 +152,7 @@ fn take_waiting(flow: &Flow, waiting: &mut Vec<WaitingPdu>) -> Option<WaitingPdu
     }
 }
 
-// Reads a PDU, does what it asks for, and writes the answer.
+// Reads a PDU, does what it asks for, and writes the answer; or pings a peer that is silent.
 fn serve_arrival<R: Source, W: Sink, P: ResetPort>(
     alloc: Global,
     reader: &mut R,
@@ -190,6 +191,7 @@ fn serve_arrival<R: Source, W: Sink, P: ResetPort>(
     ensures limits { work.new.limits ≡ work.old.limits }
     ensures emptied { result ≡ PduResult.Served → work.new.out.items ≡ [] }
 {
+    await_request(reader);
     match receive_pdu(reader, buffer) {
         Received::Pdu(header) => {
             let len = segment_len(&header) as usize;
@@ -199,7 +201,50 @@ fn serve_arrival<R: Source, W: Sink, P: ResetPort>(
             );
             result_of_answer(answered)
         }
-        Received::Nothing(reason) => PduResult::Ended(FeatureEnd::Unread(reason)),
+        Received::Nothing(reason) => {
+            let pinged = ping_silent(reader, writer, &work.flow, reason);
+            result_of_ping(reason, pinged)
+        }
+    }
+}
+
+// Notes that the session waits for a PDU, so that its stream ends the wait once the peer is silent.
+fn await_request<R: Source>(reader: &R) {
+    if let Some(progress) = reader.progress() {
+        progress.await_request();
+    }
+}
+
+// Whether a read faulted only because the peer is silent.
+fn is_silent<R: Source>(reader: &R) -> bool {
+    match reader.progress() {
+        Some(progress) => progress.take_silence(),
+        None => false,
+    }
+}
+
+// Pings a peer that is silent between two PDUs. None: a read faulted for another reason.
+fn ping_silent<R: Source, W: Sink>(
+    reader: &R,
+    writer: &mut W,
+    flow: &Flow,
+    reason: ReceiveEnd,
+) -> Option<Sent>
+    ensures { session.MayPing flow.now reason (W.state writer.old) result (W.state writer.new) }
+{
+    match (reason, is_silent(reader)) {
+        (ReceiveEnd::Idle, true) => Some(send(writer, &ping_pdu(flow.ping_tag(), flow.numbers()))),
+        _ => None,
+    }
+}
+
+// What becomes of the session where no PDU was read.
+fn result_of_ping(reason: ReceiveEnd, pinged: Option<Sent>) -> PduResult
+    ensures { result ≡ session.result_of_ping reason pinged }
+{
+    match pinged {
+        Some(sent) => result_of_turn(TurnEnd::Next, sent),
+        None => PduResult::Ended(FeatureEnd::Unread(reason)),
     }
 }
 

@@ -21,7 +21,7 @@ returns-in-Failed g c =
     let size = length-take-le n c.fill.new.into (omega (arith, c.in-Failed.ensures.short)) in
     record {
       rest = part;
-      stops = in_header part (omega (arith, size, c.in-Failed.ensures.short));
+      stops = (in_header part (omega (arith, size, c.in-Failed.ensures.short)), omega (arith, size));
       read = c.in-Failed.ensures.read;
       ended = tt;
     }
