@@ -1,6 +1,6 @@
 // The histograms of the metrics: their buckets are cumulative, and their times in seconds.
 use crate::metrics::write_head;
-use crate::{CommandLatencies, LatencyCounters};
+use ar_latency::{CommandLatencies, LatencyCounters};
 use std::io;
 use std::io::Write;
 
@@ -28,7 +28,7 @@ pub(crate) fn write_latencies<W: Write>(
         out,
         "command_seconds",
         "histogram",
-        "How long commands over iSCSI took.",
+        "How long commands took.",
     )?;
     for (operation, counters) in operations {
         write_histogram(out, operation, &counters)?;

@@ -10,6 +10,8 @@ pub struct ArrayInventory {
     pub units: Vec<UnitUsage>,
     /// By number.
     pub disks: Vec<DiskUsage>,
+    /// Of hosts that are logged in, by number.
+    pub host_sessions: Vec<HostSession>,
     /// By number.
     pub iscsi_sessions: Vec<InitiatorSession>,
 }
@@ -53,6 +55,19 @@ pub struct DiskUsage {
     /// rebuilt.
     pub extents_rebuilt: Option<u16>,
     pub seconds_left: Option<u64>,
+}
+
+/// What the session of a host did so far.
+#[derive(Clone, Copy, Debug, PartialEq, Eq, Serialize)]
+pub struct HostSession {
+    pub host: u8,
+    /// The port of 127.0.0.1 that it comes from. None: it is over iSCSI.
+    pub peer_port: Option<u16>,
+    /// Commands that were executed or answered BUSY.
+    pub commands: u64,
+    /// Bytes of data in replies, and of commands that ended with GOOD.
+    pub read_bytes: u64,
+    pub written_bytes: u64,
 }
 
 /// A session over iSCSI whose login was accepted.

@@ -9,7 +9,6 @@ mod events;
 mod histograms;
 mod host;
 mod inventory;
-mod latency;
 mod metrics;
 mod name;
 mod page;
@@ -24,8 +23,9 @@ pub use changes::EventLog;
 pub use disks::{DiskCounters, DiskList};
 pub use events::{EVENTS_MAX, EventKind, RecentEvent, RecentEvents};
 pub use host::asks_us;
-pub use inventory::{ArrayInventory, DiskUsage, InitiatorSession, SectorUsage, UnitUsage};
-pub use latency::{CommandLatencies, LATENCY_BOUNDS, LatencyCounters};
+pub use inventory::{
+    ArrayInventory, DiskUsage, HostSession, InitiatorSession, SectorUsage, UnitUsage,
+};
 pub use metrics::write_metrics;
 pub use name::{ArrayName, NAME_MAX};
 pub use page::PAGE;

@@ -85,7 +85,7 @@ time { display: inline-block; min-width: 84px }
 <section><h2>Hosts</h2><div class='scrolls'><table>
 <thead><tr><th>host</th><th>session</th><th>ops/s</th><th>read/s</th><th>written/s</th></tr></thead>
 <tbody id='hosts'></tbody></table></div></section>
-<section id='sessions' hidden><h2>iSCSI sessions</h2><div class='scrolls'><table>
+<section id='sessions' hidden><h2>Sessions</h2><div class='scrolls'><table>
 <thead><tr><th>initiator</th><th>host</th><th>port</th></tr></thead>
 <tbody id='initiators'></tbody></table></div></section>
 <section><h2>Units</h2><div class='scrolls'><table>
@@ -209,10 +209,11 @@ function showUnits(status) {
 }
 
 function showSessions({ inventory }) {
-  const sessions = inventory.iscsi_sessions;
+  const byFrames = inventory.host_sessions.filter(({ peer_port }) => peer_port !== null);
+  const sessions = [...byFrames, ...inventory.iscsi_sessions];
   at('sessions').hidden = !sessions.length;
   rows(at('initiators'), sessions.map(({ initiator, host, peer_port }) =>
-    [initiator, host === null ? 'discovery' : host, peer_port === null ? '' : peer_port]));
+    [initiator || 'frames', host === null ? 'discovery' : host, peer_port === null ? '' : peer_port]));
 }
 
 // What has changed since the last sample. A service that was restarted has counted from 0.

@@ -4,11 +4,9 @@ ghost use Rattle.http_server.specs.Response.{IsBlank, fields_of};
 ghost use Rattle.ar_status.specs.Answers.{IsBodyOf, answer_for, code_of, fields_in, health_words, serving_words};
 
 use crate::status::write_health;
-use crate::{
-    Answer, ArrayHealth, ArrayInventory, ArrayStatus, LATENCY_BOUNDS, PAGE, answer_to,
-    write_metrics,
-};
+use crate::{Answer, ArrayHealth, ArrayInventory, ArrayStatus, PAGE, answer_to, write_metrics};
 use ar_cli::VERSION;
+use ar_latency::LATENCY_BOUNDS;
 use bytes::Bytes;
 use http::{HeaderName, HeaderValue};
 use http_server::Response;

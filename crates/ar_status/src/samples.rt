@@ -2,8 +2,9 @@
 // copied under a lock without an allocation.
 ghost use Rattle.std.specs.Prelude.{◌≡◌, ◌≤◌, [], ◌∷◌, length, take};
 
+use crate::ArrayStatus;
 use crate::rebuild_pace::RebuildPace;
-use crate::{ArrayStatus, CommandLatencies, LatencyCounters};
+use ar_latency::{CommandLatencies, LatencyCounters};
 use serde::{Described, Serialize, Serializer};
 
 /// How many samples are listed.

@@ -1,9 +1,10 @@
-// What is shown of a served array. It has numbers alone, so that no text from outside gets into a response.
+// What is shown of a served array at each look: numbers, and the name that it was given.
 ghost use Rattle.std.specs.Prelude.{◌≡◌, OnOk};
 ghost use Rattle.std.specs.Io.KnownBytes.{Appends};
 ghost use Rattle.ar_status.specs.Answers.{all_present, has_data, health_words};
 
-use crate::{ArrayName, CommandLatencies, DiskList, RecentEvents, RecentSamples};
+use crate::{ArrayName, DiskList, RecentEvents, RecentSamples};
+use ar_latency::CommandLatencies;
 use serde::Serialize;
 use std::io;
 use std::io::Write;

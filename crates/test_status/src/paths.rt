@@ -116,6 +116,8 @@ const JSON: &str = "\
 \"extents_rebuilt\":12,\"seconds_left\":42},\
 {\"disk\":2,\"state\":\"rebuilding\",\"extents_used\":5,\"accesses\":31,\"errors\":2,\
 \"extents_rebuilt\":0,\"seconds_left\":null}],\
+\"host_sessions\":[{\"host\":0,\"peer_port\":null,\"commands\":21,\"read_bytes\":22,\"written_bytes\":23},\
+{\"host\":3,\"peer_port\":41205,\"commands\":18446744073709551615,\"read_bytes\":0,\"written_bytes\":0}],\
 \"iscsi_sessions\":[{\"number\":1,\"host\":0,\"peer_port\":41204,\"initiator\":\"iqn.2026-11.example:a\"},\
 {\"number\":2,\"host\":null,\"peer_port\":null,\"initiator\":\"?\"}]}}";
 
@@ -302,7 +304,7 @@ autoraid_host_written_bytes_total{host=\"0\"} 3
 autoraid_host_written_bytes_total{host=\"1\"} 0
 autoraid_host_written_bytes_total{host=\"2\"} 8
 autoraid_host_written_bytes_total{host=\"3\"} 6
-# HELP autoraid_command_seconds How long commands over iSCSI took.
+# HELP autoraid_command_seconds How long commands took.
 # TYPE autoraid_command_seconds histogram
 autoraid_command_seconds_bucket{operation=\"read\",le=\"0.00005\"} 1
 autoraid_command_seconds_bucket{operation=\"read\",le=\"0.0001\"} 3

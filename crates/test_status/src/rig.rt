@@ -1,10 +1,10 @@
 // An array that stands still, and connections to it.
+use ar_latency::{CommandLatencies, LatencyCounters};
 use ar_status::{
-    ArrayCounters, ArrayHealth, ArrayInventory, ArrayName, ArrayStatus, CommandLatencies,
-    DiskCounters, DiskList, DiskUsage, EventKind, HostCounters, InitiatorSession, LatencyCounters,
-    Look, MaintenanceSteps, OperationCounters, RecentEvent, RecentEvents, RecentSamples,
-    RefusedLogins, ReplyCounters, Sample, SectorUsage, SessionNumbers, UnitUsage, Watched,
-    serve_named,
+    ArrayCounters, ArrayHealth, ArrayInventory, ArrayName, ArrayStatus, DiskCounters, DiskList,
+    DiskUsage, EventKind, HostCounters, HostSession, InitiatorSession, Look, MaintenanceSteps,
+    OperationCounters, RecentEvent, RecentEvents, RecentSamples, RefusedLogins, ReplyCounters,
+    Sample, SectorUsage, SessionNumbers, UnitUsage, Watched, serve_named,
 };
 use std::alloc::{AllocError, Global};
 use std::hash::RandomState;
@@ -56,6 +56,10 @@ fn inventory(alloc: Global) -> Result<ArrayInventory, AllocError> {
             disk(1, "rebuilding", Some(12), Some(42)),
             disk(2, "rebuilding", Some(0), None),
         ]?,
+        host_sessions: vec![in alloc;
+            host_session(0, None, 21, [22, 23]),
+            host_session(3, Some(41205), u64::MAX, [0, 0]),
+        ]?,
         iscsi_sessions: vec![in alloc;
             session(
                 1,
@@ -66,6 +70,17 @@ fn inventory(alloc: Global) -> Result<ArrayInventory, AllocError> {
             session(2, None, None, String::from_str(alloc, "?")?),
         ]?,
     })
+}
+
+fn host_session(host: u8, peer_port: Option<u16>, commands: u64, bytes: [u64; 2]) -> HostSession {
+    let [read_bytes, written_bytes] = bytes;
+    HostSession {
+        host,
+        peer_port,
+        commands,
+        read_bytes,
+        written_bytes,
+    }
 }
 
 fn unit(host: u8, lun: u8, serial_number: Option<String>) -> UnitUsage {
