@@ -1,11 +1,12 @@
 -- The seats on a desk.
-use Rattle.std.specs.Prelude.{◌≡◌, ℕ, Bool, true, false, ◌+◌, ◌-◌, ◌^◌, min, if◌then◌else◌, List, length, get_or}
+use Rattle.std.specs.Prelude.{◌≡◌, ℕ, Bool, true, false, if◌then◌else◌, List, length, get_or}
 use Rattle.std.specs.Prelude.{Option, Some, None}
 use Rattle.std.specs.Prelude.{is_some, option_map, set}
 use Rattle.ar_disks.specs.declared.address.Host.{Host}
 use Rattle.ar_scsi.specs.declared.reply.Reply.{Reply}
 use Rattle.ar_unit.specs.Broken.{is_good}
 use Rattle.ar_history.specs.Seat.{SeatState}
+use Rattle.ar_latency.specs.Latency.{saturated}
 use Rattle.ar_sessions.specs.declared.desk.SessionCounts.{SessionCounts}
 
 -- a place for each host, in order: its seat, or none while that is missing
@@ -64,10 +65,6 @@ receipt_of seat = record { host = seat.host; commands = length seat.transcript }
 -- the receipt for a port's seat, or none for a port without one
 abbrev pub receipt_for : Option SeatState → Option ReceiptState
 receipt_for port = option_map receipt_of port
-
--- a sum of 64 bits that saturates
-abbrev pub saturated : ℕ → ℕ → ℕ
-saturated count more = min (count + more) (2 ^ 64 - 1)
 
 -- a session's counts after a command with `sent` bytes of data: they count as written only with GOOD
 abbrev pub session_after : SessionCounts → ℕ → Reply → SessionCounts

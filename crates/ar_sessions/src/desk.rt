@@ -5,8 +5,10 @@ ghost use Rattle.std.specs.List.{list_all};
 ghost use Rattle.ar_history.specs.Seat.{SeatState};
 ghost use Rattle.ar_sessions.specs.Desk.{AreOwn, HandsOut, Lends, Places, seat_at, receipt_of, session_after};
 
+use crate::timing::CommandTime;
 use ar_disks::Host;
 use ar_history::Seat;
+use ar_latency::CommandLatencies;
 use ar_scsi::{Reply, Status};
 use std::marker::Model;
 use std::sync::ledger::Ledger;
@@ -25,8 +27,17 @@ pub trait SeatDesk<L: Ledger> {
         ensures lends { Lends finds host.number slot.old result slot.new }
         ensures hands { HandsOut host.number (places self.old) slot.old result (places self.new) slot.new };
 
-    /// Counts a command of a host's session, by the number of bytes of its data and its reply. No seat moves.
-    fn count_command(&mut self, host: Host, sent: usize, reply: &Reply)
+    /// Notes the port of 127.0.0.1 that a host's session comes from, over TCP. No seat moves.
+    fn note_peer(&mut self, host: Host, peer: u16)
+        ensures { places self.new ≡ places self.old };
+
+    /// Counts a command of a host's session, by the number of bytes of its data and its reply, and notes its time, if
+    /// that was taken. No seat moves.
+    fn count_command(&mut self, host: Host, sent: usize, reply: &Reply, time: Option<CommandTime>)
+        ensures { places self.new ≡ places self.old };
+
+    /// Notes the time of what a session asked for beside its commands, if that was taken. No seat moves.
+    fn note_time(&mut self, time: Option<CommandTime>)
         ensures { places self.new ≡ places self.old };
 }
 
@@ -51,6 +62,10 @@ pub struct Desk<L: Ledger> {
     places: [Option<Seat<L>>; 4],
     // By host, what its session did so far; zero while it has none. No contract sees them.
     counts: [SessionCounts; 4],
+    // By host, the port of 127.0.0.1 that its session comes from, if that was noted.
+    peers: [Option<u16>; 4],
+    // How long the commands of all sessions took, since the start.
+    latencies: CommandLatencies,
 }
 
 /// What a session did so far. The numbers saturate.
@@ -131,6 +146,8 @@ impl<L: Ledger> Desk<L> {
         Desk {
             places: seats.map(Some),
             counts: [SessionCounts::NONE; 4],
+            peers: [None; 4],
+            latencies: CommandLatencies::NONE,
         }
     }
 
@@ -152,6 +169,32 @@ impl<L: Ledger> Desk<L> {
         *counts = counts.after(sent, reply);
     }
 
+    /// Notes the port of 127.0.0.1 that a host's session comes from.
+    pub fn set_peer(&mut self, host: Host, peer: u16)
+        ensures { self.new ≡ self.old }
+    {
+        self.peers[usize::from(host.number())] = Some(peer);
+    }
+
+    /// The port of 127.0.0.1 that a host's session comes from, if that was noted.
+    pub fn peer(&self, host: Host) -> Option<u16> {
+        self.peers[usize::from(host.number())]
+    }
+
+    /// Notes the time of a command, if that was taken.
+    pub fn time(&mut self, time: Option<CommandTime>)
+        ensures { self.new ≡ self.old }
+    {
+        if let Some(CommandTime { operation, micros }) = time {
+            self.latencies.note(operation, micros);
+        }
+    }
+
+    /// How long the commands of all sessions took, since the start.
+    pub fn latencies(&self) -> CommandLatencies {
+        self.latencies
+    }
+
     /// What a host's session did so far. None: it has no session.
     pub fn counts(&self, host: Host) -> Option<SessionCounts>
         ensures { is_some result ≡ not (is_some (seat_at self.now host.number)) }
@@ -171,6 +214,7 @@ impl<L: Ledger> Desk<L> {
         let host = seat.host();
         let commands = seat.transcript().len();
         self.counts[usize::from(host.number())] = SessionCounts::NONE;
+        self.peers[usize::from(host.number())] = None;
         self.places[usize::from(host.number())] = Some(seat);
         Receipt { host, commands }
     }
@@ -243,7 +287,16 @@ impl<L: Ledger> SeatDesk<L> for Desk<L> {
         }
     }
 
-    fn count_command(&mut self, host: Host, sent: usize, reply: &Reply) {
+    fn note_peer(&mut self, host: Host, peer: u16) {
+        self.set_peer(host, peer);
+    }
+
+    fn count_command(&mut self, host: Host, sent: usize, reply: &Reply, time: Option<CommandTime>) {
         self.count(host, sent, reply);
+        self.time(time);
+    }
+
+    fn note_time(&mut self, time: Option<CommandTime>) {
+        self.time(time);
     }
 }

@@ -7,10 +7,12 @@ ghost use Rattle.ar_sessions.specs.Discarding.{DiscardedAtOneMoment, DiscardsLas
 ghost use Rattle.ar_sessions.specs.Discarding.{LookedUpAtOneMoment, LooksUp, LooksUpLun, run_of};
 
 use crate::port::{Asked, lock_soon, settle_locked, settle_now};
+use crate::timing::Stopwatch;
 use crate::{LockPort, SeatDesk};
 use ar_core::Allocation;
 use ar_disks::{Addr, Host, MAX_LUN};
 use ar_history::ServedArray;
+use ar_latency::TimedOperation;
 use ar_scsi::Reply;
 use ar_target::{BlockRun, DiscardPort};
 use std::sync::ledger::Ledger;
@@ -30,17 +32,53 @@ impl<'a, R: Wait + Clock, A: ServedArray<L> + Drop, K: SeatDesk<L> + Drop, L: Le
 
     fn discard(&mut self, lun: u8, lba: u64, count: u32) -> Reply {
         match &self.seat {
-            Some(seat) => discard_locked(self.rt, self.array, seat.host(), lun, lba, count),
+            Some(seat) => discard_timed(
+                self.rt,
+                self.array,
+                self.desk,
+                seat.host(),
+                lun,
+                lba,
+                count,
+            ),
             None => unreachable!(),
         }
     }
 
     fn run(&mut self, lun: u8, block: u32, most: u32) -> BlockRun {
         match &self.seat {
-            Some(seat) => run_locked(self.rt, self.array, seat.host(), lun, block, most),
+            Some(seat) => run_timed(
+                self.rt,
+                self.array,
+                self.desk,
+                seat.host(),
+                lun,
+                block,
+                most,
+            ),
             None => unreachable!(),
         }
     }
+}
+
+// Discards sectors of a host's LUN, and notes the time at the desk.
+fn discard_timed<R: Wait + Clock, A: ServedArray<L> + Drop, K: SeatDesk<L> + Drop, L: Ledger>(
+    rt: &R,
+    array: &Mutex<A>,
+    desk: &Mutex<K>,
+    host: Host,
+    lun: u8,
+    lba: u64,
+    count: u32,
+) -> Reply
+    ensures discarded { DiscardedAtOneMoment A.persists (addr_in host lun) lba count result }
+    ensures reply { IsReply result }
+{
+    let watch = Stopwatch::start(rt);
+    let reply = discard_locked(rt, array, host, lun, lba, count);
+    let time = watch.stop(rt, TimedOperation::Other);
+    desk.lock(rt).note_time(time);
+    reply
 }
 
 // Discards sectors of a host's LUN under the lock.
@@ -91,6 +129,25 @@ fn discard_with<A: ServedArray<L>, L: Ledger>(
 {
     let reply = array.discard(host, lun, lba, count);
     settle_now::<A, L>(array, &WRITE, reply)
+}
+
+// Looks up blocks of a host's LUN, and notes the time at the desk.
+fn run_timed<R: Wait + Clock, A: ServedArray<L> + Drop, K: SeatDesk<L> + Drop, L: Ledger>(
+    rt: &R,
+    array: &Mutex<A>,
+    desk: &Mutex<K>,
+    host: Host,
+    lun: u8,
+    block: u32,
+    most: u32,
+) -> BlockRun
+    ensures { LooksUpLun host lun block most result }
+{
+    let watch = Stopwatch::start(rt);
+    let run = run_locked(rt, array, host, lun, block, most);
+    let time = watch.stop(rt, TimedOperation::Other);
+    desk.lock(rt).note_time(time);
+    run
 }
 
 // Looks up blocks of a host's LUN under the lock.

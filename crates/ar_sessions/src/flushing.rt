@@ -7,10 +7,12 @@ ghost use Rattle.ar_sessions.specs.Flushing.{FlushesThenCommits, lasting_outcome
 ghost use Rattle.ar_target.specs.declared.flush_port.FlushOutcome.TheVariants as outcomes;
 
 use crate::port::{lock_soon, wait_for_others};
+use crate::timing::Stopwatch;
 use crate::{LockPort, SeatDesk};
 use ar_core::PartFlush;
 use ar_disks::{Addr, Host, MAX_LUN};
 use ar_history::ServedArray;
+use ar_latency::TimedOperation;
 use ar_target::{FlushOutcome, FlushPort};
 use std::sync::ledger::Ledger;
 use std::sync::{Mutex, Wait};
@@ -50,10 +52,27 @@ impl<'a, R: Wait + Clock, A: ServedArray<L> + Drop, K: SeatDesk<L> + Drop, L: Le
 
     fn flush(&mut self, lun: u8) -> FlushOutcome {
         match &self.seat {
-            Some(seat) => flush_locked(self.rt, self.array, seat.host(), lun),
+            Some(seat) => flush_timed(self.rt, self.array, self.desk, seat.host(), lun),
             None => unreachable!(),
         }
     }
+}
+
+// Destages a unit of a host, commits, and notes the time at the desk.
+fn flush_timed<R: Wait + Clock, A: ServedArray<L> + Drop, K: SeatDesk<L> + Drop, L: Ledger>(
+    rt: &R,
+    array: &Mutex<A>,
+    desk: &Mutex<K>,
+    host: Host,
+    lun: u8,
+) -> FlushOutcome
+    ensures { FlushesLun A.persists host lun result }
+{
+    let watch = Stopwatch::start(rt);
+    let outcome = flush_locked(rt, array, host, lun);
+    let time = watch.stop(rt, TimedOperation::SynchronizeCache);
+    desk.lock(rt).note_time(time);
+    outcome
 }
 
 // Destages a unit of a host, and commits.

@@ -21,6 +21,7 @@ mod sessions;
 mod socket;
 mod socket_file;
 mod tcp;
+mod timing;
 
 pub use background::run_background;
 pub use desk::{Desk, Receipt, SeatDesk, SeatSlot, SessionCounts};
@@ -32,3 +33,4 @@ pub use sessions::{ConnectionEnd, NoMemory, run_beside_background, run_sessions}
 pub use socket::{SocketReader, SocketWriter};
 pub use socket_file::SocketFile;
 pub use tcp::{ANY_NUMBER, ListenFault, Protocol, TcpDoor, TcpReader, TcpWriter, Timeouts};
+pub use timing::CommandTime;

@@ -4,13 +4,12 @@ ghost use Rattle.std.specs.Prelude.{◌≡◌};
 ghost use Rattle.ar_sessions.specs.Ends.{GivesBack, HandlesNext, TakesNext};
 
 use crate::notes::note_refusal;
-use crate::sessions::{Connection, Shared, start_background};
+use crate::sessions::{Connection, Shared};
 use crate::{Desk, Door, NoMemory, Receipt, Refusals};
 use ar_frames::{Gate, NoGate, SessionEnd, Sink, Source};
 use ar_history::ServedArray;
 use log::Log;
 use std::alloc::Global;
-use std::sync::atomic::{AtomicBool, Ordering};
 use std::sync::ledger::Ledger;
 use std::sync::{Mutex, Wait};
 use std::thread;
@@ -60,15 +59,14 @@ pub trait Starter {
     fn started(&self, are_all: bool);
 }
 
-/// Serves the connections that `door` opens, at most 64 at once, beside a thread that runs background maintenance.
-/// Returns once the door has none left, or is closed, and all have ended. `starter` is called once all threads are
-/// there. At `NoMemory`, which also means that a thread couldn't be started, it is called if some were.
+/// Serves the connections that `door` opens, at most 64 at once. Returns once the door has none left, or is closed, and
+/// all have ended. `starter` is called once all threads are there, or not all of them could be started (`NoMemory`).
 pub fn run_pool<
     R: Threads + Wait + Clock + Log + Sync,
     A: ServedArray<L> + Drop + Send,
     L: Ledger + Send + Sync,
     O: Door + Drop + Send,
-    B: Starter + Sync,
+    B: Starter,
 >(
     rt: &R,
     alloc: Global,
@@ -78,69 +76,16 @@ pub fn run_pool<
     starter: &B,
 ) -> Result<(), NoMemory> {
     let (door, gate) = (SharedDoor::new(door), NoGate);
-    serve_door(rt, alloc, &door, array, desk, &gate, starter)
+    serve_in_turn(rt, alloc, &door, array, desk, &gate, starter)
 }
 
-// The same at a shared door.
-fn serve_door<
-    R: Threads + Wait + Clock + Log + Sync,
-    A: ServedArray<L> + Drop + Send,
-    L: Ledger + Send + Sync,
-    O: Door + Drop + Send,
-    B: Starter + Sync,
->(
-    rt: &R,
-    alloc: Global,
-    door: &SharedDoor<O>,
-    array: &Mutex<A>,
-    desk: &Mutex<Desk<L>>,
-    gate: &NoGate,
-    starter: &B,
-) -> Result<(), NoMemory> {
-    let ended = AtomicBool::new(false);
-    let flag = &ended;
-    thread::scope(
-        thread::scope_env(),
-        rt,
-        move |scope| -> Result<(), NoMemory> {
-            serve_beside(scope, rt, alloc, door, array, desk, gate, starter, flag)
-        },
-    )
-}
-
-// Starts the thread of the background maintenance, and serves the connections beside it.
-fn serve_beside<
-    's,
-    E,
-    R: Threads + Wait + Clock + Log + Sync,
-    A: ServedArray<L> + Drop + Send,
-    L: Ledger + Send + Sync + 's,
-    O: Door + Drop + Send,
-    B: Starter + Sync,
->(
-    scope: &'s Scope<'s, E>,
-    rt: &'s R,
-    alloc: Global,
-    door: &SharedDoor<O>,
-    array: &'s Mutex<A>,
-    desk: &Mutex<Desk<L>>,
-    gate: &NoGate,
-    starter: &B,
-    ended: &'s AtomicBool,
-) -> Result<(), NoMemory> {
-    start_background(scope, rt, array, ended)?;
-    let served = serve_in_turn(rt, alloc, door, array, desk, gate, starter);
-    ended.store(true, Ordering::SeqCst);
-    served
-}
-
-// Serves the connections, and returns once all have ended.
+// Serves the connections of a shared door, and returns once all have ended.
 fn serve_in_turn<
     R: Threads + Wait + Clock + Log + Sync,
     A: ServedArray<L> + Drop + Send,
     L: Ledger + Send + Sync,
     O: Door + Drop + Send,
-    B: Starter + Sync,
+    B: Starter,
 >(
     rt: &R,
     alloc: Global,
@@ -162,29 +107,12 @@ fn serve_in_turn<
     thread::scope(
         thread::scope_env(),
         rt,
-        move |scope| -> Result<(), NoMemory> { start_hosts(scope, rt, door, shared, starter) },
+        move |scope| -> Result<(), NoMemory> {
+            let started = start_pool(scope, rt, MOST_AT_ONCE, door, shared);
+            starter.started(started.is_ok());
+            started
+        },
     )
-}
-
-// Starts the threads of hosts, and reports whether all are there.
-fn start_hosts<
-    's,
-    E,
-    R: Wait + Sync,
-    O: Door + Drop + Send,
-    T: Handler<O::Reader, O::Writer, End> + Sync,
-    End: Drop + Send + 's,
-    B: Starter,
->(
-    scope: &'s Scope<'s, E>,
-    rt: &'s R,
-    door: &'s SharedDoor<O>,
-    handler: &'s T,
-    starter: &B,
-) -> Result<(), NoMemory> {
-    let started = start_pool(scope, rt, MOST_AT_ONCE, door, handler);
-    starter.started(started.is_ok());
-    started
 }
 
 /// Starts `most` threads that take turns at a door. Each ends once the door has no connection left, or is closed. At

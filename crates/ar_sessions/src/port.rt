@@ -8,10 +8,12 @@ ghost use Rattle.ar_sessions.specs.Desk.{receipt_for};
 ghost use Rattle.ar_sessions.specs.Port.{AnswersLasting, AsksArray, SettlesReply, lasting_reply};
 
 use crate::refusing::refuse_counted;
+use crate::timing::Stopwatch;
 use crate::{Desk, Receipt, SeatDesk, SeatSlot};
 use ar_disks::{Host, SECTOR_LEN};
 use ar_frames::{Login, Port};
 use ar_history::{Seat, ServedArray};
+use ar_latency::TimedOperation;
 use ar_scsi::{Command, Reply, Sense, decode};
 use bytes::Bytes;
 use std::alloc::Global;
@@ -41,7 +43,9 @@ pub struct LockPort<'a, R: Wait, A: Drop, K: Drop, L: Ledger> {
     pub(crate) rt: &'a R,
     alloc: Global,
     pub(crate) array: &'a Mutex<A>,
-    desk: &'a Mutex<K>,
+    pub(crate) desk: &'a Mutex<K>,
+    // The port of 127.0.0.1 that its session comes from, if it is to be noted at the desk.
+    peer: Option<u16>,
     pub(crate) seat: Option<Seat<L>>,
 }
 
@@ -69,8 +73,16 @@ impl<'a, R: Wait, A: Drop, K: Drop, L: Ledger> LockPort<'a, R, A, K, L> {
             alloc,
             array,
             desk,
+            peer: None,
             seat: None,
         }
+    }
+
+    /// The same port of a session that comes from this port of 127.0.0.1, which the desk notes at its login.
+    pub fn coming_from(self, peer: Option<u16>) -> LockPort<'a, R, A, K, L>
+        ensures { result ≡ self.entry }
+    {
+        LockPort { peer, ..self }
     }
 }
 
@@ -115,18 +127,18 @@ impl<'a, R: Wait + Clock, A: ServedArray<L> + Drop, K: SeatDesk<L> + Drop, L: Le
         if !self.desk.lock(self.rt).lend(host, &mut slot) {
             return Login::InUse;
         }
+        if let Some(peer) = self.peer {
+            self.desk.lock(self.rt).note_peer(host, peer);
+        }
         self.seat = slot.into_seat();
         Login::Taken
     }
 
     fn command(&mut self, lun: u8, cdb: &[u8; 16], payload: Bytes) -> Reply {
         match &mut self.seat {
-            Some(seat) => {
-                let memory = memory_for(self.alloc, cdb);
-                ask_counted(
-                    self.rt, self.array, self.desk, memory, seat, lun, cdb, payload,
-                )
-            }
+            Some(seat) => ask_counted(
+                self.rt, self.alloc, self.array, self.desk, seat, lun, cdb, payload,
+            ),
             None => unreachable!(),
         }
     }
@@ -139,12 +151,12 @@ impl<'a, R: Wait + Clock, A: ServedArray<L> + Drop, K: SeatDesk<L> + Drop, L: Le
     }
 }
 
-// Executes a command, and then counts it at the desk.
+// Executes a command, and then counts it at the desk, with its time.
 fn ask_counted<R: Wait + Clock, A: ServedArray<L> + Drop, K: SeatDesk<L> + Drop, L: Ledger>(
     rt: &R,
+    alloc: Global,
     array: &Mutex<A>,
     desk: &Mutex<K>,
-    memory: Option<Vec<u8>>,
     seat: &mut Seat<L>,
     lun: u8,
     cdb: &[u8; 16],
@@ -153,10 +165,12 @@ fn ask_counted<R: Wait + Clock, A: ServedArray<L> + Drop, K: SeatDesk<L> + Drop,
     ensures asks { AsksArray A.stores A.persists seat.old lun cdb.now payload result seat.new }
     ensures reply { IsReply result }
 {
-    let host = seat.host();
-    let sent = payload.len();
+    let watch = Stopwatch::start(rt);
+    let (host, sent) = (seat.host(), payload.len());
+    let memory = memory_for(alloc, cdb);
     let reply = ask_locked(rt, array, memory, seat, lun, cdb, payload);
-    desk.lock(rt).count_command(host, sent, &reply);
+    let time = watch.stop(rt, TimedOperation::of(cdb));
+    desk.lock(rt).count_command(host, sent, &reply, time);
     reply
 }
 

@@ -26,7 +26,7 @@ pub(crate) fn refuse_counted<R: Wait, A: ServedArray<L> + Drop, K: SeatDesk<L> +
 {
     refuse_locked(rt, array, host, cdb);
     let reply = Reply::busy();
-    desk.lock(rt).count_command(host, 0, &reply);
+    desk.lock(rt).count_command(host, 0, &reply, None);
     reply
 }
 

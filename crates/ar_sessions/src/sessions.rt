@@ -201,7 +201,7 @@ pub fn run_beside_background<
 }
 
 // Starts the thread of the background maintenance.
-pub(crate) fn start_background<
+fn start_background<
     's,
     E,
     R: Wait + Clock + Sync,
@@ -429,7 +429,8 @@ impl<
             mut reader,
             mut writer,
         } = self;
-        let mut port = LockPort::new(shared.rt, shared.alloc, shared.array, shared.desk);
+        let port = LockPort::new(shared.rt, shared.alloc, shared.array, shared.desk);
+        let mut port = port.coming_from(peer_of(&reader));
         let end = serve_gated(
             shared.alloc,
             &mut reader,

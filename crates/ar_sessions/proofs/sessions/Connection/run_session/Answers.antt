@@ -1,4 +1,4 @@
-use Rattle.std.proofs.Common.{rules, Option, subst}
+use Rattle.std.proofs.Common.{rules, Option, subst, ◌∙◌}
 use Rattle.ar_history.specs.Seat.{SeatState}
 use Rattle.ar_frames.specs.Session.{Session}
 use Rattle.ar_sessions.specs.Desk.{IsFound}
@@ -16,6 +16,6 @@ returns g c = record {
       (g.S.Source.state c.serve_gated-end.new.reader)
       (g.W.Sink.state c.args.self.writer) (g.W.Sink.state c.serve_gated-end.new.writer) port c.serve_gated-end.new.port
       c.serve_gated-end.result)
-      c.new-port.ensures c.serve_gated-end.ensures.session;
+      (c.coming_from-port.ensures ∙ c.new-port.ensures) c.serve_gated-end.ensures.session;
   receipt_is = search rules;
 }
