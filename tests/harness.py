@@ -294,6 +294,11 @@ class Host:
             self.link.sendall(name + bytes([number]))
             self.greeting = exactly(self.link, 1)
 
+    def place(self):
+        """The address and the port that it comes from."""
+        address, port = self.link.getsockname()
+        return f"{address}:{port}"
+
     def sends(self, block, data=b"", lun=0):
         """Sends a request, and leaves its answer."""
         self.tag += 1

@@ -228,6 +228,19 @@ class Metrics(Case):
         self.has_form(server.get("/metrics")[2])
         self.stops(server)
 
+    def test_latencies_by_frames(self):
+        """Commands of a host by frames are timed, too: two READs, a WRITE, an INQUIRY and one that is refused."""
+        server = self.serve("0:0:8", doors=("operator", "http"))
+        host = self.kept(server.log_in(0))
+        self.wants(host.writes(0, bytes(512)).status, GOOD, "a WRITE")
+        for _ in range(2):
+            self.wants(host.reads(0, 2).status, GOOD, "a READ")
+        self.wants(host.asks(b"\x12\0\0\0\x24\0").status, GOOD, "INQUIRY")
+        self.wants(host.asks(b"\xFF").status, 2, "a command that there isn't")
+        wanted = {"read": (2, True), "write": (1, True), "synchronize_cache": (0, False), "other": (2, True)}
+        self.wants(self.latencies(server), wanted, "commands that were timed")
+        self.stops(server)
+
     def test_looks_beside_a_host(self):
         """An array's own metrics are not commands of hosts."""
         server = self.watched("0:0:8")

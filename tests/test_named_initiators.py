@@ -77,7 +77,7 @@ class Shown(NamedCase):
         host = self.kept(self.server.log_in(1))
         self.wants(host.greeting, ACCEPTED, "a login by frames")
         one, two, three, four = (f"127.0.0.1:{port_of(link)}" for link in (first, second, third, host))
-        wanted = [f"host {number} frames 0 read 0 written 0" for number in range(2)]
+        wanted = ["host 0 frames 0 read 0 written 0", f"host 1 frames 0 read 0 written 0 {four}"]
         wanted += [f"iscsi 1 discovery {one} {NAME}", f"iscsi 2 discovery {two} {OTHER}"]
         wanted += [f"iscsi 3 host 0 {three} {NAME}"]
         self.wants(self.server.answers_to("sessions\n").splitlines(), wanted, "an operator's `sessions`")
@@ -86,6 +86,9 @@ class Shown(NamedCase):
         said = [tuple(session[name] for name in ("number", "host", "peer_port", "initiator")) for session in found]
         wanted = [(1, None, port_of(first), NAME), (2, None, port_of(second), OTHER), (3, 0, port_of(third), NAME)]
         self.wants(said, wanted, "the iSCSI sessions as JSON")
+        found = self.server.status_json()["inventory"]["host_sessions"]
+        said = [(session["host"], session["peer_port"]) for session in found]
+        self.wants(said, [(0, None), (1, port_of(host))], "the hosts' sessions as JSON")
         for link in first, second, third, host:
             link.close()
         self.wants(self.server.wait_for_none(), "", "sessions once all have left")
@@ -107,7 +110,8 @@ class Shown(NamedCase):
         """One that waits for a seat isn't shown as a session."""
         host = self.kept(self.server.log_in(0))
         self.is_refused(0)
-        self.wants(self.server.answers_to("sessions\n"), "host 0 frames 0 read 0 written 0\n", "sessions afterwards")
+        said = f"host 0 frames 0 read 0 written 0 {host.place()}\n"
+        self.wants(self.server.answers_to("sessions\n"), said, "sessions afterwards")
         self.wants(host.is_ready(), True, "the host's own session")
         host.close()
         self.wants([line for line in self.ended() if NAME in line], [], "lines of the log with its name")
@@ -205,7 +209,8 @@ class Reinstatement(NamedCase):
         host = self.kept(self.server.log_in(0))
         first = self.asks_to_wait()
         time.sleep(0.3)
-        self.wants(self.server.answers_to("sessions\n"), "host 0 frames 0 read 0 written 0\n", "sessions meanwhile")
+        said = f"host 0 frames 0 read 0 written 0 {host.place()}\n"
+        self.wants(self.server.answers_to("sessions\n"), said, "sessions meanwhile")
         begun, second = time.monotonic(), self.asks_to_wait()
         rest_of(first.link)
         passed = time.monotonic() - begun

@@ -234,7 +234,8 @@ class Operators(Case):
         host = server.log_in(0)
         self.wants(host.writes(0, b"w" * 1024), Reply(1, 0, b"", b""), "a WRITE of two sectors")
         self.wants(host.reads(0, 3), Reply(2, 0, b"", b"w" * 1024 + bytes(512)), "a READ of three sectors")
-        self.wants(server.answers_to("sessions\n"), "host 0 frames 2 read 1536 written 1024\n", "sessions")
+        said = f"host 0 frames 2 read 1536 written 1024 {host.place()}\n"
+        self.wants(server.answers_to("sessions\n"), said, "sessions")
         wanted = ["host 0 commands 2 read 1536 written 1024"]
         wanted += [f"host {host} commands 0 read 0 written 0" for host in (1, 2, 3)]
         self.wants(server.answers_to("counts\n").splitlines()[:4], wanted, "counts")
@@ -242,7 +243,8 @@ class Operators(Case):
         host.close()
         self.wants(server.wait_for_none(), "", "sessions once the host has left")
         again = server.log_in_again(0)
-        self.wants(server.answers_to("sessions\n"), "host 0 frames 0 read 0 written 0\n", "a second session of a host")
+        said = f"host 0 frames 0 read 0 written 0 {again.place()}\n"
+        self.wants(server.answers_to("sessions\n"), said, "a second session of a host")
         again.close()
         self.stops(server, [2, 0, 0, 0])
 

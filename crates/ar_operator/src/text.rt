@@ -51,21 +51,29 @@ pub fn write_version<W: Write>(out: &mut W, version: &str) -> io::Result<()> {
     writeln!(out, "autoraid {version}")
 }
 
-/// Writes a connected host, as a line: the frames of its session, and the bytes that it has read and written.
+/// Writes a connected host, as a line: the frames of its session, the bytes that it has read and written, and the port of
+/// 127.0.0.1 that it comes from, if it does by frames.
 pub fn write_session<W: Write>(
     out: &mut W,
     host: Host,
     frames: u64,
     read: u64,
     written: u64,
+    peer: Option<u16>,
 ) -> io::Result<()>
     ensures adds { OnOk result (AddsSome (W.contents out.old) (W.contents out.new)) }
 {
     let host = host.number();
-    writeln!(
-        out,
-        "host {host} frames {frames} read {read} written {written}"
-    )
+    match peer {
+        Some(port) => writeln!(
+            out,
+            "host {host} frames {frames} read {read} written {written} 127.0.0.1:{port}"
+        ),
+        None => writeln!(
+            out,
+            "host {host} frames {frames} read {read} written {written}"
+        ),
+    }
 }
 
 /// Writes an iSCSI session, as a line: its number, its host, or that it is for discovery, the port of 127.0.0.1 that it

@@ -326,7 +326,9 @@ fn write_host<L: Ledger>(desk: &Desk<L>, host: Host, out: &mut Vec<u8>) -> Resul
             counts.frames,
             counts.read,
             counts.written,
-        ).map_err(|_| AllocError),
+            desk.peer(host),
+        )
+        .map_err(|_| AllocError),
         None => Ok(()),
     }
 }

@@ -13,6 +13,7 @@ use crate::watching::Watch;
 use ar_disks::Host;
 use ar_frames::{Linked, PairWrite, Sink, Source};
 use ar_iscsi::IscsiEnd;
+use ar_latency::CommandLatencies;
 use ar_operator::{Fuse, OperatorEnd, disk_totals, lost_disks};
 use ar_sessions::{Desk, Door, Handler, NoMemory, SharedDoor, Starter, run_pool, start_pool};
 use ar_status::{Activity, ArrayName, ArrayStatus, EventLog, SessionNumbers};
@@ -69,6 +70,18 @@ pub struct OperatedArray<'a, R: Wait, A: Drop, L: Ledger, M> {
     pub system: Option<&'a HostRuntime>,
     /// Set once the service is to end. All doors look at it.
     pub stop: &'a AtomicBool,
+    /// Set once all sessions of hosts have ended, up to when the array is maintained.
+    pub ended: &'a AtomicBool,
+}
+
+/// What is read of a service before its array is locked.
+#[derive(Clone, Copy)]
+pub struct Outside {
+    pub sessions: SessionNumbers,
+    /// How long commands took, since the start.
+    pub latencies: CommandLatencies,
+    /// The spare disks that are left.
+    pub spares: u8,
 }
 
 /// The doors beside the hosts'.
@@ -117,38 +130,49 @@ impl<'a, R: Wait + Clock, A: ControlledArray<L, M> + Drop, L: Ledger, M> Operate
         }
     }
 
-    /// Counts the sessions. It takes one lock at a time.
-    pub fn sessions(&self) -> SessionNumbers {
-        let hosts = hosts_logged_in(&self.desk.lock(self.rt));
+    /// What is read of the service before its array is locked. It takes one lock at a time.
+    pub fn outside(&self) -> Outside {
+        let (hosts, latencies) = seen_at(&self.desk.lock(self.rt));
         let discovery = self.initiators.lock(self.rt).discoveries();
-        SessionNumbers { hosts, discovery }
+        Outside {
+            sessions: SessionNumbers { hosts, discovery },
+            latencies,
+            spares: self.spares_left(),
+        }
     }
 
     /// Looks at the array, so that what has happened is listed, and returns its status.
     pub fn see(&self) -> ArrayStatus {
-        let (sessions, spares) = (self.sessions(), self.spares_left());
+        let outside = self.outside();
         let mut log = self.log.lock(self.rt);
         // (read behind the lock, so that events are listed in the order of their times)
         let seconds = self.seconds();
         let array = self.array.lock(self.rt);
-        let beside = self.beside(sessions, spares, seconds);
+        let beside = self.beside(outside, seconds);
         see_and_tell::<A, L, M>(&array, &beside, &mut log)
     }
 
     /// What is shown beside the array. It is read with the array's lock held, under which accesses are counted.
-    pub fn beside(&self, sessions: SessionNumbers, spares: u8, seconds: u64) -> Beside {
+    pub fn beside(&self, outside: Outside, seconds: u64) -> Beside {
         Beside {
             name: self.name,
             seconds,
             lost: lost_disks(self.fuses),
             disks: disk_totals(self.fuses),
-            sessions,
-            spares,
+            sessions: outside.sessions,
+            spares: outside.spares,
             refused: self.tallies.refused(),
-            latencies: self.tallies.latencies.counters(),
+            latencies: outside.latencies,
             samples: self.activity.lock(self.rt).samples(),
         }
     }
+}
+
+// Which hosts are logged in, and how long commands took.
+fn seen_at<L: Ledger>(desk: &Desk<L>) -> ([bool; 4], CommandLatencies)
+    ensures { result.0 ≡ hosts_logged_in desk.now }
+{
+    (hosts_logged_in(desk), desk.latencies())
 }
 
 // Which hosts are logged in.
@@ -225,12 +249,21 @@ pub fn run_operated<
     let operators = operators_side(&*array, operators, room);
     let watchers = watchers_side(&*array, watchers);
     let sides = (&operators, &watchers, &initiators);
-    // (what the thread takes along is little, so that it is soon proved that threads may share it)
-    let (rt, alloc, shared, desk) = (array.rt, array.alloc, array.array, array.desk);
-    let served = serve_beside(rt, sides, &*array, move || {
-        run_pool(rt, alloc, hosts, shared, desk, starter)
-    });
-    (pending_in(array.alloc, operators), served)
+    let (rt, alloc) = (array.rt, array.alloc);
+    let served = thread::scope(
+        thread::scope_env(),
+        rt,
+        move |scope| -> Result<(), NoMemory> {
+            // (they are ended also where not all of them could be started)
+            let served = match start_threads(scope, rt, sides, array) {
+                Ok(()) => run_pool(rt, alloc, hosts, array.array, array.desk, starter),
+                Err(fault) => Err(fault),
+            };
+            array.end();
+            served
+        },
+    );
+    (pending_in(alloc, operators), served)
 }
 
 // The operators' door, if there is one.
@@ -314,57 +347,7 @@ impl<O: Door + Drop, T> SideDoor<O, T> {
     }
 }
 
-// Serves hosts by the foreground beside the threads of the other doors and of a monitor, and returns once all have
-// ended.
-fn serve_beside<
-    R: Threads + Wait + Sync,
-    O: Door + Drop + Send,
-    T: Handler<O::Reader, O::Writer, OperatorEnd> + Sync,
-    W: Handler<O::Reader, O::Writer, bool> + Sync,
-    I: Handler<O::Reader, O::Writer, IscsiEnd> + Sync,
-    V: Monitor + Sync,
-    F: FnOnce() -> Result<(), NoMemory> + Drop,
->(rt: &R, sides: Sides<'_, O, T, W, I>, monitor: &V, foreground: F) -> Result<(), NoMemory>
-    requires { F.pre foreground }
-{
-    thread::scope(
-        thread::scope_env(),
-        rt,
-        move |scope| -> Result<(), NoMemory>
-            requires { F.pre foreground }
-        { serve_in_scope(scope, rt, sides, monitor, foreground) },
-    )
-}
-
-// The same in the scope of the threads. They are ended also where not all of them could be started.
-fn serve_in_scope<
-    's,
-    E,
-    R: Wait + Sync,
-    O: Door + Drop + Send,
-    T: Handler<O::Reader, O::Writer, OperatorEnd> + Sync,
-    W: Handler<O::Reader, O::Writer, bool> + Sync,
-    I: Handler<O::Reader, O::Writer, IscsiEnd> + Sync,
-    V: Monitor + Sync,
-    F: FnOnce() -> Result<(), NoMemory> + Drop,
->(
-    scope: &'s Scope<'s, E>,
-    rt: &'s R,
-    sides: Sides<'s, O, T, W, I>,
-    monitor: &'s V,
-    foreground: F,
-) -> Result<(), NoMemory>
-    requires { F.pre foreground }
-{
-    let served = match start_threads(scope, rt, sides, monitor) {
-        Ok(()) => foreground(),
-        Err(fault) => Err(fault),
-    };
-    monitor.end();
-    served
-}
-
-// Starts the threads.
+// Starts the threads beside those of hosts: of the other doors, of the background maintenance, and of a monitor.
 fn start_threads<
     's,
     E,
@@ -390,8 +373,12 @@ fn start_threads<
     if let Some(side) = initiators {
         start_pool(scope, rt, TARGET_THREADS, &side.door, &side.handler)?;
     }
-    match scope.spawn(move || monitor.monitor()) {
-        Ok(_thread) => Ok(()),
-        Err(_) => Err(NoMemory),
+    let started = (
+        scope.spawn(move || monitor.maintain()),
+        scope.spawn(move || monitor.monitor()),
+    );
+    match started {
+        (Ok(_maintenance), Ok(_look)) => Ok(()),
+        _ => Err(NoMemory),
     }
 }

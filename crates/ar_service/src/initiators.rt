@@ -4,7 +4,6 @@ ghost use Rattle.std.specs.Prelude.{◌≡◌};
 
 use crate::attached::{Attached, Initiators};
 use crate::doors::OperatedArray;
-use crate::latencies::{Latencies, TimedOperation};
 use ar_disks::Host;
 use ar_frames::{Login, Port, Progress, Sink, Source};
 use ar_history::ServedArray;
@@ -22,7 +21,7 @@ use std::io::Write;
 use std::sync::ledger::Ledger;
 use std::sync::{Arc, Mutex, Wait};
 use std::thread;
-use std::time::{Clock, Duration, Instant};
+use std::time::{Clock, Duration};
 
 /// How often a login looks for its host's seat, if another session has it, and the milliseconds between two looks.
 const LOOKS: u32 = 200;
@@ -83,7 +82,6 @@ fn address_of(alloc: Global, port: u16) -> Result<Vec<u8>, AllocError> {
 
 // A port whose login waits for up to two seconds while another session has the host's seat: an initiator may log in
 // again as soon as it has logged out, and its last session is still being closed then. So is one that this login ends.
-// How long each command takes is noted.
 #[derive(Drop)]
 struct PatientPort<'a, R: Wait, L: Ledger, P: Drop> {
     rt: &'a R,
@@ -92,19 +90,7 @@ struct PatientPort<'a, R: Wait, L: Ledger, P: Drop> {
     // The number of its connection, and how far its session has come, if that is noted.
     number: u64,
     progress: Option<Arc<Progress>>,
-    latencies: &'a Latencies,
     port: P,
-}
-
-impl<'a, R: Wait + Clock, L: Ledger, P: Drop> PatientPort<'a, R, L, P> {
-    fn now(&self) -> Option<Instant> {
-        Instant::now(self.rt).ok()
-    }
-
-    // Notes how long a command took.
-    fn note_time(&self, operation: TimedOperation, began: Option<Instant>) {
-        self.latencies.note(self.rt, operation, began);
-    }
 }
 
 impl<'a, R: Wait + Log, L: Ledger, P: Drop> PatientPort<'a, R, L, P> {
@@ -162,10 +148,7 @@ impl<'a, R: Wait + Clock + Log, L: Ledger, P: Port + Drop> Port for PatientPort<
     }
 
     fn command(&mut self, lun: u8, cdb: &[u8; 16], payload: Bytes) -> Reply {
-        let began = self.now();
-        let reply = self.port.command(lun, cdb, payload);
-        self.note_time(TimedOperation::of(cdb), began);
-        reply
+        self.port.command(lun, cdb, payload)
     }
 
     fn refuse(&mut self, cdb: &[u8; 16]) -> Reply {
@@ -178,10 +161,7 @@ impl<'a, R: Wait + Clock + Log, L: Ledger, P: FlushPort + Drop> FlushPort
     ghost flushes = { λ old lun outcome new. P.flushes old.port lun outcome new.port };
 
     fn flush(&mut self, lun: u8) -> FlushOutcome {
-        let began = self.now();
-        let outcome = self.port.flush(lun);
-        self.note_time(TimedOperation::SynchronizeCache, began);
-        outcome
+        self.port.flush(lun)
     }
 }
 
@@ -192,17 +172,11 @@ impl<'a, R: Wait + Clock + Log, L: Ledger, P: DiscardPort + Drop> DiscardPort
     ghost runs = { λ old lun block most run new. P.runs old.port lun block most run new.port };
 
     fn discard(&mut self, lun: u8, lba: u64, count: u32) -> Reply {
-        let began = self.now();
-        let reply = self.port.discard(lun, lba, count);
-        self.note_time(TimedOperation::Other, began);
-        reply
+        self.port.discard(lun, lba, count)
     }
 
     fn run(&mut self, lun: u8, block: u32, most: u32) -> BlockRun {
-        let began = self.now();
-        let run = self.port.run(lun, block, most);
-        self.note_time(TimedOperation::Other, began);
-        run
+        self.port.run(lun, block, most)
     }
 }
 
@@ -253,7 +227,6 @@ impl<
             initiators,
             number,
             progress: progress_of(&reader),
-            latencies: self.latencies(),
             port: LockPort::new(rt, alloc, array, desk),
         };
         let mut server = DeviceServer::new(alloc, port, self.attributes);
@@ -268,10 +241,6 @@ impl<
 }
 
 impl<'a, R: Wait + Clock + Log, A: Drop, L: Ledger, M> Targets<'a, R, A, L, M> {
-    fn latencies(&self) -> &'a Latencies {
-        &self.array.tallies.latencies
-    }
-
     // Counts a refusal, and logs the end of a session.
     fn note_end(&self, number: u64, end: IscsiEnd) {
         if is_refused(end) {

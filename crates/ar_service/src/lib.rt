@@ -9,7 +9,6 @@ mod control;
 mod doors;
 mod initiator_name;
 mod initiators;
-mod latencies;
 mod lengths;
 mod listing;
 mod monitoring;

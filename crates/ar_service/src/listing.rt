@@ -1,21 +1,58 @@
 // The inventory of an array, as HTTP clients are sent it.
+use ar_disks::Host;
 use ar_operator::{DiskState, Inventory};
-use ar_status::{ArrayInventory, DiskUsage, InitiatorSession, SectorUsage, UnitUsage};
+use ar_sessions::Desk;
+use ar_status::{ArrayInventory, DiskUsage, HostSession, InitiatorSession, SectorUsage, UnitUsage};
 use std::alloc::{AllocError, Global};
 use std::str;
+use std::sync::ledger::Ledger;
 
-/// The inventory, with the seconds that a rebuild still takes, and the iSCSI sessions. It fails only when out of memory.
+/// The sessions that are open.
+#[derive(Drop)]
+pub(crate) struct Sessions {
+    pub hosts: Vec<HostSession>,
+    pub iscsi: Vec<InitiatorSession>,
+}
+
+/// The inventory, with the seconds that a rebuild still takes, and the sessions. It fails only when out of memory.
 pub(crate) fn inventory_of(
     alloc: Global,
     inventory: &Inventory,
     left: Option<u64>,
-    iscsi_sessions: Vec<InitiatorSession>,
+    sessions: Sessions,
 ) -> Result<ArrayInventory, AllocError> {
     Ok(ArrayInventory {
         usage: usage_of(inventory.usage()),
         units: units_of(alloc, inventory.units())?,
         disks: disks_of(alloc, inventory, left)?,
-        iscsi_sessions,
+        host_sessions: sessions.hosts,
+        iscsi_sessions: sessions.iscsi,
+    })
+}
+
+/// Lists the hosts that are logged in. It fails only when out of memory.
+pub(crate) fn host_sessions<L: Ledger>(
+    alloc: Global,
+    desk: &Desk<L>,
+) -> Result<Vec<HostSession>, AllocError> {
+    let mut sessions = Vec::with_capacity(alloc, 4)?;
+    for number in 0..4 {
+        if let Some(session) = host_session(desk, number) {
+            sessions.push(session)?;
+        }
+    }
+    Ok(sessions)
+}
+
+fn host_session<L: Ledger>(desk: &Desk<L>, number: u8) -> Option<HostSession> {
+    let host = Host::new(number)?;
+    let counts = desk.counts(host)?;
+    Some(HostSession {
+        host: number,
+        peer_port: desk.peer(host),
+        commands: counts.frames,
+        read_bytes: counts.read,
+        written_bytes: counts.written,
     })
 }
 

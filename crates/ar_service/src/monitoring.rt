@@ -7,6 +7,7 @@ use crate::doors::OperatedArray;
 use crate::shown::ControlledArray;
 use ar_memory::{memory_left, share_reached};
 use ar_operator::{Fuse, lost_disks};
+use ar_sessions::run_background;
 use ar_status::{EventKind, RecentEvent, RecentEvents, StoreHealth, StoreNumbers};
 use log::{Log, error, info, warn};
 use std::sync::Wait;
@@ -33,12 +34,15 @@ struct History {
     warned: u8,
 }
 
-/// What looks at an array until the service ends.
+/// What looks after an array until its service ends.
 pub trait Monitor {
     /// Looks at it again and again, and once more when the service ends.
     fn monitor(&self);
 
-    /// Ends the service.
+    /// Runs its background maintenance until all sessions of hosts have ended.
+    fn maintain(&self);
+
+    /// Ends the service, whose hosts have no session left.
     fn end(&self);
 }
 
@@ -71,7 +75,12 @@ impl<'a, R: Wait + Clock + Log, A: ControlledArray<L, M> + Drop, L: Ledger, M: C
         }
     }
 
+    fn maintain(&self) {
+        run_background(self.rt, self.array, self.ended);
+    }
+
     fn end(&self) {
+        self.ended.store(true, Ordering::SeqCst);
         self.stop.store(true, Ordering::SeqCst);
     }
 }

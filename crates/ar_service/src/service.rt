@@ -291,6 +291,7 @@ fn serve_array<
     let spares = Mutex::new(spares);
     let tallies = Tallies::new();
     let activity = Mutex::new(Activity::new());
+    let ended = AtomicBool::new(false);
     let operated = OperatedArray {
         rt,
         alloc,
@@ -309,6 +310,7 @@ fn serve_array<
         began: Instant::now(rt).ok(),
         system: plan.system,
         stop,
+        ended: &ended,
     };
     let (stops, served) = match made {
         Ok(()) => serve_plan(rt, &operated, stop, plan),

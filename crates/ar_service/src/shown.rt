@@ -17,6 +17,7 @@ use ar_history::{
     Counts, HostCounts, OperableArray, OperationCounts, ReplyCounts, ServedArray, StoreState,
     StoreStatus, TaskCounts,
 };
+use ar_latency::CommandLatencies;
 use ar_operator::{
     DiskCounts, DiskMaker, Fuse, Inventory, OperatorOrder, Prepared, SpareDisk, WantedDisk,
     execute, set_fuse, wanted_disk,
@@ -24,9 +25,9 @@ use ar_operator::{
 use ar_picture::Picture;
 use ar_script::picture_of;
 use ar_status::{
-    ArrayCounters, ArrayHealth, ArrayName, ArrayStatus, CommandLatencies, DiskCounters, DiskList,
-    EventLog, HostCounters, MaintenanceSteps, OperationCounters, RecentEvents, RecentSamples,
-    RefusedLogins, ReplyCounters, SessionNumbers, StoreHealth, StoreNumbers,
+    ArrayCounters, ArrayHealth, ArrayName, ArrayStatus, DiskCounters, DiskList, EventLog,
+    HostCounters, MaintenanceSteps, OperationCounters, RecentEvents, RecentSamples, RefusedLogins,
+    ReplyCounters, SessionNumbers, StoreHealth, StoreNumbers,
 };
 use std::alloc::{AllocError, Global};
 use std::sync::ledger::Ledger;

@@ -1,5 +1,4 @@
-// What the service itself counts: logins that it refuses, and the times of commands. Its threads count without a lock.
-use crate::latencies::Latencies;
+// What the service itself counts: logins that it refuses. Its threads count without a lock.
 use ar_status::RefusedLogins;
 use std::sync::atomic::{AtomicU64, Ordering};
 
@@ -8,7 +7,6 @@ use std::sync::atomic::{AtomicU64, Ordering};
 pub struct Tallies {
     refused_iscsi: AtomicU64,
     refused_operators: AtomicU64,
-    pub latencies: Latencies,
 }
 
 impl Tallies {
@@ -17,7 +15,6 @@ impl Tallies {
         Tallies {
             refused_iscsi: AtomicU64::new(0),
             refused_operators: AtomicU64::new(0),
-            latencies: Latencies::new(),
         }
     }
 

@@ -4,7 +4,7 @@ ghost use Rattle.std.specs.Prelude.{◌≡◌, IfOk};
 ghost use Rattle.ar_service.specs.Watching.{CopiesMoment, IsDrawing, MayDraw, text_drawn};
 
 use crate::doors::OperatedArray;
-use crate::listing::inventory_of;
+use crate::listing::{Sessions, host_sessions, inventory_of};
 use crate::shown::{Beside, ControlledArray};
 use ar_frames::Linked;
 use ar_operator::Inventory;
@@ -54,11 +54,11 @@ impl<'a, R: Wait + Clock, A: ControlledArray<L, M> + Drop, L: Ledger, M> Watch<'
     fn copied(&self, alloc: Global, draws: bool, lists: bool) -> Result<Moment, AllocError>
         ensures { IfOk result (λ moment. CopiesMoment A.persists draws moment.status moment.picture) }
     {
-        let (sessions, spares) = (self.array.sessions(), self.array.spares_left());
+        let outside = self.array.outside();
         let mut log = self.array.log.lock(self.array.rt);
         let seconds = self.array.seconds();
         let array = self.array.array.lock(self.array.rt);
-        let beside = self.array.beside(sessions, spares, seconds);
+        let beside = self.array.beside(outside, seconds);
         let (status, picture) = copy_moment::<A, L, M>(alloc, &array, &mut log, &beside, draws)?;
         let inventory = self.inventory_if(alloc, &array, lists)?;
         Ok(Moment {
@@ -82,7 +82,7 @@ impl<'a, R: Wait + Clock, A: ControlledArray<L, M> + Drop, L: Ledger, M> Watch<'
         Ok(Some(inventory))
     }
 
-    // The inventory as it is sent, with the iSCSI sessions.
+    // The inventory as it is sent, with the sessions.
     fn listed(
         &self,
         alloc: Global,
@@ -91,7 +91,10 @@ impl<'a, R: Wait + Clock, A: ControlledArray<L, M> + Drop, L: Ledger, M> Watch<'
         let Some(inventory) = inventory else {
             return Ok(None);
         };
-        let sessions = self.array.initiators.lock(self.array.rt).listed(alloc)?;
+        let sessions = Sessions {
+            hosts: host_sessions(alloc, &self.array.desk.lock(self.array.rt))?,
+            iscsi: self.array.initiators.lock(self.array.rt).listed(alloc)?,
+        };
         let left = self.array.rebuild_seconds_left();
         Ok(Some(inventory_of(alloc, &inventory, left, sessions)?))
     }

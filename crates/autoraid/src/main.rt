@@ -24,7 +24,6 @@ use ar_command_line::{
 use ar_language::{Fault, Recent, Remembered};
 use ar_logging::{LogThread, TimedConsole};
 use ar_script::{Runner, Setup, run_on, run_script};
-use ar_service::ServiceRuntime;
 use command_line::{RandomNumbers, Service, setup_of};
 use dialogue::{Manner, converse};
 use drawing::draw;
@@ -86,7 +85,9 @@ fn import(rt: &HostRuntime, alloc: Global, unit: &StoredUnit) -> Result<(), Fail
     images::import(&logged.with_target(TARGET), rt, alloc, unit).map_err(Failure::Store)
 }
 
-// Serves hosts, beside the thread that writes the log, and returns also whether standard error has taken all of it.
+// Serves hosts an array, that of a store or a new one, beside the thread that writes the log, and returns also whether
+// standard error has taken all of it. The log has what failed and, if that is asked for, the start and the end of each
+// session.
 // `files` is `rt` once more: a store's files and an operators' socket are opened by the runtime's own type, which
 // starts no threads outside of `main`.
 fn serve_hosts<
@@ -115,7 +116,11 @@ fn serve_hosts<
         Level::Warn
     };
     let logged = Logged::new(&rt, level, log.sink());
-    let done = serve_array(&logged.with_target(TARGET), files, alloc, &service, random);
+    let rt = logged.with_target(TARGET);
+    let done = match &service.options.store {
+        Some(options) => stored::serve(&rt, files, alloc, &service, options, random),
+        None => run_server(&rt, files, alloc, &service, random).map_err(Failure::Serve),
+    };
     (done, log.end())
 }
 
@@ -139,21 +144,6 @@ fn end_unread(done: Result<(), Failure>) -> ExitCode
     match done {
         Ok(()) => ExitCode::SUCCESS,
         Err(failure) => ExitCode::from(failure.status()),
-    }
-}
-
-// Serves the array of a store, or a new one. The log has what failed and, if that is asked for, the start and the end
-// of each session.
-fn serve_array<R: ServiceRuntime + Sync>(
-    rt: &R,
-    files: &HostRuntime,
-    alloc: Global,
-    service: &Service,
-    random: RandomNumbers,
-) -> Result<(), Failure> {
-    match &service.options.store {
-        Some(options) => stored::serve(rt, files, alloc, service, options, random),
-        None => run_server(rt, files, alloc, service, random).map_err(Failure::Serve),
     }
 }
 
