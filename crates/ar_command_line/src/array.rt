@@ -102,6 +102,8 @@ pub struct ServeOptions {
     pub login_timeout: Option<u32>,
     /// Seconds for which a session may be silent.
     pub idle_timeout: Option<u32>,
+    /// Seconds of silence after which an initiator is pinged. `None`: never.
+    pub iscsi_ping: Option<u32>,
     pub audit: Audit,
     /// The spare disks, 0 to 4.
     pub spares: u8,
@@ -376,11 +378,17 @@ fn serve_options_of(alloc: Global, options: &ArgMatches<'_>) -> Result<ServeOpti
         iscsi: options.get_one("iscsi"),
         login_timeout: options.get_one("login-timeout"),
         idle_timeout: options.get_one("idle-timeout"),
+        iscsi_ping: iscsi_ping_of(options),
         audit,
         spares: options.get_one("spares").unwrap_or(0),
         units,
         words,
     })
+}
+
+// The seconds after which a silent initiator is pinged. 0: it never is.
+fn iscsi_ping_of(options: &ArgMatches<'_>) -> Option<u32> {
+    options.get_one("iscsi-ping").filter(|seconds| *seconds > 0)
 }
 
 // The name of the array. A store has its own.

@@ -154,7 +154,7 @@ static PORTS: [Form; 6] = [
     ),
 ];
 
-static SERVE: [Form; 6] = [
+static SERVE: [Form; 7] = [
     Form(
         "login-timeout",
         "SECONDS",
@@ -168,6 +168,13 @@ static SERVE: [Form; 6] = [
         SECONDS,
         Otherwise::Nothing,
         "How long a session may be silent",
+    ),
+    Form(
+        "iscsi-ping",
+        "SECONDS",
+        Value::Number(0, 86_400),
+        Otherwise::Value("15"),
+        "Silence before an initiator is pinged; 0: never",
     ),
     Form(
         "audit",

@@ -39,8 +39,7 @@ const OPERATOR_LINE: u32 = 30;
 
 const OPERATOR_IDLE: u32 = 600;
 
-/// The seconds for which an initiator may be silent, if hosts have no limit. Initiators send a NOP-Out every few
-/// seconds.
+/// The seconds for which an initiator may be silent, if hosts have no limit. It takes no ping to end one.
 const INITIATOR_IDLE: u32 = 600;
 
 /// The seconds that a session for discovery may last. It has no host's seat, and takes a moment.
@@ -98,6 +97,8 @@ pub struct Plan<'a> {
     pub iscsi: Option<IscsiPort>,
     /// How long hosts may be silent.
     pub timeouts: Timeouts,
+    /// The seconds of silence after which an initiator is pinged, and after a ping ended. None: never.
+    pub ping: Option<u32>,
     /// How many spare disks there are at the start.
     pub spares: u8,
     /// Says how much memory there is; None: nothing is warned of.
@@ -475,6 +476,7 @@ fn open_initiators<'s, R: ServiceRuntime>(
     let timeouts = Timeouts {
         login: plan.timeouts.login,
         idle: Some(plan.timeouts.idle.unwrap_or(INITIATOR_IDLE)),
+        ping: plan.ping,
         discovery: Some(DISCOVERY_WHOLE),
         whole: None,
     };

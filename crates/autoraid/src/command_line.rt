@@ -60,6 +60,7 @@ impl Service {
                 idle: self.options.idle_timeout,
                 ..Timeouts::NONE
             },
+            ping: self.options.iscsi_ping,
             spares: self.options.spares,
             system,
         }
