@@ -422,8 +422,9 @@ class Initiator:
             return None
         size = int.from_bytes(header[5:8], "big")
         said = Pdu(header, exactly(self.link, size + -size % 4)[:size])
-        # (Data-In has a StatSN only with a status, and R2T none of its own)
-        if said.opcode not in (0x25, 0x31) or said.opcode == 0x25 and said.flags & 1:
+        # (Data-In has a StatSN only with a status, and R2T and a NOP-In that answers nothing none of their own)
+        has_status = said.flags & 1 if said.opcode == 0x25 else said.opcode != 0x31
+        if has_status and (said.opcode, said.tag) != (0x20, 0xFFFFFFFF):
             self.exp_stat_sn = said.stat_sn + 1 & 0xFFFFFFFF
         return said
 
@@ -464,6 +465,11 @@ class Initiator:
         """Sends a NOP-Out, and returns its answer."""
         self.send(0x40, 0x80, (0xFFFFFFFF, self.cmd_sn, self.exp_stat_sn), data, tag=tag)
         return self.receive()
+
+    def answers(self, ping):
+        """Answers a ping of the target: its tag and its LUN come back (RFC 7143, 11.18)."""
+        words = ping.number(20), self.cmd_sn, self.exp_stat_sn
+        self.send(0x40, 0x80, words, place=int.from_bytes(ping.header[8:16], "big"), tag=0xFFFFFFFF)
 
     def close(self):
         self.link.close()

@@ -5,7 +5,7 @@ import struct
 import threading
 import time
 
-from tests.harness import ACCEPTED, LOGIN, Case, Initiator, connected, rest_of, sends_slowly
+from tests.harness import ACCEPTED, LOGIN, Case, Initiator, connected, read_10, rest_of, sends_slowly, write_10
 
 # The head of a request that a client sends a byte at a time.
 SLOW_HEAD = b"GET /healthz HTTP/1.1\r\nHost: localhost\r\nX: " + b"x" * 1000
@@ -19,11 +19,13 @@ def closes(link):
         return True
 
 
-class Timeouts(Case):
+class TimedCase(Case):
     def passes(self, begun, least, most, what):
         passed = time.monotonic() - begun
         self.holds(least <= passed < most, f"{what} in {least} to {most} s", f"{passed:.1f} s")
 
+
+class Timeouts(TimedCase):
     def test_silent_hosts_with_a_log(self):
         """A connection that never logs in, a login that comes a byte at a time, a session that falls silent."""
         server, begun = self.serve("--login-timeout", "1", "--idle-timeout", "2", "--log"), time.monotonic()
@@ -140,3 +142,97 @@ class Timeouts(Case):
             self.wants(rest_of(link), b"", "what half a login receives")
         self.passes(begun, 0, 10, "half a login ends")
         self.stops(server, [0, 0, 0, 0])
+
+
+class Pings(TimedCase):
+    """An initiator that says nothing is sent a NOP-In that wants an answer (RFC 7143, 11.19)."""
+
+    SECTOR = b"\xA5" * 512
+
+    def served(self, *words):
+        return self.serve(*words, "--extents", "16", "0:0:24", "1:0:8", doors=("operator", "iscsi"))
+
+    def ready(self, server, host=0):
+        """An initiator whose first command has reported that its session is new."""
+        initiator = self.kept(server.initiator(host))
+        initiator.asks(bytes(6))
+        return initiator
+
+    def pinged(self, initiator, least=0.7, most=1.9):
+        """Waits for a ping, and compares all of its fields but the target transfer tag."""
+        begun = time.monotonic()
+        said = initiator.receive()
+        self.passes(begun, least, most, "a ping comes")
+        numbers = initiator.exp_stat_sn, initiator.cmd_sn, initiator.cmd_sn + 15
+        wanted = bytes([0x20, 0x80, *bytes(14)]) + b"\xFF" * 4, struct.pack(">3I", *numbers) + bytes(12), b""
+        self.wants((said.header[:20], said.header[24:], said.data), wanted, "a ping but for its tag")
+        self.holds(said.number(20) != 0xFFFFFFFF, "a target transfer tag", said.header[20:24])
+        return said
+
+    def test_an_initiator_that_answers(self):
+        """It stays for several pings, and the numbers of what it asks for go on as if there had been none."""
+        server = self.served("--iscsi-ping", "1")
+        initiator = self.ready(server)
+        initiator.asks(write_10(5, 1), flags=0xA1, expected=512, data=self.SECTOR)
+        for _ in range(4):
+            initiator.answers(self.pinged(initiator))
+        stat_sn = initiator.exp_stat_sn
+        found, said = initiator.asks(read_10(5, 1), flags=0xC1, expected=512)
+        self.wants((found, said.status, said.stat_sn), (self.SECTOR, 0, stat_sn), "a READ after four pings")
+        self.pinged(initiator)
+        self.wants(initiator.ping(b"here").data, b"here", "a NOP-Out while a ping is unanswered")
+        initiator.answers(self.pinged(initiator))
+        initiator.close()
+        self.stops(server)
+
+    def test_an_initiator_that_does_not_answer(self):
+        """Its session ends, and another initiator has its host's seat at once."""
+        server = self.served("--iscsi-ping", "1")
+        silent, begun = self.ready(server), time.monotonic()
+        self.pinged(silent)
+        self.wants(rest_of(silent.link), b"", "what comes after a ping that isn't answered")
+        self.passes(begun, 1.8, 4, "its session ends")
+        begun = time.monotonic()
+        self.ready(server).close()
+        self.passes(begun, 0, 1.5, "another has its host's seat")
+        self.stops(server)
+
+    def test_an_initiator_inside_a_pdu(self):
+        """One that stops inside a PDU isn't pinged, and its session ends no sooner; the rest of the PDU may come."""
+        server = self.served("--iscsi-ping", "1")
+        cut, late, begun = self.ready(server), self.ready(server, 1), time.monotonic()
+        for initiator in cut, late:
+            initiator.link.sendall(b"\x40\x80" + bytes(14))
+        time.sleep(1.5)
+        late.link.sendall(struct.pack(">8I", 0x77, 0xFFFFFFFF, late.cmd_sn, late.exp_stat_sn, *bytes(4)))
+        self.wants(late.receive().tag, 0x77, "the answer to a NOP-Out that stopped for longer than a ping takes")
+        self.wants(rest_of(cut.link), b"", "what comes after half a header")
+        self.passes(begun, 1.8, 4, "its session ends")
+        late.close()
+        self.stops(server)
+
+    def test_an_initiator_that_owes_data(self):
+        """A WRITE's data may come after a ping, whose tag isn't that of the R2T."""
+        server = self.served("--iscsi-ping", "1")
+        initiator = self.ready(server)
+        tag = initiator.sends(write_10(5, 1), flags=0xA1, expected=512)
+        asked = initiator.receive()
+        self.wants(asked.opcode, 0x31, "what asks for the data")
+        said = self.pinged(initiator)
+        self.holds(said.number(20) != asked.number(20), "another tag than the R2T's", said.header)
+        initiator.answers(said)
+        words = asked.number(20), 0, initiator.exp_stat_sn, 0, 0, 0
+        initiator.send(0x05, 0x80, words, self.SECTOR, tag=tag)
+        self.wants(initiator.receive().status, 0, "the WRITE")
+        initiator.close()
+        self.stops(server)
+
+    def test_other_silences(self):
+        """A first ping comes after 15 s, unless it is said to come never."""
+        never, usual = self.served("--iscsi-ping", "0"), self.served()
+        silent, pinged = self.ready(never), self.ready(usual)
+        pinged.answers(self.pinged(pinged, 14, 18))
+        self.wants((pinged.ping(b"a").data, silent.ping(b"b").data), (b"a", b"b"), "what both receive next")
+        for server, initiator in (never, silent), (usual, pinged):
+            initiator.close()
+            self.stops(server)
