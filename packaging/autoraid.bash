@@ -3,7 +3,7 @@ _autoraid() {
     local word=${COMP_WORDS[COMP_CWORD]} previous=${COMP_WORDS[COMP_CWORD-1]} words
     local made="--geometry --disks --extents" stored="--store --mirror --sync --commit-every"
     local served="--port --sessions --operator --http --http-host --iscsi --login-timeout --idle-timeout --audit --log"
-    served+=" --name --spares"
+    served+=" --name --spares --iscsi-ping"
     case $previous in
         --geometry) words="small paper" ;;
         --audit) words="full off" ;;
