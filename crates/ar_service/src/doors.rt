@@ -249,21 +249,12 @@ pub fn run_operated<
     let operators = operators_side(&*array, operators, room);
     let watchers = watchers_side(&*array, watchers);
     let sides = (&operators, &watchers, &initiators);
-    let (rt, alloc) = (array.rt, array.alloc);
-    let served = thread::scope(
-        thread::scope_env(),
-        rt,
-        move |scope| -> Result<(), NoMemory> {
-            // (they are ended also where not all of them could be started)
-            let served = match start_threads(scope, rt, sides, array) {
-                Ok(()) => run_pool(rt, alloc, hosts, array.array, array.desk, starter),
-                Err(fault) => Err(fault),
-            };
-            array.end();
-            served
-        },
-    );
-    (pending_in(alloc, operators), served)
+    // (what the thread takes along is little, so that it is soon proved that threads may share it)
+    let (rt, alloc, shared, desk) = (array.rt, array.alloc, array.array, array.desk);
+    let served = serve_beside(rt, sides, &*array, move || {
+        run_pool(rt, alloc, hosts, shared, desk, starter)
+    });
+    (pending_in(array.alloc, operators), served)
 }
 
 // The operators' door, if there is one.
@@ -347,6 +338,56 @@ impl<O: Door + Drop, T> SideDoor<O, T> {
     }
 }
 
+// Serves hosts by the foreground beside the threads of the other doors and of a monitor, and returns once all have
+// ended.
+fn serve_beside<
+    R: Threads + Wait + Sync,
+    O: Door + Drop + Send,
+    T: Handler<O::Reader, O::Writer, OperatorEnd> + Sync,
+    W: Handler<O::Reader, O::Writer, bool> + Sync,
+    I: Handler<O::Reader, O::Writer, IscsiEnd> + Sync,
+    V: Monitor + Sync,
+    F: FnOnce() -> Result<(), NoMemory> + Drop,
+>(rt: &R, sides: Sides<'_, O, T, W, I>, monitor: &V, foreground: F) -> Result<(), NoMemory>
+    requires { F.pre foreground }
+{
+    thread::scope(
+        thread::scope_env(),
+        rt,
+        move |scope| -> Result<(), NoMemory>
+            requires { F.pre foreground }
+        { serve_in_scope(scope, rt, sides, monitor, foreground) },
+    )
+}
+
+// The same in the scope of the threads. They are ended also where not all of them could be started.
+fn serve_in_scope<
+    's,
+    E,
+    R: Wait + Sync,
+    O: Door + Drop + Send,
+    T: Handler<O::Reader, O::Writer, OperatorEnd> + Sync,
+    W: Handler<O::Reader, O::Writer, bool> + Sync,
+    I: Handler<O::Reader, O::Writer, IscsiEnd> + Sync,
+    V: Monitor + Sync,
+    F: FnOnce() -> Result<(), NoMemory> + Drop,
+>(
+    scope: &'s Scope<'s, E>,
+    rt: &'s R,
+    sides: Sides<'s, O, T, W, I>,
+    monitor: &'s V,
+    foreground: F,
+) -> Result<(), NoMemory>
+    requires { F.pre foreground }
+{
+    let served = match start_threads(scope, rt, sides, monitor) {
+        Ok(()) => foreground(),
+        Err(fault) => Err(fault),
+    };
+    monitor.end();
+    served
+}
+
 // Starts the threads beside those of hosts: of the other doors, of the background maintenance, and of a monitor.
 fn start_threads<
     's,
@@ -373,12 +414,11 @@ fn start_threads<
     if let Some(side) = initiators {
         start_pool(scope, rt, TARGET_THREADS, &side.door, &side.handler)?;
     }
-    let started = (
-        scope.spawn(move || monitor.maintain()),
-        scope.spawn(move || monitor.monitor()),
-    );
-    match started {
-        (Ok(_maintenance), Ok(_look)) => Ok(()),
-        _ => Err(NoMemory),
+    if scope.spawn(move || monitor.maintain()).is_err() {
+        return Err(NoMemory);
+    }
+    match scope.spawn(move || monitor.monitor()) {
+        Ok(_thread) => Ok(()),
+        Err(_) => Err(NoMemory),
     }
 }
