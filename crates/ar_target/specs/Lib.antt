@@ -4,6 +4,7 @@ pub mod DeviceServer
 pub mod DiscardPort
 pub mod Discarding
 pub mod FlushPort
+pub mod InventoryPort
 pub mod Laws
 pub mod LbaStatus
 pub mod Luns

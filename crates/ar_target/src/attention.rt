@@ -1,5 +1,6 @@
-// The UNIT ATTENTION of a new session, and of a reset: each unit reports it once, to the first command that isn't
-// exempt.
+// The UNIT ATTENTION of a new session or a reset, and of a change of the host's units: each unit reports it once, to
+// the first command that isn't exempt. A reset is reported before a change, and its report covers a change that is due
+// too; REPORT LUNS covers a change at all units.
 ghost use Rattle.std.specs.Prelude.{◌≡◌, ◌<◌, false, true, slice_set};
 ghost use Rattle.ar_frames.specs.Frame.{IsReply};
 ghost use Rattle.ar_target.specs.Attention as attention;
@@ -18,6 +19,24 @@ pub const RESET_OCCURRED: Sense = Sense {
     ascq: 0x00,
 };
 
+/// UNIT ATTENTION, REPORTED LUNS DATA HAS CHANGED.
+pub const LUNS_CHANGED: Sense = Sense {
+    key: 0x06,
+    asc: 0x3F,
+    ascq: 0x0E,
+};
+
+/// What the units of a session have yet to report.
+#[derive(Drop)]
+pub(crate) struct Pending {
+    /// For LUNs 0 to 7, whether the unit hasn't reported yet that the session is new, or a reset.
+    pub resets: [bool; 8],
+    /// For LUNs 0 to 7, whether the unit hasn't reported yet that the inventory of the host's units has changed.
+    pub changes: [bool; 8],
+    /// How often it had changed when the session looked last.
+    pub seen: u64,
+}
+
 /// What came of a report that was due.
 #[derive(Drop)]
 pub(crate) enum Report {
@@ -29,19 +48,51 @@ pub(crate) enum Report {
     NoUnit,
 }
 
-/// Whether a command at `lun` has to report that the session is new, or a reset, if there is a unit.
-pub(crate) fn owes_report(pending: &[bool; 8], lun: u8, request: Request, cdb: &[u8; 16]) -> bool
-    ensures { result ≡ attention.owes_report pending.now lun request cdb.now }
+/// What the units of a new session have to report, where the inventory has changed `count` times so far.
+pub(crate) fn of_new_session(count: u64) -> Pending
+    ensures { result ≡ attention.of_new_session count }
 {
-    is_pending(pending, lun) && reports(request, cdb)
+    Pending {
+        resets: [true; 8],
+        changes: [false; 8],
+        seen: count,
+    }
 }
 
-// Whether the unit at a LUN hasn't reported it yet.
-fn is_pending(pending: &[bool; 8], lun: u8) -> bool
-    ensures { result ≡ attention.is_pending pending.now lun }
+/// Each unit has to report that the inventory has changed, unless the session has seen this count.
+pub(crate) fn look(pending: &mut Pending, count: u64)
+    ensures { pending.new ≡ attention.looked pending.old count }
 {
-    match pending.get(usize::from(lun)) {
-        Some(is_pending) => *is_pending,
+    if count != pending.seen {
+        pending.changes = [true; 8];
+        pending.seen = count;
+    }
+}
+
+/// Whether a command at `lun` has to make a report, if there is a unit.
+pub(crate) fn owes_report(pending: &Pending, lun: u8, request: Request, cdb: &[u8; 16]) -> bool
+    ensures { result ≡ attention.owes_report pending.now lun request cdb.now }
+{
+    (is_marked(&pending.resets, lun) || is_marked(&pending.changes, lun)) && reports(request, cdb)
+}
+
+/// What the unit at `lun` reports first, if it has to.
+pub(crate) fn sense_due(pending: &Pending, lun: u8) -> Sense
+    ensures { result ≡ attention.sense_due pending.now lun }
+{
+    if is_marked(&pending.resets, lun) {
+        RESET_OCCURRED
+    } else {
+        LUNS_CHANGED
+    }
+}
+
+// Whether a LUN is marked.
+fn is_marked(marks: &[bool; 8], lun: u8) -> bool
+    ensures { result ≡ attention.is_marked marks.now lun }
+{
+    match marks.get(usize::from(lun)) {
+        Some(is_marked) => *is_marked,
         None => false,
     }
 }
@@ -62,55 +113,88 @@ fn reports(request: Request, cdb: &[u8; 16]) -> bool
 }
 
 /// The unit at `lun` has to report a reset.
-pub(crate) fn make_due(pending: &mut [bool; 8], lun: u8)
+pub(crate) fn make_due(pending: &mut Pending, lun: u8)
     ensures { pending.new ≡ attention.due pending.old lun }
 {
     if lun <= MAX_LUN {
-        pending[usize::from(lun)] = true;
+        pending.resets[usize::from(lun)] = true;
     }
 }
 
 /// Each unit has to report a reset.
-pub(crate) fn make_all_due(pending: &mut [bool; 8])
-    ensures { pending.new ≡ attention.all_pending }
+pub(crate) fn make_all_due(pending: &mut Pending)
+    ensures { pending.new ≡ attention.all_due pending.old }
 {
-    *pending = [true; 8];
+    pending.resets = [true; 8];
 }
 
 /// The unit at `lun` has made its report.
-pub(crate) fn settle(pending: &mut [bool; 8], lun: u8)
+pub(crate) fn settle(pending: &mut Pending, lun: u8)
     ensures { pending.new ≡ attention.settled pending.old lun }
 {
+    unmark(&mut pending.resets, lun);
+    unmark(&mut pending.changes, lun);
+}
+
+// Takes the mark of a LUN away.
+fn unmark(marks: &mut [bool; 8], lun: u8)
+    ensures { marks.new ≡ attention.unmarked marks.old lun }
+{
     if lun <= MAX_LUN {
-        pending[usize::from(lun)] = false;
+        marks[usize::from(lun)] = false;
     }
 }
 
-/// Reports that the session is new, or a reset, if the port states that there is a unit at `lun`. The port is asked by
-/// an INQUIRY, which leaves the unit's own UNIT ATTENTION pending.
-pub(crate) fn make_report<P: Port>(alloc: Global, port: &mut P, lun: u8, request: Request) -> Report
+/// A command was answered: a REPORT LUNS that is GOOD has shown the inventory as it is.
+pub(crate) fn see_reply(pending: &mut Pending, request: Request, status: Status)
+    ensures { pending.new ≡ attention.after_reply pending.old request status }
+{
+    if shows_inventory(request, status) {
+        pending.changes = [false; 8];
+    }
+}
+
+// Whether a command with this status has shown the inventory of the host's units.
+fn shows_inventory(request: Request, status: Status) -> bool
+    ensures { result ≡ attention.shows_inventory request status }
+{
+    match (request, status) {
+        (Request::ReportLuns { .. } | Request::ReportWellKnown { .. }, Status::Good) => true,
+        _ => false,
+    }
+}
+
+/// Reports `sense` if the port states that there is a unit at `lun`. The port is asked by an INQUIRY, which leaves the
+/// unit's own UNIT ATTENTION pending.
+pub(crate) fn make_report<P: Port>(
+    alloc: Global,
+    port: &mut P,
+    lun: u8,
+    request: Request,
+    sense: Sense,
+) -> Report
     requires { P.has_login port.old ≡ true }
-    ensures attempts { attention.AttemptsReport P.commands port.old lun request result port.new }
+    ensures attempts { attention.AttemptsReport P.commands port.old lun request sense result port.new }
     ensures reply { attention.HasReply result }
     ensures stays { P.has_login port.new ≡ true }
 {
     let own_reply = ask(port, lun, &INQUIRY);
     match presence(&own_reply) {
-        Some(true) => report_of_unit(alloc, request),
+        Some(true) => report_of_unit(alloc, request, sense),
         Some(false) => Report::NoUnit,
         None => Report::Due(handed_on(own_reply)),
     }
 }
 
 // The report, or BUSY if out of memory for the data of a REQUEST SENSE.
-fn report_of_unit(alloc: Global, request: Request) -> Report
-    ensures report { attention.IsReport request result }
+fn report_of_unit(alloc: Global, request: Request, sense: Sense) -> Report
+    ensures report { attention.IsReport request sense result }
     ensures reply { attention.HasReply result }
 {
     let Request::RequestSense { len } = request else {
-        return Report::Made(Reply::check(RESET_OCCURRED));
+        return Report::Made(Reply::check(sense));
     };
-    let reply = cut_reply(alloc, &sense18(RESET_OCCURRED), usize::from(len));
+    let reply = cut_reply(alloc, &sense18(sense), usize::from(len));
     match reply.status {
         Status::Busy => Report::Due(reply),
         Status::Good | Status::CheckCondition => Report::Made(reply),

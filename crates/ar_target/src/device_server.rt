@@ -1,10 +1,15 @@
 // A port that answers what initiators ask of a device server beyond the array's commands.
-ghost use Rattle.std.specs.Prelude.{◌≡◌};
-ghost use Rattle.ar_target.specs.DeviceServer.{reset_outcome};
+ghost use Rattle.std.specs.Prelude.{◌≡◌, true};
+ghost use Rattle.ar_frames.specs.Frame.{IsReply};
+ghost use Rattle.ar_target.specs.DeviceServer.{ServesAsDevice, reset_outcome};
 
-use crate::attention::{Report, make_all_due, make_due, make_report, owes_report, settle};
+use crate::attention::{
+    Pending, Report, look, make_all_due, make_due, make_report, of_new_session, owes_report,
+    see_reply, sense_due, settle,
+};
 use crate::attributes::Attributes;
 use crate::discard_port::DiscardPort;
+use crate::inventory_port::InventoryPort;
 use crate::own_commands::{INQUIRY, ask, presence};
 use crate::request::request_of;
 use crate::reset_port::{ResetOutcome, ResetPort};
@@ -14,8 +19,8 @@ use ar_scsi::Reply;
 use bytes::Bytes;
 use std::alloc::Global;
 
-/// The device server of the units of one host. It answers by what the port below it tells, and holds nothing
-/// of a unit but whether it has reported that the session is new, or a reset.
+/// The device server of the units of one host. It answers by what the port below it tells, and holds nothing of a unit
+/// but what it has yet to report: that the session is new, a reset, or that the host's units have changed.
 #[derive(Drop)]
 pub struct DeviceServer<P> {
     alloc: Global,
@@ -23,8 +28,7 @@ pub struct DeviceServer<P> {
     pub port: P,
     /// What is reported of the array and of the host, which is that of the latest login.
     pub attributes: Attributes,
-    // For LUNs 0 to 7, whether the unit hasn't reported yet that the session is new, or a reset.
-    pending: [bool; 8],
+    pending: Pending,
 }
 
 impl<P> DeviceServer<P> {
@@ -37,7 +41,7 @@ impl<P> DeviceServer<P> {
             alloc,
             port,
             attributes,
-            pending: [true; 8],
+            pending: of_new_session(0),
         }
     }
 
@@ -49,32 +53,21 @@ impl<P> DeviceServer<P> {
     }
 }
 
-impl<P: DiscardPort> Port for DeviceServer<P> {
-    ghost use Rattle.ar_target.specs.DeviceServer.{LogsInAs, ServesAsDevice};
-
-    ghost has_login = { λ server. P.has_login server.port };
-
-    ghost logins = { λ old host login new. LogsInAs P.logins
-        (record { attributes = old.attributes; pending = old.pending; port = old.port }) host login
-        (record { attributes = new.attributes; pending = new.pending; port = new.port }) };
-
-    ghost commands = { λ old lun cdb payload reply new. ServesAsDevice P.commands P.flushes
-        (record { discards = P.discards; runs = P.runs })
-        (record { attributes = old.attributes; pending = old.pending; port = old.port }) lun cdb payload reply
-        (record { attributes = new.attributes; pending = new.pending; port = new.port }) };
-
-    ghost refuses = { λ old cdb new. P.refuses old.port cdb new.port };
-
-    fn login(&mut self, host: u8) -> Login {
-        self.attributes.host = host;
-        self.pending = [true; 8];
-        self.port.login(host)
-    }
-
-    fn command(&mut self, lun: u8, cdb: &[u8; 16], payload: Bytes) -> Reply {
+impl<P: DiscardPort> DeviceServer<P> {
+    // Answers a command, once the session has looked whether the inventory of the host's units has changed.
+    fn answer(&mut self, lun: u8, cdb: &[u8; 16], payload: Bytes) -> Reply
+        requires { P.has_login self.old.port ≡ true }
+        ensures serves { ServesAsDevice P.commands P.flushes (record { discards = P.discards; runs = P.runs })
+            (record { attributes = self.old.attributes; pending = self.old.pending; port = self.old.port }) lun cdb.now
+            payload result
+            (record { attributes = self.new.attributes; pending = self.new.pending; port = self.new.port }) }
+        ensures reply { IsReply result }
+        ensures stays { P.has_login self.new.port ≡ true }
+    {
         let request = request_of(cdb);
         if owes_report(&self.pending, lun, request, cdb) {
-            match make_report(self.alloc, &mut self.port, lun, request) {
+            let sense = sense_due(&self.pending, lun);
+            match make_report(self.alloc, &mut self.port, lun, request, sense) {
                 Report::Made(reply) => {
                     settle(&mut self.pending, lun);
                     return reply;
@@ -84,7 +77,7 @@ impl<P: DiscardPort> Port for DeviceServer<P> {
             }
         }
         let attributes = self.attributes;
-        serve(
+        let reply = serve(
             self.alloc,
             &mut self.port,
             &attributes,
@@ -92,7 +85,39 @@ impl<P: DiscardPort> Port for DeviceServer<P> {
             lun,
             cdb,
             payload,
-        )
+        );
+        see_reply(&mut self.pending, request, reply.status);
+        reply
+    }
+}
+
+impl<P: DiscardPort + InventoryPort> Port for DeviceServer<P> {
+    ghost use Rattle.ar_target.specs.DeviceServer.{LogsInAs, ServesCommand};
+
+    ghost has_login = { λ server. P.has_login server.port };
+
+    ghost logins = { λ old host login new. LogsInAs P.logins P.counts
+        (record { attributes = old.attributes; pending = old.pending; port = old.port }) host login
+        (record { attributes = new.attributes; pending = new.pending; port = new.port }) };
+
+    ghost commands = { λ old lun cdb payload reply new. ServesCommand P.commands P.flushes
+        (record { discards = P.discards; runs = P.runs }) P.counts
+        (record { attributes = old.attributes; pending = old.pending; port = old.port }) lun cdb payload reply
+        (record { attributes = new.attributes; pending = new.pending; port = new.port }) };
+
+    ghost refuses = { λ old cdb new. P.refuses old.port cdb new.port };
+
+    fn login(&mut self, host: u8) -> Login {
+        self.attributes.host = host;
+        let login = self.port.login(host);
+        self.pending = of_new_session(self.port.changes());
+        login
+    }
+
+    fn command(&mut self, lun: u8, cdb: &[u8; 16], payload: Bytes) -> Reply {
+        let count = self.port.changes();
+        look(&mut self.pending, count);
+        self.answer(lun, cdb, payload)
     }
 
     fn refuse(&mut self, cdb: &[u8; 16]) -> Reply {
@@ -100,7 +125,7 @@ impl<P: DiscardPort> Port for DeviceServer<P> {
     }
 }
 
-impl<P: DiscardPort> ResetPort for DeviceServer<P> {
+impl<P: DiscardPort + InventoryPort> ResetPort for DeviceServer<P> {
     ghost use Rattle.ar_target.specs.DeviceServer.{ResetsUnits};
 
     ghost resets = { λ old lun outcome new. ResetsUnits P.commands

@@ -14,6 +14,7 @@ mod discard_port;
 mod discarding;
 mod flush_port;
 mod initiator;
+mod inventory_port;
 mod lba_status;
 mod luns;
 mod mode;
@@ -28,12 +29,13 @@ mod translation;
 mod vpd;
 
 pub use answer::MISCOMPARE;
-pub use attention::RESET_OCCURRED;
+pub use attention::{LUNS_CHANGED, RESET_OCCURRED};
 pub use attributes::Attributes;
 pub use device_server::DeviceServer;
 pub use discard_port::{BlockRun, DiscardPort};
 pub use flush_port::{FlushOutcome, FlushPort};
 pub use initiator::{InitiatorLogin, LoginObserver};
+pub use inventory_port::InventoryPort;
 pub use operations::Operation;
 pub use provisioning::{
     BlockRange, INVALID_FIELD_IN_PARAMETER_LIST, PARAMETER_LIST_LENGTH_ERROR, WriteSame,

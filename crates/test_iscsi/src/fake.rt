@@ -5,8 +5,8 @@ ghost use Rattle.ar_frames.specs.Frame.{IsReply};
 use ar_frames::{Login, Port};
 use ar_scsi::{Reply, Sense, Status, capacity_data, inquiry_data};
 use ar_target::{
-    BlockRun, DiscardPort, FlushOutcome, FlushPort, InitiatorLogin, LoginObserver, ResetOutcome,
-    ResetPort,
+    BlockRun, DiscardPort, FlushOutcome, FlushPort, InitiatorLogin, InventoryPort, LoginObserver,
+    ResetOutcome, ResetPort,
 };
 use bytes::Bytes;
 use std::alloc::Global;
@@ -151,6 +151,14 @@ impl LoginObserver for Fake {
     fn observe(&self, login: InitiatorLogin<'_>) {
         count(&self.logins);
         self.login.set(Some(Observed::of(login, self.taken)));
+    }
+}
+
+impl InventoryPort for Fake {
+    ghost counts = { λ port count. Unit {0} };
+
+    fn changes(&self) -> u64 {
+        0
     }
 }
 

@@ -26,9 +26,9 @@ type Row<'a> = (u8, &'a [u8], Wanted<'a>);
 
 pub(crate) const DONE: Wanted = Good(&[]);
 
-const ATTENTION: Wanted = Check(0x06, 0x2A, 0x09);
+pub(crate) const ATTENTION: Wanted = Check(0x06, 0x2A, 0x09);
 
-const NEW_SESSION: Wanted = Check(0x06, 0x29, 0x00);
+pub(crate) const NEW_SESSION: Wanted = Check(0x06, 0x29, 0x00);
 
 pub(crate) const NO_UNIT: Wanted = Check(0x05, 0x25, 0x00);
 
@@ -37,7 +37,7 @@ pub(crate) const INVALID: Wanted = Check(0x05, 0x24, 0x00);
 pub(crate) const FAILED: Wanted = Check(0x04, 0x44, 0x00);
 
 // A device server of array 0CBCh with a cache and blocks of 128 sectors, at which host 2 is logged in.
-fn logged_in(rt: &impl Abort, alloc: Global, attention: bool) -> Server
+pub(crate) fn logged_in(rt: &impl Abort, alloc: Global, attention: bool) -> Server
     ensures { result.port.taken ≡ true }
 {
     let attributes = Attributes {
@@ -102,7 +102,7 @@ fn check(rt: &impl Abort, server: &mut Server, number: usize, row: Row)
 }
 
 // Gives the server these commands in order.
-fn play(rt: &impl Abort, server: &mut Server, rows: &[Row])
+pub(crate) fn play(rt: &impl Abort, server: &mut Server, rows: &[Row])
     requires { server.old.port.taken ≡ true }
     ensures { server.new.port.taken ≡ true }
 {

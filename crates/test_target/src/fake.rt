@@ -4,7 +4,7 @@ ghost use Rattle.ar_frames.specs.Frame.{IsReply};
 
 use ar_frames::{Login, Port};
 use ar_scsi::{Reply, Sense, capacity_data, inquiry_data};
-use ar_target::{BlockRun, DiscardPort, FlushOutcome, FlushPort};
+use ar_target::{BlockRun, DiscardPort, FlushOutcome, FlushPort, InventoryPort};
 use bytes::Bytes;
 use std::alloc::Global;
 
@@ -22,6 +22,8 @@ pub struct Fake {
     pub flushes: u64,
     // The blocks of discards.
     pub discarded: u64,
+    // How often units were made or removed.
+    pub changes: u64,
 }
 
 impl Fake {
@@ -35,6 +37,7 @@ impl Fake {
             bytes: 0,
             flushes: 0,
             discarded: 0,
+            changes: 0,
         }
     }
 }
@@ -105,6 +108,14 @@ impl Port for Fake {
 
     fn refuse(&mut self, _cdb: &[u8; 16]) -> Reply {
         Reply::busy()
+    }
+}
+
+impl InventoryPort for Fake {
+    ghost counts = { λ port count. count ≡ port.changes };
+
+    fn changes(&self) -> u64 {
+        self.changes
     }
 }
 

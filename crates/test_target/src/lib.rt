@@ -8,3 +8,5 @@ mod answers;
 mod discards;
 #[cfg(test)]
 mod fake;
+#[cfg(test)]
+mod inventories;
