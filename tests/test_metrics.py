@@ -6,7 +6,8 @@ They are checked by promtool (Debian's prometheus) where that is installed, and 
 import re
 import shutil
 
-from tests.harness import TARGET, TEST_UNIT_READY, Case, Initiator, program, ran, read_10, rest_of, waited, write_10
+from tests.harness import GOOD, TARGET, TEST_UNIT_READY, Case, Initiator, program, ran, read_10, rest_of, waited
+from tests.harness import write_10
 
 # A line of the metrics: a comment, or a sample.
 LABELS = r'(\{[a-z_]+="[A-Za-z0-9_.+]+"(,[a-z_]+="[A-Za-z0-9_.+]+")*\})?'
