@@ -8,6 +8,7 @@ ghost use Rattle.ar_service.specs.Watching.{health_watched};
 
 use crate::doors::OperatedArray;
 use crate::shown::ControlledArray;
+use crate::tallies::Tallies;
 use ar_cli::VERSION;
 use ar_disks::Host;
 use ar_history::{ServedArray, StoreState, StoreStatus};
@@ -139,6 +140,7 @@ impl<'a, R: Wait + Clock, A: ControlledArray<L, M> + Drop, L: Ledger, M: Copy> L
             &mut disks,
             &mut spare,
             &mut log,
+            self.array.tallies,
             seconds,
             order,
             out,
@@ -154,6 +156,7 @@ pub(crate) fn execute_listed<A: ControlledArray<L, M>, L: Ledger, M>(
     disks: &mut M,
     spare: &mut Option<SpareDisk>,
     log: &mut EventLog,
+    tallies: &Tallies,
     seconds: u64,
     order: OperatorOrder,
     out: &mut Vec<u8>,
@@ -167,7 +170,7 @@ pub(crate) fn execute_listed<A: ControlledArray<L, M>, L: Ledger, M>(
     ensures disks { log.new.disks ≡ length (A.state array.new).array.store.disks.disks }
 {
     let done = array.execute(alloc, disks, spare, order, out);
-    list_done(log, seconds, order, out);
+    list_done(log, tallies, seconds, order, out);
     let lasts = lasts_after::<A, L>(array, order);
     array.see(seconds, log);
     let line = line_added(order, array.store());
@@ -250,8 +253,14 @@ fn add_line(
     }
 }
 
-// Lists what an order has done to a unit, by its answer.
-fn list_done(log: &mut EventLog, seconds: u64, order: OperatorOrder, answer: &[u8])
+// Lists what an order has done to a unit, by its answer, and counts it where it changes what REPORT LUNS lists.
+fn list_done(
+    log: &mut EventLog,
+    tallies: &Tallies,
+    seconds: u64,
+    order: OperatorOrder,
+    answer: &[u8],
+)
     ensures health { log.new.health ≡ log.old.health }
     ensures disks { log.new.disks ≡ log.old.disks }
 {
@@ -259,8 +268,19 @@ fn list_done(log: &mut EventLog, seconds: u64, order: OperatorOrder, answer: &[u
         if let Some(kind) = event_of(action) {
             if answer == DONE {
                 log.add(seconds, kind);
+                count_change(tallies, kind);
             }
         }
+    }
+}
+
+// Counts a change of the inventory of a host's units, of which its sessions report a UNIT ATTENTION.
+fn count_change(tallies: &Tallies, kind: EventKind) {
+    match kind {
+        EventKind::UnitMade { host, .. } | EventKind::UnitDropped { host, .. } => {
+            tallies.change_inventory(host)
+        }
+        _ => {}
     }
 }
 

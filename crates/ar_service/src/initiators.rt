@@ -4,6 +4,7 @@ ghost use Rattle.std.specs.Prelude.{◌≡◌};
 
 use crate::attached::{Attached, Initiators};
 use crate::doors::OperatedArray;
+use crate::tallies::Tallies;
 use ar_disks::Host;
 use ar_frames::{Login, Port, Progress, Sink, Source};
 use ar_history::ServedArray;
@@ -12,7 +13,7 @@ use ar_scsi::Reply;
 use ar_sessions::{Desk, Handler, LockPort, Refusals};
 use ar_target::{
     Attributes, BlockRun, DeviceServer, DiscardPort, FlushOutcome, FlushPort, InitiatorLogin,
-    LoginObserver,
+    InventoryPort, LoginObserver,
 };
 use bytes::Bytes;
 use log::{Log, info};
@@ -90,6 +91,9 @@ struct PatientPort<'a, R: Wait, L: Ledger, P: Drop> {
     // The number of its connection, and how far its session has come, if that is noted.
     number: u64,
     progress: Option<Arc<Progress>>,
+    // Where changes of the inventory are counted, and the host of the latest login.
+    tallies: &'a Tallies,
+    host: u8,
     port: P,
 }
 
@@ -139,6 +143,7 @@ impl<'a, R: Wait + Clock + Log, L: Ledger, P: Port + Drop> Port for PatientPort<
     ghost refuses = { λ old cdb new. P.refuses old.port cdb new.port };
 
     fn login(&mut self, host: u8) -> Login {
+        self.host = host;
         wait_for_seat(self.rt, self.desk, host, &self.progress);
         let login = self.port.login(host);
         if let Login::Taken = login {
@@ -177,6 +182,15 @@ impl<'a, R: Wait + Clock + Log, L: Ledger, P: DiscardPort + Drop> DiscardPort
 
     fn run(&mut self, lun: u8, block: u32, most: u32) -> BlockRun {
         self.port.run(lun, block, most)
+    }
+}
+
+impl<'a, R: Wait + Clock + Log, L: Ledger, P: Port + Drop> InventoryPort
+    for PatientPort<'a, R, L, P> {
+    ghost counts = { λ _ _. Unit {0} };
+
+    fn changes(&self) -> u64 {
+        self.tallies.inventory_changes(self.host)
     }
 }
 
@@ -227,6 +241,8 @@ impl<
             initiators,
             number,
             progress: progress_of(&reader),
+            tallies: self.array.tallies,
+            host: 0,
             port: LockPort::new(rt, alloc, array, desk),
         };
         let mut server = DeviceServer::new(alloc, port, self.attributes);

@@ -6,6 +6,7 @@ ghost use Rattle.ar_service.specs.Monitoring.{failed_disk};
 use crate::control::execute_listed;
 use crate::doors::OperatedArray;
 use crate::shown::ControlledArray;
+use crate::tallies::Tallies;
 use ar_language::Action;
 use ar_operator::{Fuse, OperatorOrder, SpareDisk, WantedDisk};
 use ar_status::{ArrayHealth, EventLog};
@@ -64,6 +65,7 @@ impl Spares {
         array: &mut A,
         disks: &mut M,
         log: &mut EventLog,
+        tallies: &Tallies,
         seconds: u64,
         disk: u8,
     ) -> bool {
@@ -75,7 +77,7 @@ impl Spares {
         answer.clear();
         let order = OperatorOrder::Act(Action::Replace(disk));
         let _done = execute_listed::<A, L, M>(
-            alloc, array, disks, &mut spare, log, seconds, order, answer,
+            alloc, array, disks, &mut spare, log, tallies, seconds, order, answer,
         );
         match spare {
             Some(unused) => {
@@ -129,7 +131,15 @@ impl<'a, R: Wait + Clock + Log, A: ControlledArray<L, M> + Drop, L: Ledger, M: C
         let mut log = self.log.lock(self.rt);
         let seconds = self.seconds();
         let mut array = self.array.lock(self.rt);
-        spares.replace::<A, L, M>(self.alloc, &mut array, &mut disks, &mut log, seconds, disk)
+        spares.replace::<A, L, M>(
+            self.alloc,
+            &mut array,
+            &mut disks,
+            &mut log,
+            self.tallies,
+            seconds,
+            disk,
+        )
     }
 }
 

@@ -1,4 +1,5 @@
-// What the service itself counts: logins that it refuses. Its threads count without a lock.
+// What the service itself counts: logins that it refuses, and changes of the inventory of each host's units. Its
+// threads count without a lock.
 use ar_status::RefusedLogins;
 use std::sync::atomic::{AtomicU64, Ordering};
 
@@ -7,6 +8,8 @@ use std::sync::atomic::{AtomicU64, Ordering};
 pub struct Tallies {
     refused_iscsi: AtomicU64,
     refused_operators: AtomicU64,
+    // For each host, how many of its units were made and removed.
+    inventory_changes: [AtomicU64; 4],
 }
 
 impl Tallies {
@@ -15,6 +18,12 @@ impl Tallies {
         Tallies {
             refused_iscsi: AtomicU64::new(0),
             refused_operators: AtomicU64::new(0),
+            inventory_changes: [
+                AtomicU64::new(0),
+                AtomicU64::new(0),
+                AtomicU64::new(0),
+                AtomicU64::new(0),
+            ],
         }
     }
 
@@ -26,6 +35,21 @@ impl Tallies {
     /// Counts an operator that was refused.
     pub fn refuse_operator(&self) {
         self.refused_operators.fetch_add(1, Ordering::SeqCst);
+    }
+
+    /// Counts a change of the inventory of a host's units: one was made or removed.
+    pub fn change_inventory(&self, host: u8) {
+        if let Some(changes) = self.inventory_changes.get(usize::from(host)) {
+            changes.fetch_add(1, Ordering::SeqCst);
+        }
+    }
+
+    /// Returns how often the inventory of a host's units has changed.
+    pub fn inventory_changes(&self, host: u8) -> u64 {
+        match self.inventory_changes.get(usize::from(host)) {
+            Some(changes) => changes.load(Ordering::SeqCst),
+            None => 0,
+        }
     }
 
     /// Returns how many logins were refused.
