@@ -1,5 +1,5 @@
-"""Units that an operator makes and drops while iSCSI sessions are open: what the sessions report, by SPC-4's REPORT LUNS
-and SAM-4's unit attention conditions."""
+"""Units that an operator makes and drops while iSCSI sessions are open: what these report, by SPC-4, REPORT LUNS, and
+SAM-4, unit attention conditions."""
 from tests.harness import TEST_UNIT_READY, Case, read_10
 
 # REPORTED LUNS DATA HAS CHANGED, and LOGICAL UNIT NOT SUPPORTED: sense key, additional code, qualifier.
@@ -15,7 +15,7 @@ REPORT_LUNS = bytes.fromhex("A0 00 00 00 00 00 00000100 00 00")
 class Inventories(Case):
     def setUp(self):
         super().setUp()
-        units = ("0:0:64", "0:1:64", "1:0:64")
+        units = ("0:0:24", "0:1:24", "1:0:24")
         self.server = self.serve("--extents", "16", *units, doors=("operator", "iscsi"))
         self.initiator, self.other = (self.session_of(host) for host in (0, 1))
 
@@ -37,7 +37,7 @@ class Inventories(Case):
     def made_again(self):
         """LUN 0 is another unit."""
         self.orders("drop 0 0")
-        self.orders("make 0 0 64")
+        self.orders("make 0 0 24")
 
     def finish(self):
         for one in self.initiator, self.other:
@@ -78,7 +78,7 @@ class Inventories(Case):
         self.finish()
 
     def test_a_growth_has_its_own_report(self):
-        self.orders("grow 0 0 128")
+        self.orders("grow 0 0 48")
         self.wants(self.status(self.initiator, 0), (2, b"\x06\x2A\x09"), "a unit that has grown")
         for lun in 0, 1:
             self.wants(self.status(self.initiator, lun), DONE, f"LUN {lun} after that")
