@@ -124,7 +124,8 @@ module _ {P : Type 0} (commands : Commands P) (refuses : CommandRefusals P) (res
       (source : SourceState) (sink sink' : SinkState) (spot spot' : Spot) (waiting waiting' : List WaitingPdu)
       (port port' : P) (pdu : WaitingPdu) (answered : Option (TurnEnd × Sent))
       → TakesWaiting spot.flow waiting (Some pdu) waiting'
-      → AnswersPdu (WaitingTurn commands refuses address limits pdu.state) (MayGive commands) pdu.header pdu.carried
+      → AnswersPdu (WaitingTurn commands refuses address limits pdu.state pdu.early) (MayGive commands) pdu.header
+      pdu.carried
       sink spot port answered sink' spot' port'
       → NextIsServed commands refuses resets address limits
       (record { source = source; sink = sink; spot = record { session = spot; waiting = waiting }; port = port })

@@ -1,25 +1,28 @@
 -- A PDU of the full feature phase that was read: it waits while the data of a WRITE before it are collected, and is
 -- done otherwise (RFC 7143, 4.2.2.1 and 11.5). A task management request is done at once, and its answer waits.
 use Rattle.std.specs.Prelude.{◌≡◌, ℕ, Bool, List, [], ◌∷◌, ◌++◌, length, map, MatchBool, Option}
+use Rattle.std.specs.List.{list_any}
 use Rattle.ar_frames.specs.Conversation.{Commands}
 use Rattle.ar_frames.specs.Port.{CommandRefusals}
 use Rattle.ar_target.specs.declared.reset_port.ResetOutcome.{ResetOutcome}
 use Rattle.ar_target.specs.ResetPort.{UnitResets}
 use Rattle.ar_iscsi.specs.declared.negotiation.Limits.{Limits}
+use Rattle.ar_iscsi.specs.declared.request.DataOut.{DataOut}
 use Rattle.ar_iscsi.specs.declared.request.InitiatorPdu.{InitiatorPdu}
 use Rattle.ar_iscsi.specs.declared.request.InitiatorPdu.TheVariants as asks
 use Rattle.ar_iscsi.specs.declared.request.TaskManagement.{TaskManagement}
 use Rattle.ar_iscsi.specs.declared.response.TargetPdu.TheVariants as pdu
 use Rattle.ar_iscsi.specs.declared.turn.TurnEnd.{TurnEnd}
-use Rattle.ar_iscsi.specs.declared.turn.TurnEnd.TheVariants.{Next}
+use Rattle.ar_iscsi.specs.declared.turn.TurnEnd.TheVariants.{Next, BrokenData}
 use Rattle.ar_iscsi.specs.declared.waiting_pdu.WaitingPdu.{WaitingPdu}
 use Rattle.ar_iscsi.specs.declared.waiting_pdu.WaitingState.TheVariants as state
+use Rattle.ar_iscsi.specs.Early.{is_early, breaks_early, gathered_by}
 use Rattle.ar_iscsi.specs.Flow.{is_accepted, received}
 use Rattle.ar_iscsi.specs.Management.{ResetsAtPort, managed_by, managed_bytes, managed_flow, means_one, response_to}
 use Rattle.ar_iscsi.specs.Request.{initiator_pdu}
 use Rattle.ar_iscsi.specs.Task.{MayGive}
 use Rattle.ar_iscsi.specs.Turn.{Spot, FeatureTurn, StaysSilent, Responds}
-use Rattle.ar_iscsi.specs.Waiting.{waits, kept}
+use Rattle.ar_iscsi.specs.Waiting.{waits, kept, no_early}
 
 -- where a full feature phase is: between two turns, with the PDUs that wait, the oldest first
 pub record FeatureSpot : Type 0 where
@@ -38,7 +41,8 @@ pub record KeepsPdu {P : Type 0} (header carried : List ℕ) (old : FeatureSpot)
 pub record TurnsAtOnce {P : Type 0} (commands : Commands P) (refuses : CommandRefusals P) (address : List ℕ)
     (limits : Limits) (header carried : List ℕ) (old : FeatureSpot) (port : P) (out : List ℕ) (new : FeatureSpot)
     (port' : P) (end : TurnEnd) : Type 0 where
-  pub turn : FeatureTurn commands refuses address limits header carried old.session port out new.session port' end
+  pub turn :
+      FeatureTurn commands refuses address limits no_early header carried old.session port out new.session port' end
   pub waiting_same : new.waiting ≡ old.waiting
 
 -- A task management request is done: the commands that it means are dropped, those that wait and the WRITE whose data
@@ -87,12 +91,34 @@ ManagementTurn resets header carried request waits old port out new port' end =
     (MatchBool (is_accepted old.session.flow request.immediate request.cmd_sn)
     (AnswersNow resets request old port out new port' end) (IsIgnored old port out new port' end))
 
+-- unsolicited data of a WRITE that waits are kept with it; if they aren't the next ones, the session ends, as at those
+-- of a WRITE whose turn it is
+abbrev pub EarlyEnd : Limits → DataOut → List ℕ → List WaitingPdu → List WaitingPdu → TurnEnd → Type 0
+EarlyEnd limits data_out carried old new end =
+    MatchBool (list_any (breaks_early limits data_out (length carried)) old) ((new ≡ old) × (end ≡ BrokenData))
+    ((new ≡ map (gathered_by limits data_out carried) old) × (end ≡ Next))
+
+-- unsolicited data came of a WRITE that waits; they aren't answered
+pub record EarlyTurn {P : Type 0} (limits : Limits) (data_out : DataOut) (carried : List ℕ) (old : FeatureSpot)
+    (port : P) (out : List ℕ) (new : FeatureSpot) (port' : P) (end : TurnEnd) : Type 0 where
+  pub silent : out ≡ []
+  pub session_same : new.session ≡ old.session
+  pub ends : EarlyEnd limits data_out carried old.waiting new.waiting end
+  pub port_same : port' ≡ port
+
 -- the same of any PDU
 abbrev pub ArrivalFor : {P : Type 0} → Commands P → CommandRefusals P → UnitResets P → List ℕ → Limits → List ℕ → List ℕ
     → InitiatorPdu → Bool → FeatureSpot → P → List ℕ → FeatureSpot → P → TurnEnd → Type 0
 ArrivalFor commands refuses resets address limits header carried (asks.TaskManagement request) waits old port out new
     port' end =
     ManagementTurn resets header carried request waits old port out new port' end
+-- data of a WRITE that waits come before its turn, since an initiator sends unsolicited data without regard to others'
+-- R2Ts (RFC 7143, 4.2.5.2)
+ArrivalFor commands refuses resets address limits header carried (asks.DataOut data_out) waits old port out new port'
+    end =
+    MatchBool (list_any (is_early limits data_out (length carried)) old.waiting)
+    (EarlyTurn limits data_out carried old port out new port' end)
+    (TurnsAtOnce commands refuses address limits header carried old port out new port' end)
 ArrivalFor commands refuses resets address limits header carried other waits old port out new port' end =
     MatchBool waits (KeepsPdu header carried old port out new port' end)
     (TurnsAtOnce commands refuses address limits header carried old port out new port' end)

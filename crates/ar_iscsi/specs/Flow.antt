@@ -60,21 +60,10 @@ abbrev pub reopened : Flow → Flow
 reopened flow =
     record { stat_sn = flow.stat_sn; exp_cmd_sn = flow.exp_cmd_sn; next_tag = flow.next_tag; collecting = None }
 
--- the next data of the same R2T are awaited
+-- the next data of this WRITE are awaited, without an R2T for them
 abbrev pub awaiting : Flow → Collecting → Flow
-awaiting flow c = record {
-  stat_sn = flow.stat_sn;
-  exp_cmd_sn = flow.exp_cmd_sn;
-  next_tag = flow.next_tag;
-  collecting = Some (record {
-    command = c.command;
-    wanted = c.wanted;
-    asked = c.asked;
-    transfer_tag = c.transfer_tag;
-    data_sn = next_sn c.data_sn;
-    burst_end = c.burst_end;
-  });
-}
+awaiting flow c =
+    record { stat_sn = flow.stat_sn; exp_cmd_sn = flow.exp_cmd_sn; next_tag = flow.next_tag; collecting = Some c }
 
 -- R2T number `asked` was sent for a command that wants `wanted` bytes: it asks for those up to `burst_end`
 abbrev pub asking : Flow → ScsiCommand → ℕ → ℕ → ℕ → Flow
@@ -89,6 +78,7 @@ asking flow command wanted asked burst_end = record {
     transfer_tag = flow.next_tag;
     data_sn = 0;
     burst_end = burst_end;
+    is_unsolicited = false;
   });
 }
 

@@ -60,8 +60,12 @@ state_after false old = old
 
 -- what a request makes of a PDU that waits
 abbrev pub managed_by : TaskManagement → WaitingPdu → WaitingPdu
-managed_by request pdu =
-    record { header = pdu.header; carried = pdu.carried; state = state_after (drops request pdu) pdu.state }
+managed_by request pdu = record {
+  header = pdu.header;
+  carried = pdu.carried;
+  state = state_after (drops request pdu) pdu.state;
+  early = pdu.early;
+}
 
 -- what a request makes of a session's numbers: without the WRITE, if it is dropped
 abbrev pub managed_flow : TaskManagement → Flow → Flow

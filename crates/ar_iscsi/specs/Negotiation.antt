@@ -26,7 +26,14 @@ at_first = record {
   kind = Normal;
   target = Unnamed;
   is_refused = false;
-  limits = record { max_segment = 8192; max_burst = 262144; first_burst = 65536; immediate_data = true; host = None };
+  limits = record {
+    max_segment = 8192;
+    max_burst = 262144;
+    first_burst = 65536;
+    immediate_data = true;
+    initial_r2t = true;
+    host = None;
+  };
 }
 
 -- the place of a key among those that were seen; the last one is of keys that are unknown
@@ -99,11 +106,11 @@ abbrev pub segment_after : ℕ → Option ℕ → ℕ
 segment_after old None = old
 segment_after old (Some n) = if nat_le 512 n && nat_le n 16777215 then n else old
 
--- ImmediateData after the answer to it
-abbrev pub immediate_after : Bool → KeyAnswer → Bool
-immediate_after old says.Yes = true
-immediate_after old says.No = false
-immediate_after old other = old
+-- ImmediateData or InitialR2T after the answer to it
+abbrev pub choice_after : Bool → KeyAnswer → Bool
+choice_after old says.Yes = true
+choice_after old says.No = false
+choice_after old other = old
 
 -- after a MaxBurstLength, FirstBurstLength is brought down to it
 abbrev pub with_burst : Limits → ℕ → Limits
@@ -118,10 +125,9 @@ limits_after old key.MaxBurstLength offer =
 limits_after old key.FirstBurstLength offer =
     record old { first_burst = limit_after old.first_burst (key_answer key.FirstBurstLength old.max_burst offer) }
 limits_after old key.ImmediateData offer =
-    record old {
-      immediate_data =
-          immediate_after old.immediate_data (key_answer key.ImmediateData old.max_burst offer);
-    }
+    record old { immediate_data = choice_after old.immediate_data (key_answer key.ImmediateData old.max_burst offer) }
+limits_after old key.InitialR2T offer =
+    record old { initial_r2t = choice_after old.initial_r2t (key_answer key.InitialR2T old.max_burst offer) }
 limits_after old other offer = old
 
 -- what is negotiated after an item of this key

@@ -16,6 +16,7 @@ use Rattle.ar_iscsi.specs.declared.session.PduResult.{PduResult}
 use Rattle.ar_iscsi.specs.declared.session.PduResult.TheVariants.{Served, Ended}
 use Rattle.ar_iscsi.specs.declared.turn.TurnEnd.{TurnEnd}
 use Rattle.ar_iscsi.specs.declared.turn.TurnEnd.TheVariants.{Next, LoggedOut, BrokenData, Rejected}
+use Rattle.ar_iscsi.specs.declared.waiting_pdu.Early.{Early}
 use Rattle.ar_iscsi.specs.declared.waiting_pdu.WaitingPdu.{WaitingPdu}
 use Rattle.ar_iscsi.specs.declared.waiting_pdu.WaitingState.{WaitingState}
 use Rattle.ar_iscsi.specs.declared.waiting_pdu.WaitingState.TheVariants as state
@@ -38,13 +39,13 @@ CountsDropped old out new end =
 
 -- what a PDU that waited does, by its state: what its turn says; or it is counted and, as a task management request
 -- that was done when it was read, answered by its response
-abbrev pub WaitingTurn : {P : Type 0} → Commands P → CommandRefusals P → List ℕ → Limits → WaitingState → List ℕ
-    → List ℕ → Spot → P → List ℕ → Spot → P → TurnEnd → Type 0
-WaitingTurn commands refuses address limits state.Undone header carried old port out new port' end =
-    FeatureTurn commands refuses address limits header carried old port out new port' end
-WaitingTurn commands refuses address limits state.Dropped header carried old port out new port' end =
+abbrev pub WaitingTurn : {P : Type 0} → Commands P → CommandRefusals P → List ℕ → Limits → WaitingState → Early
+    → List ℕ → List ℕ → Spot → P → List ℕ → Spot → P → TurnEnd → Type 0
+WaitingTurn commands refuses address limits state.Undone early header carried old port out new port' end =
+    FeatureTurn commands refuses address limits early header carried old port out new port' end
+WaitingTurn commands refuses address limits state.Dropped early header carried old port out new port' end =
     CountsDropped old out new end × (port' ≡ port)
-WaitingTurn commands refuses address limits (state.Answered response) header carried old port out new port' end =
+WaitingTurn commands refuses address limits (state.Answered response) early header carried old port out new port' end =
     Responds (received old.flow false) (pdu.TaskManagementResponse (task_tag header) response) [] old.bytes out new end
     Next
     × (port' ≡ port)
@@ -61,8 +62,8 @@ pub record ServesWaiting {P : Type 0} (commands : Commands P) (refuses : Command
   pub out : List ℕ
   pub oldest : TakesWaiting old.spot.session.flow old.spot.waiting (Some pdu) new.spot.waiting
   pub turn :
-      WaitingTurn commands refuses address limits pdu.state pdu.header pdu.carried old.spot.session old.port out
-      new.spot.session new.port left
+      WaitingTurn commands refuses address limits pdu.state pdu.early pdu.header pdu.carried old.spot.session old.port
+      out new.spot.session new.port left
   pub source : new.source ≡ old.source
   pub sending : Sending old.sink new.sink out sent
 

@@ -147,8 +147,8 @@ key_answer key.AuthMethod burst offer = only_none offer
 key_answer key.HeaderDigest burst offer = only_none offer
 key_answer key.DataDigest burst offer = only_none offer
 key_answer key.TaskReporting burst offer = task_reporting offer
--- Yes if either side says Yes, as the target does
-key_answer key.InitialR2T burst offer = yes_or_no says.Yes says.Yes offer
+-- Yes if either side says Yes: the target does for the order of data, and doesn't for R2T (RFC 7143, 13.10)
+key_answer key.InitialR2T burst offer = yes_or_no says.Yes says.No offer
 key_answer key.DataPDUInOrder burst offer = yes_or_no says.Yes says.Yes offer
 key_answer key.DataSequenceInOrder burst offer = yes_or_no says.Yes says.Yes offer
 -- Yes if both sides say Yes: the target does for data, and doesn't for markers

@@ -1,7 +1,7 @@
 -- A turn of the full feature phase: a PDU of the initiator, what it does, and the bytes that answer it (RFC 7143, 11).
 use Rattle.std.specs.Prelude.{◌≡◌, ◌<◌, ◌⊎◌, ◌==◌, ◌||◌, ◌%◌, ℕ, Bool, nat_lt, nat_le, if◌then◌else◌, MatchBool, List}
 use Rattle.std.specs.Prelude.{[], ◌++◌}
-use Rattle.std.specs.Prelude.{length, slice_index_or, take}
+use Rattle.std.specs.Prelude.{length, slice_index_or, take, unwrap_or}
 use Rattle.ar_frames.specs.Conversation.{Commands}
 use Rattle.ar_frames.specs.Port.{CommandRefusals}
 use Rattle.ar_iscsi.specs.declared.flow.Flow.{Flow}
@@ -21,6 +21,7 @@ use Rattle.ar_iscsi.specs.declared.task.DataStep.{DataStep}
 use Rattle.ar_iscsi.specs.declared.task.DataStep.TheVariants as steps
 use Rattle.ar_iscsi.specs.declared.turn.TurnEnd.{TurnEnd}
 use Rattle.ar_iscsi.specs.declared.turn.TurnEnd.TheVariants.{Next, LoggedOut, BrokenData, Rejected}
+use Rattle.ar_iscsi.specs.declared.waiting_pdu.Early.{Early}
 use Rattle.ar_iscsi.specs.Response.{target_pdu}
 use Rattle.ar_iscsi.specs.Request.{initiator_pdu}
 use Rattle.ar_iscsi.specs.Flow.{numbers_of, received, answered, reopened, awaiting}
@@ -103,26 +104,8 @@ StartsData refuses limits flow command wanted carried port out new port' =
     (AsksFrom flow limits command wanted (length carried) 0 [] out new.flow × (new.bytes ≡ carried))
     ⊎ GetsBusy refuses flow limits command 0 port port' [] out new.flow
 
--- what a command does that carries these data, by its step
-abbrev pub CommandTurn : {P : Type 0} → Commands P → CommandRefusals P → Limits → ScsiCommand → List ℕ → List ℕ
-    → CommandStep → Spot → P → List ℕ → Spot → P → TurnEnd → Type 0
-CommandTurn commands refuses limits command header carried step.Ignores old port out new port' end =
-    StaysSilent old out new end × (port' ≡ port)
-CommandTurn commands refuses limits command header carried (step.Rejects reason) old port out new port' end =
-    IsRejected header reason old out new end × (port' ≡ port)
-CommandTurn commands refuses limits command header carried step.Refuses old port out new port' end =
-    GetsBusy refuses (received old.flow command.immediate) limits command 0 port port' [] out new.flow
-    × (new.bytes ≡ old.bytes) × (port' ≡ port) × (end ≡ Next)
-CommandTurn commands refuses limits command header carried (step.Runs wanted) old port out new port' end =
-    IsDone commands refuses limits (received old.flow command.immediate) command (take wanted carried) 0 port port' out
-    new.flow
-    × (end ≡ Next)
-CommandTurn commands refuses limits command header carried (step.Collects wanted) old port out new port' end =
-    StartsData refuses limits (received old.flow command.immediate) command wanted carried port out new port'
-    × (port' ≡ port) × (end ≡ Next)
-
--- What data do that are the next ones of a WRITE, once they are `all`: more of the R2T are awaited, or the next R2T is
--- sent, or the command is complete.
+-- What data do that are the next ones of a WRITE, once they are `all`: more of the R2T or of the unsolicited data are
+-- awaited, or the next R2T is sent, or the command is complete. It takes no more bytes than its block says.
 abbrev pub TakesData : {P : Type 0} → Commands P → CommandRefusals P → Limits → Collecting → List ℕ → Flow → P → List ℕ
     → Spot → P → Type 0
 TakesData commands refuses limits c all flow port out new port' =
@@ -130,7 +113,41 @@ TakesData commands refuses limits c all flow port out new port' =
     × (port' ≡ port))
     (MatchBool (nat_lt (length all) c.wanted)
     (AsksFrom flow limits c.command c.wanted (length all) c.asked [] out new.flow × (new.bytes ≡ all) × (port' ≡ port))
-    (IsDone commands refuses limits (reopened flow) c.command all c.asked port port' out new.flow))
+    (IsDone commands refuses limits (reopened flow) c.command (take c.wanted all) c.asked port port' out new.flow))
+
+-- the WRITE as the unsolicited data left it that came before its turn, if they did
+abbrev pub after_early : Early → Collecting → Collecting
+after_early early c = unwrap_or early.collecting c
+
+-- What a command does that unsolicited data follow, once `all` bytes have come, some of them before its turn: it goes
+-- on as after these data or, out of memory for them, the port refused it.
+abbrev pub AwaitsData : {P : Type 0} → Commands P → CommandRefusals P → Limits → Collecting → List ℕ → Flow → P
+    → List ℕ → Spot → P → Type 0
+AwaitsData commands refuses limits c all flow port out new port' =
+    TakesData commands refuses limits c all flow port out new port'
+    ⊎ (GetsBusy refuses flow limits c.command 0 port port' [] out new.flow × (port' ≡ port))
+
+-- what a command does that carries these data, by its step
+abbrev pub CommandTurn : {P : Type 0} → Commands P → CommandRefusals P → Limits → ScsiCommand → Early → List ℕ → List ℕ
+    → CommandStep → Spot → P → List ℕ → Spot → P → TurnEnd → Type 0
+CommandTurn commands refuses limits command early header carried step.Ignores old port out new port' end =
+    StaysSilent old out new end × (port' ≡ port)
+CommandTurn commands refuses limits command early header carried (step.Rejects reason) old port out new port' end =
+    IsRejected header reason old out new end × (port' ≡ port)
+CommandTurn commands refuses limits command early header carried step.Refuses old port out new port' end =
+    GetsBusy refuses (received old.flow command.immediate) limits command 0 port port' [] out new.flow
+    × (new.bytes ≡ old.bytes) × (port' ≡ port) × (end ≡ Next)
+CommandTurn commands refuses limits command early header carried (step.Runs wanted) old port out new port' end =
+    IsDone commands refuses limits (received old.flow command.immediate) command (take wanted carried) 0 port port' out
+    new.flow
+    × (end ≡ Next)
+CommandTurn commands refuses limits command early header carried (step.Collects wanted) old port out new port' end =
+    StartsData refuses limits (received old.flow command.immediate) command wanted carried port out new port'
+    × (port' ≡ port) × (end ≡ Next)
+CommandTurn commands refuses limits command early header carried (step.Awaits c) old port out new port' end =
+    AwaitsData commands refuses limits (after_early early c) (carried ++ early.bytes)
+    (received old.flow command.immediate) port out new port'
+    × (end ≡ Next)
 
 -- what a Data-Out PDU does that carries these data, by its step
 abbrev pub DataTurn : {P : Type 0} → Commands P → CommandRefusals P → Limits → List ℕ → DataStep → Spot → P → List ℕ
@@ -143,36 +160,36 @@ DataTurn commands refuses limits carried (steps.Takes c) old port out new port' 
     TakesData commands refuses limits c (old.bytes ++ carried) old.flow port out new port' × (end ≡ Next)
 
 -- what a PDU does, by its header's fields
-abbrev pub TurnFor : {P : Type 0} → Commands P → CommandRefusals P → List ℕ → Limits → List ℕ → List ℕ → InitiatorPdu
-    → Spot → P → List ℕ → Spot → P → TurnEnd → Type 0
-TurnFor commands refuses address limits header carried (asks.ScsiCommand command) old port out new port' end =
-    CommandTurn commands refuses limits command header carried (command_step old.flow limits command (length carried))
-    old port out new port' end
-TurnFor commands refuses address limits header carried (asks.DataOut data_out) old port out new port' end =
+abbrev pub TurnFor : {P : Type 0} → Commands P → CommandRefusals P → List ℕ → Limits → Early → List ℕ → List ℕ
+    → InitiatorPdu → Spot → P → List ℕ → Spot → P → TurnEnd → Type 0
+TurnFor commands refuses address limits early header carried (asks.ScsiCommand command) old port out new port' end =
+    CommandTurn commands refuses limits command early header carried
+    (command_step old.flow limits command (length carried)) old port out new port' end
+TurnFor commands refuses address limits early header carried (asks.DataOut data_out) old port out new port' end =
     DataTurn commands refuses limits carried (data_step old.flow data_out (length old.bytes) (length carried)) old port
     out new port' end
-TurnFor commands refuses address limits header carried (asks.NopOut nop) old port out new port' end =
+TurnFor commands refuses address limits early header carried (asks.NopOut nop) old port out new port' end =
     ReactionTurn address limits header carried (received old.flow nop.immediate) (to_nop_out old.flow nop) old out new
     end × (port' ≡ port)
-TurnFor commands refuses address limits header carried (asks.Text request) old port out new port' end =
+TurnFor commands refuses address limits early header carried (asks.Text request) old port out new port' end =
     ReactionTurn address limits header carried (received old.flow request.immediate) (to_text old.flow request) old out
     new end × (port' ≡ port)
-TurnFor commands refuses address limits header carried (asks.Logout request) old port out new port' end =
+TurnFor commands refuses address limits early header carried (asks.Logout request) old port out new port' end =
     ReactionTurn address limits header carried (received old.flow request.immediate) (to_logout old.flow request) old
     out new end
     × (port' ≡ port)
 -- a task management request was done when it was read
-TurnFor commands refuses address limits header carried (asks.TaskManagement request) old port out new port' end =
+TurnFor commands refuses address limits early header carried (asks.TaskManagement request) old port out new port' end =
     StaysSilent old out new end × (port' ≡ port)
 -- a login in the full feature phase is PROTOCOL ERROR, another opcode COMMAND NOT SUPPORTED
-TurnFor commands refuses address limits header carried (asks.Login request) old port out new port' end =
+TurnFor commands refuses address limits early header carried (asks.Login request) old port out new port' end =
     IsRejected header 0x04 old out new end × (port' ≡ port)
-TurnFor commands refuses address limits header carried (asks.Unknown opcode) old port out new port' end =
+TurnFor commands refuses address limits early header carried (asks.Unknown opcode) old port out new port' end =
     IsRejected header 0x05 old out new end × (port' ≡ port)
 
--- A turn of a normal session: a PDU with this header and this data segment was answered by `out`. The target's address
--- is `address`.
-abbrev pub FeatureTurn : {P : Type 0} → Commands P → CommandRefusals P → List ℕ → Limits → List ℕ → List ℕ → Spot → P
-    → List ℕ → Spot → P → TurnEnd → Type 0
-FeatureTurn commands refuses address limits header carried old port out new port' end =
-    TurnFor commands refuses address limits header carried (initiator_pdu header) old port out new port' end
+-- A turn of a normal session: a PDU with this header and this data segment, and with unsolicited data that came before
+-- its turn, was answered by `out`. The target's address is `address`.
+abbrev pub FeatureTurn : {P : Type 0} → Commands P → CommandRefusals P → List ℕ → Limits → Early → List ℕ → List ℕ
+    → Spot → P → List ℕ → Spot → P → TurnEnd → Type 0
+FeatureTurn commands refuses address limits early header carried old port out new port' end =
+    TurnFor commands refuses address limits early header carried (initiator_pdu header) old port out new port' end

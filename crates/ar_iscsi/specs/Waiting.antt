@@ -5,6 +5,7 @@ use Rattle.std.specs.Prelude.{[], ◌∷◌, Option, Some, None}
 use Rattle.ar_iscsi.specs.declared.flow.Flow.{Flow}
 use Rattle.ar_iscsi.specs.declared.request.InitiatorPdu.{InitiatorPdu}
 use Rattle.ar_iscsi.specs.declared.request.InitiatorPdu.TheVariants as asks
+use Rattle.ar_iscsi.specs.declared.waiting_pdu.Early.{Early}
 use Rattle.ar_iscsi.specs.declared.waiting_pdu.WaitingPdu.{WaitingPdu}
 use Rattle.ar_iscsi.specs.declared.waiting_pdu.WaitingState.{WaitingState}
 use Rattle.ar_iscsi.specs.Flow.{is_open}
@@ -48,6 +49,10 @@ is_none (pdu ∷ rest) = false
 abbrev pub is_next_waiting : Flow → List WaitingPdu → Bool
 is_next_waiting flow waiting = is_open flow.collecting && not (is_none waiting)
 
+-- no unsolicited data have come before their WRITE's turn
+abbrev pub no_early : Early
+no_early = record { bytes = []; collecting = None }
+
 -- a PDU as it is kept
 abbrev pub kept : List ℕ → List ℕ → WaitingState → WaitingPdu
-kept header carried state = record { header = header; carried = carried; state = state }
+kept header carried state = record { header = header; carried = carried; state = state; early = no_early }

@@ -3,11 +3,12 @@
 ghost use Rattle.std.specs.Prelude.{◌≡◌, true, [], IfOk};
 ghost use Rattle.ar_iscsi.specs.Arrival as arrival;
 
+use crate::early::{gather_early, has_broken, has_early};
 use crate::management::manage_tasks;
-use crate::request::{InitiatorPdu, TaskManagement, initiator_pdu};
+use crate::request::{DataOut, InitiatorPdu, TaskManagement, initiator_pdu};
 use crate::response::TargetPdu;
 use crate::turn::{TurnEnd, Work, respond, take_turn};
-use crate::waiting::{keep, waits};
+use crate::waiting::{keep, no_early, waits};
 use crate::waiting_pdu::{WaitingPdu, WaitingState};
 use ar_target::ResetPort;
 use std::alloc::{AllocError, Global};
@@ -49,11 +50,34 @@ pub(crate) fn take_arrival<P: ResetPort>(
             work, waiting, alloc, port, header, carried, &request, is_after,
         );
     }
+    if let InitiatorPdu::DataOut(data) = pdu {
+        if has_early(waiting, &work.limits, &data, carried.len()) {
+            return take_early(work, waiting, alloc, &data, carried);
+        }
+    }
     if is_after {
         keep(waiting, alloc, header, carried, WaitingState::Undone)?;
         return Ok(TurnEnd::Next);
     }
-    take_turn(work, alloc, port, address, header, carried)
+    take_turn(work, alloc, port, address, header, carried, &no_early())
+}
+
+// Keeps unsolicited data of a WRITE that waits, if they are its next ones.
+fn take_early(
+    work: &Work,
+    waiting: &mut Vec<WaitingPdu>,
+    alloc: Global,
+    data: &DataOut,
+    carried: &[u8],
+) -> Result<TurnEnd, AllocError>
+    ensures { IfOk result (λ ended. arrival.EarlyEnd work.now.limits data.now carried.now waiting.old.items
+        waiting.new.items ended) }
+{
+    if has_broken(waiting, &work.limits, data, carried.len()) {
+        return Ok(TurnEnd::BrokenData);
+    }
+    gather_early(waiting, alloc, &work.limits, data, carried)?;
+    Ok(TurnEnd::Next)
 }
 
 // Does what a task management request asks for that was read. `is_after`: it is the next in CmdSN's order after those

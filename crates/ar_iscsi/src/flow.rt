@@ -17,12 +17,14 @@ pub struct Collecting {
     pub wanted: u32,
     /// The number of R2Ts that were sent.
     pub asked: u32,
-    /// The target transfer tag of the last R2T.
+    /// The target transfer tag of the last R2T; of unsolicited data FFFFFFFFh.
     pub transfer_tag: u32,
     /// The DataSN of the next Data-Out PDU.
     pub data_sn: u32,
-    /// Where the data of the last R2T end.
+    /// Where the data of the last R2T end, or at most the unsolicited ones.
     pub burst_end: u32,
+    /// The next data are unsolicited: no R2T has been sent.
+    pub is_unsolicited: bool,
 }
 
 /// Where a session is in the full feature phase.
@@ -102,15 +104,12 @@ impl Flow {
         }
     }
 
-    /// The state after data that aren't the last ones of an R2T.
+    /// The state in which the next data of this WRITE are awaited, without an R2T for them.
     pub fn awaiting(self, c: &Collecting) -> Flow
         ensures { result ≡ state.awaiting self c.now }
     {
         Flow {
-            collecting: Some(Collecting {
-                data_sn: c.data_sn.wrapping_add(1),
-                ..*c
-            }),
+            collecting: Some(*c),
             ..self
         }
     }
@@ -128,6 +127,7 @@ impl Flow {
                 transfer_tag: self.next_tag,
                 data_sn: 0,
                 burst_end,
+                is_unsolicited: false,
             }),
             ..self
         }

@@ -1,5 +1,5 @@
-// The keys that a target knows, and its answer to an offer of each. Own values: no digest, R2T for all but immediate
-// data, one connection, one R2T at a time, no recovery, 256 KiB in a PDU or a burst, 64 KiB of them unsolicited.
+// The keys that a target knows, and its answer to an offer of each. Own values: no digest, unsolicited data,
+// one connection, one R2T at a time, no recovery, 256 KiB in a PDU or a burst, 64 KiB of them unsolicited.
 ghost use Rattle.std.specs.Prelude.{◌≡◌, ◌<◌, ◌+◌, IsTrue, Option, Some, None};
 ghost use Rattle.std.specs.Char.{is_ascii_hexdigit};
 ghost use Rattle.ar_iscsi.specs.Text as text;
@@ -137,9 +137,10 @@ pub fn key_answer(key: Key, burst: u32, offer: &[u8]) -> KeyAnswer
         Key::AuthMethod | Key::HeaderDigest | Key::DataDigest => only_none(offer),
         Key::TaskReporting => task_reporting(offer),
         Key::SendTargets => KeyAnswer::Reject,
-        Key::InitialR2T | Key::DataPDUInOrder | Key::DataSequenceInOrder => {
+        Key::DataPDUInOrder | Key::DataSequenceInOrder => {
             yes_or_no(KeyAnswer::Yes, KeyAnswer::Yes, offer)
         }
+        Key::InitialR2T => yes_or_no(KeyAnswer::Yes, KeyAnswer::No, offer),
         Key::ImmediateData => yes_or_no(KeyAnswer::Yes, KeyAnswer::No, offer),
         Key::IFMarker | Key::OFMarker => yes_or_no(KeyAnswer::No, KeyAnswer::No, offer),
         Key::Unknown => KeyAnswer::NotUnderstood,

@@ -5,6 +5,7 @@ ghost use Rattle.ar_iscsi.specs.Pdu.{NoPduBeginsAnother};
 ghost use Rattle.ar_iscsi.specs.Response.{ResponsesArePdus};
 
 mod arrival;
+mod early;
 mod flow;
 mod initiator;
 mod keys;
@@ -53,7 +54,7 @@ pub use task::{CommandStep, DataStep, ask, command_step, complete, data_step, re
 pub use text::answer_text;
 pub use turn::{TurnEnd, Work, take_turn};
 pub use verdict::{LoginStatus, LoginStep, judged, stage_of, status_code, step_of};
-pub use waiting_pdu::{WaitingPdu, WaitingState};
+pub use waiting_pdu::{Early, WaitingPdu, WaitingState};
 
 /// Lemma: no PDU is a proper prefix of another, and its bytes determine its header and its data.
 pub fn no_pdu_begins_another()

@@ -35,6 +35,8 @@ pub struct Limits {
     pub first_burst: u32,
     /// A command may carry data.
     pub immediate_data: bool,
+    /// All other data of a WRITE are asked for: no unsolicited Data-Out PDU follows it.
+    pub initial_r2t: bool,
     /// The host whose target the session is with; None in a login, and in a session for discovery.
     pub host: Option<u8>,
 }
@@ -129,6 +131,7 @@ impl Negotiation {
                 max_burst: 262_144,
                 first_burst: 65_536,
                 immediate_data: true,
+                initial_r2t: true,
                 host: None,
             },
         }
@@ -249,7 +252,14 @@ fn limits_after(old: Limits, key: Key, offer: &[u8]) -> Limits
         Key::ImmediateData => {
             let answer = key_answer(key, old.max_burst, offer);
             Limits {
-                immediate_data: immediate_after(old.immediate_data, answer),
+                immediate_data: choice_after(old.immediate_data, answer),
+                ..old
+            }
+        }
+        Key::InitialR2T => {
+            let answer = key_answer(key, old.max_burst, offer);
+            Limits {
+                initial_r2t: choice_after(old.initial_r2t, answer),
                 ..old
             }
         }
@@ -288,9 +298,9 @@ fn segment_after(old: u32, offer: Option<u32>) -> u32
     }
 }
 
-// ImmediateData after the answer to it.
-fn immediate_after(old: bool, answer: KeyAnswer) -> bool
-    ensures { result ≡ login.immediate_after old answer }
+// ImmediateData or InitialR2T after the answer to it.
+fn choice_after(old: bool, answer: KeyAnswer) -> bool
+    ensures { result ≡ login.choice_after old answer }
 {
     match answer {
         KeyAnswer::Yes => true,

@@ -300,7 +300,7 @@ fn answer_waiting<W: Sink, P: Port>(
     requires logged { P.has_login port.old ≡ true }
     requires empty { work.old.out.items ≡ [] }
     ensures answers { phase.AnswersPdu (session.WaitingTurn P.commands P.refuses address.now work.old.limits
-        pdu.now.state)
+        pdu.now.state pdu.now.early)
         (MayGive P.commands) pdu.now.header pdu.now.carried
         (W.state writer.old) (record { flow = work.old.flow; bytes = work.old.collected.items }) port.old result
         (W.state writer.new) (record { flow = work.new.flow; bytes = work.new.collected.items }) port.new }
@@ -329,7 +329,7 @@ fn turn_waiting<P: Port>(
     requires logged { P.has_login port.old ≡ true }
     requires empty { work.old.out.items ≡ [] }
     ensures turn { IfOk result (λ ended. session.WaitingTurn P.commands P.refuses address.now work.old.limits
-        pdu.now.state pdu.now.header pdu.now.carried
+        pdu.now.state pdu.now.early pdu.now.header pdu.now.carried
         (record { flow = work.old.flow; bytes = work.old.collected.items }) port.old work.new.out.items
         (record { flow = work.new.flow; bytes = work.new.collected.items }) port.new ended) }
     ensures once { MayGive P.commands port.old port.new }
@@ -339,7 +339,7 @@ fn turn_waiting<P: Port>(
     match pdu.state {
         WaitingState::Undone => {
             let carried = pdu.carried.as_slice();
-            take_turn(work, alloc, port, address, &pdu.header, carried)
+            take_turn(work, alloc, port, address, &pdu.header, carried, &pdu.early)
         }
         WaitingState::Dropped => count_dropped(work),
         WaitingState::Answered(response) => {

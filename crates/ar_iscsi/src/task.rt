@@ -1,5 +1,5 @@
-// SCSI commands: the data of a WRITE are collected before the command is given to the port, as immediate data and in
-// Data-Out PDUs that R2Ts ask for, one R2T at a time. Commands are done one after the other.
+// SCSI commands: the data of a WRITE are collected before the command is given to the port, as immediate data, in
+// unsolicited Data-Out PDUs, and in those that R2Ts ask for, one R2T at a time. Commands are done one after the other.
 ghost use Rattle.std.specs.Prelude.{◌≡◌, ◌<◌, ◌≤◌, ◌+◌, ◌^◌, ◌==◌, true, IfOk, length};
 ghost use Rattle.ar_scsi.specs.declared.reply.Reply.{Reply};
 ghost use Rattle.ar_frames.specs.Frame.{IsReply};
@@ -10,7 +10,7 @@ use crate::negotiation::Limits;
 use crate::reaction::{COMMAND_NOT_SUPPORTED, PROTOCOL_ERROR};
 use crate::reply::put_reply;
 use crate::request::{DataOut, ScsiCommand};
-use crate::response::{TargetPdu, put_pdu};
+use crate::response::{NO_TAG, TargetPdu, put_pdu};
 use ar_frames::Port;
 use ar_scsi::{Reply, Sense};
 use ar_target::data_out_len;
@@ -30,6 +30,8 @@ pub enum CommandStep {
     Runs { wanted: u32 },
     /// Of its `wanted` bytes of data, more are asked for.
     Collects { wanted: u32 },
+    /// Unsolicited data follow it.
+    Awaits(Collecting),
 }
 
 /// What a session does with a Data-Out PDU.
@@ -37,9 +39,9 @@ pub enum CommandStep {
 pub enum DataStep {
     /// It belongs to no WRITE whose data are collected.
     Ignores,
-    /// Its data aren't the next ones of the R2T: the session ends.
+    /// Its data aren't the next ones of the R2T, or of the unsolicited data: the session ends.
     Breaks,
-    /// Its data are the next ones of this WRITE.
+    /// Its data are the next ones of a WRITE, which is this after them.
     Takes(Collecting),
 }
 
@@ -54,17 +56,53 @@ pub fn command_step(flow: &Flow, limits: &Limits, command: &ScsiCommand, len: us
     if command.reads && command.writes {
         return CommandStep::Rejects(COMMAND_NOT_SUPPORTED);
     }
-    if !command.is_final || !may_carry(limits, len) {
+    if !may_follow(limits, command, len) || !may_carry(limits, len) {
         return CommandStep::Rejects(PROTOCOL_ERROR);
     }
     if flow.collecting.is_some() {
         return CommandStep::Refuses;
+    }
+    if !command.is_final {
+        return CommandStep::Awaits(unsolicited(limits, command));
     }
     let wanted = wanted_len(command);
     if wanted as usize <= len {
         CommandStep::Runs { wanted }
     } else {
         CommandStep::Collects { wanted }
+    }
+}
+
+// Whether unsolicited data may follow a command that carries `len` bytes, if they do: it is a WRITE, InitialR2T=No was
+// agreed on, and they have room within FirstBurstLength.
+pub(crate) fn may_follow(limits: &Limits, command: &ScsiCommand, len: usize) -> bool
+    ensures { result ≡ task.may_follow limits.now command.now len }
+{
+    command.is_final
+        || (!limits.initial_r2t
+            && command.writes
+            && len < unsolicited_end(limits, command) as usize)
+}
+
+// The most bytes of a command that aren't asked for: those that it carries, and the unsolicited data.
+fn unsolicited_end(limits: &Limits, command: &ScsiCommand) -> u32
+    ensures { result ≡ task.unsolicited_end limits.now command.now }
+{
+    limits.first_burst.min(command.expected)
+}
+
+// A command that unsolicited data follow, before the first of them.
+pub(crate) fn unsolicited(limits: &Limits, command: &ScsiCommand) -> Collecting
+    ensures { result ≡ task.unsolicited limits.now command.now }
+{
+    Collecting {
+        command: *command,
+        wanted: wanted_len(command),
+        asked: 0,
+        transfer_tag: NO_TAG,
+        data_sn: 0,
+        burst_end: unsolicited_end(limits, command),
+        is_unsolicited: true,
     }
 }
 
@@ -92,10 +130,23 @@ pub fn data_step(flow: &Flow, pdu: &DataOut, have: usize, len: usize) -> DataSte
     ensures is { result ≡ task.data_step flow.now pdu.now have len }
     ensures suits { task.SuitsBurst (have + len) result }
 {
-    match flow.collecting {
+    data_step_for(flow.collecting, pdu, have, len)
+}
+
+// The same for a WRITE whose data are collected, if there is one.
+pub(crate) fn data_step_for(
+    collecting: Option<Collecting>,
+    pdu: &DataOut,
+    have: usize,
+    len: usize,
+) -> DataStep
+    ensures is { result ≡ task.data_step_for collecting pdu.now have len }
+    ensures suits { task.SuitsBurst (have + len) result }
+{
+    match collecting {
         Some(c) if c.command.task_tag == pdu.task_tag && c.transfer_tag == pdu.transfer_tag => {
             if is_next_data(&c, pdu, have, len) {
-                DataStep::Takes(c)
+                DataStep::Takes(after_data(&c, pdu, (have + len) as u32))
             } else {
                 DataStep::Breaks
             }
@@ -104,7 +155,20 @@ pub fn data_step(flow: &Flow, pdu: &DataOut, have: usize, len: usize) -> DataSte
     }
 }
 
-// Whether data are the next ones of an R2T, and end its sequence exactly if they are its last.
+// A WRITE after its next data, with which `all` bytes have come: the last unsolicited data end where they do.
+fn after_data(c: &Collecting, pdu: &DataOut, all: u32) -> Collecting
+    ensures { result ≡ task.after_data c.now pdu.now all }
+{
+    let is_end = c.is_unsolicited && pdu.is_final;
+    Collecting {
+        data_sn: c.data_sn.wrapping_add(1),
+        burst_end: if is_end { all } else { c.burst_end },
+        ..*c
+    }
+}
+
+// Whether data are the next ones of an R2T, and end its sequence exactly if they are its last. Unsolicited data end
+// where the initiator says, at their limit at the latest.
 fn is_next_data(c: &Collecting, pdu: &DataOut, have: usize, len: usize) -> bool
     ensures { result ≡ task.is_next_data c.now pdu.now have len }
 {
@@ -113,7 +177,7 @@ fn is_next_data(c: &Collecting, pdu: &DataOut, have: usize, len: usize) -> bool
     pdu.data_sn == c.data_sn
         && pdu.offset as usize == have
         && end <= burst_end
-        && pdu.is_final == (end == burst_end)
+        && (pdu.is_final == (end == burst_end) || (c.is_unsolicited && pdu.is_final))
 }
 
 // Gives a command to the port, if it is for a unit of a single-level LUN.

@@ -4,7 +4,7 @@ ghost use Rattle.std.specs.Prelude.{◌≡◌, ◌<◌, ◌≤◌, ◌+◌, ◌+
 ghost use Rattle.std.specs.Prelude.{length, take};
 ghost use Rattle.ar_iscsi.specs.Turn as turn;
 ghost use Rattle.ar_iscsi.specs.Flow.{received, reopened};
-ghost use Rattle.ar_iscsi.specs.Task.{AsksFrom, Completes, GetsBusy, MayGive, SuitsBurst, SuitsData, most_in};
+ghost use Rattle.ar_iscsi.specs.Task.{AsksFrom, Completes, GetsBusy, MayGive, SuitsData, most_in};
 ghost use Rattle.ar_iscsi.specs.Targets.{targets_answer};
 
 use crate::flow::{Collecting, Flow};
@@ -16,6 +16,7 @@ use crate::request::{InitiatorPdu, ScsiCommand, initiator_pdu};
 use crate::response::{TargetPdu, put_pdu};
 use crate::targets::answer_targets;
 use crate::task::{CommandStep, DataStep, ask, command_step, complete, data_step, most_in, refuse};
+use crate::waiting_pdu::Early;
 use ar_frames::Port;
 use bytes::Bytes;
 use std::alloc::{AllocError, Global};
@@ -46,8 +47,8 @@ pub struct Work {
 }
 
 /// Does what a PDU with this header and this data segment asks for, and puts the answer into `out`, which is empty
-/// before. `address` is the target's address, as `127.0.0.1:3260`. `Err`: an answer can't be allocated, and the port
-/// may have done one command.
+/// before. `early` are the unsolicited data of a WRITE that came before its turn. `address` is the target's address, as
+/// `127.0.0.1:3260`. `Err`: an answer can't be allocated, and the port may have done one command.
 pub fn take_turn<P: Port>(
     work: &mut Work,
     alloc: Global,
@@ -55,11 +56,12 @@ pub fn take_turn<P: Port>(
     address: &[u8],
     header: &[u8; 48],
     carried: &[u8],
+    early: &Early,
 ) -> Result<TurnEnd, AllocError>
     requires logged { P.has_login port.old ≡ true }
     requires empty { work.old.out.items ≡ [] }
-    ensures turn { IfOk result (λ ended. turn.FeatureTurn P.commands P.refuses address.now work.old.limits header.now
-        carried.now
+    ensures turn { IfOk result (λ ended. turn.FeatureTurn P.commands P.refuses address.now work.old.limits early.now
+        header.now carried.now
         (record { flow = work.old.flow; bytes = work.old.collected.items }) port.old work.new.out.items
         (record { flow = work.new.flow; bytes = work.new.collected.items }) port.new ended) }
     ensures once { MayGive P.commands port.old port.new }
@@ -69,7 +71,7 @@ pub fn take_turn<P: Port>(
     match initiator_pdu(header) {
         InitiatorPdu::ScsiCommand(command) => {
             let step = command_step(&work.flow, &work.limits, &command, carried.len());
-            command_turn(work, alloc, port, &command, header, carried, step)
+            command_turn(work, alloc, port, &command, header, carried, early, step)
         }
         InitiatorPdu::DataOut(pdu) => {
             let step = data_step(&work.flow, &pdu, work.collected.len(), carried.len());
@@ -224,13 +226,14 @@ fn command_turn<P: Port>(
     command: &ScsiCommand,
     header: &[u8; 48],
     carried: &[u8],
+    early: &Early,
     step: CommandStep,
 ) -> Result<TurnEnd, AllocError>
     requires logged { P.has_login port.old ≡ true }
     requires empty { work.old.out.items ≡ [] }
     requires suits { SuitsData (length carried.now) step }
-    ensures turn { IfOk result (λ ended. turn.CommandTurn P.commands P.refuses work.old.limits command.now header.now
-        carried.now step
+    ensures turn { IfOk result (λ ended. turn.CommandTurn P.commands P.refuses work.old.limits command.now early.now
+        header.now carried.now step
         (record { flow = work.old.flow; bytes = work.old.collected.items }) port.old work.new.out.items
         (record { flow = work.new.flow; bytes = work.new.collected.items }) port.new ended) }
     ensures once { MayGive P.commands port.old port.new }
@@ -248,6 +251,11 @@ fn command_turn<P: Port>(
             run_command(work, alloc, port, command, &carried[..wanted as usize])
         }
         CommandStep::Collects { wanted } => collect(work, port, command, carried, wanted),
+        CommandStep::Awaits(c) => {
+            let flow = work.flow.received(command.immediate);
+            let c = early.collecting.unwrap_or(c);
+            await_data(work, alloc, port, flow, &c, carried, &early.bytes)
+        }
     }
 }
 
@@ -377,6 +385,42 @@ fn hold(into: &mut Vec<u8>, bytes: &[u8], len: usize) -> bool
     into.extend_from_slice(bytes).is_ok()
 }
 
+// Goes on with a command that unsolicited data follow, in this state; `early` are those that came before its turn.
+fn await_data<P: Port>(
+    work: &mut Work,
+    alloc: Global,
+    port: &mut P,
+    flow: Flow,
+    c: &Collecting,
+    carried: &[u8],
+    early: &[u8],
+) -> Result<TurnEnd, AllocError>
+    requires logged { P.has_login port.old ≡ true }
+    requires empty { work.old.out.items ≡ [] }
+    ensures awaits { OnOk result (turn.AwaitsData P.commands P.refuses work.old.limits c.now (carried.now ++ early.now)
+        flow port.old work.new.out.items
+        (record { flow = work.new.flow; bytes = work.new.collected.items }) port.new) }
+    ensures next { IfOk result (λ ended. ended ≡ TurnEnd.Next) }
+    ensures once { MayGive P.commands port.old port.new }
+    ensures stays { P.has_login port.new ≡ true }
+    ensures limits { work.new.limits ≡ work.old.limits }
+{
+    let room = c.wanted.max(c.burst_end) as usize;
+    if hold_both(&mut work.collected, carried, early, room) {
+        work.flow = flow;
+        take_all(work, alloc, port, c)
+    } else {
+        refuse_done(work, port, flow, &c.command, 0)
+    }
+}
+
+// Makes `into` hold these bytes and more, with room for `len` in all. False: the allocation failed.
+fn hold_both(into: &mut Vec<u8>, bytes: &[u8], more: &[u8], len: usize) -> bool
+    ensures { IsTrue result → into.new.items ≡ bytes.now ++ more.now }
+{
+    hold(into, bytes, len) && into.extend_from_slice(more).is_ok()
+}
+
 // Asks for more data of a command, in this state.
 fn ask_for(
     work: &mut Work,
@@ -417,7 +461,6 @@ fn data_turn<P: Port>(
 ) -> Result<TurnEnd, AllocError>
     requires logged { P.has_login port.old ≡ true }
     requires empty { work.old.out.items ≡ [] }
-    requires suits { SuitsBurst (length work.old.collected.items + length carried.now) step }
     ensures turn { IfOk result (λ ended. turn.DataTurn P.commands P.refuses work.old.limits carried.now step
         (record { flow = work.old.flow; bytes = work.old.collected.items }) port.old work.new.out.items
         (record { flow = work.new.flow; bytes = work.new.collected.items }) port.new ended) }
@@ -442,7 +485,6 @@ fn take_data<P: Port>(
 ) -> Result<TurnEnd, AllocError>
     requires logged { P.has_login port.old ≡ true }
     requires empty { work.old.out.items ≡ [] }
-    requires within { length work.old.collected.items + length carried.now ≤ c.now.burst_end }
     ensures takes { OnOk result (turn.TakesData P.commands P.refuses work.old.limits c.now (work.old.collected.items ++
         carried.now)
         work.old.flow port.old work.new.out.items
@@ -465,7 +507,6 @@ fn take_all<P: Port>(
 ) -> Result<TurnEnd, AllocError>
     requires logged { P.has_login port.old ≡ true }
     requires empty { work.old.out.items ≡ [] }
-    requires within { length work.old.collected.items ≤ c.now.burst_end }
     ensures takes { OnOk result (turn.TakesData P.commands P.refuses work.old.limits c.now work.old.collected.items
         work.old.flow port.old
         work.new.out.items (record { flow = work.new.flow; bytes = work.new.collected.items }) port.new) }
@@ -486,7 +527,7 @@ fn take_all<P: Port>(
     }
 }
 
-// Gives a WRITE to the port with the data that were collected.
+// Gives a WRITE to the port with the data that were collected, as far as its block takes them.
 fn finish_collected<P: Port>(
     work: &mut Work,
     alloc: Global,
@@ -496,14 +537,15 @@ fn finish_collected<P: Port>(
     requires logged { P.has_login port.old ≡ true }
     requires empty { work.old.out.items ≡ [] }
     ensures done { OnOk result (turn.IsDone P.commands P.refuses work.old.limits (reopened work.old.flow) c.now.command
-        work.old.collected.items c.now.asked port.old port.new work.new.out.items work.new.flow) }
+        (take c.now.wanted work.old.collected.items) c.now.asked port.old port.new work.new.out.items work.new.flow) }
     ensures next { IfOk result (λ ended. ended ≡ TurnEnd.Next) }
     ensures once { MayGive P.commands port.old port.new }
     ensures stays { P.has_login port.new ≡ true }
     ensures limits { work.new.limits ≡ work.old.limits }
 {
     let flow = work.flow.reopened();
-    let collected = mem::replace(&mut work.collected, Vec::new(alloc));
+    let mut collected = mem::replace(&mut work.collected, Vec::new(alloc));
+    collected.truncate(c.wanted as usize);
     match shared(collected) {
         Some(payload) => finish(work, port, flow, &c.command, payload, c.asked),
         None => refuse_done(work, port, flow, &c.command, c.asked),
@@ -511,7 +553,7 @@ fn finish_collected<P: Port>(
 }
 
 // Makes the bytes of a vector shareable. None: the allocation failed.
-fn shared(bytes: Vec<u8>) -> Option<Bytes>
+pub(crate) fn shared(bytes: Vec<u8>) -> Option<Bytes>
     ensures same { IfSome result (λ shared. shared ≡ bytes.items) }
     ensures some { IfNone result (0 < length bytes.items) }
 {

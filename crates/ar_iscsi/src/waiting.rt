@@ -7,7 +7,8 @@ ghost use Rattle.ar_iscsi.specs.Waiting as rule;
 use crate::flow::{Flow, WINDOW};
 use crate::request::InitiatorPdu;
 use crate::turn::shared_copy;
-use crate::waiting_pdu::{WaitingPdu, WaitingState};
+use crate::waiting_pdu::{Early, WaitingPdu, WaitingState};
+use bytes::Bytes;
 use std::alloc::{AllocError, Global};
 
 /// Whether a PDU that has been read waits after `count` others.
@@ -57,6 +58,16 @@ pub(crate) fn is_next_waiting(flow: &Flow, waiting: &[WaitingPdu]) -> bool
     flow.collecting.is_none() && !waiting.is_empty()
 }
 
+// No unsolicited data have come before their WRITE's turn.
+pub(crate) fn no_early() -> Early
+    ensures { result ≡ rule.no_early }
+{
+    Early {
+        bytes: Bytes::new(),
+        collecting: None,
+    }
+}
+
 /// Keeps a PDU after the others that wait.
 pub(crate) fn keep(
     waiting: &mut Vec<WaitingPdu>,
@@ -74,6 +85,7 @@ pub(crate) fn keep(
         header: *header,
         carried,
         state,
+        early: no_early(),
     })?;
     Ok(())
 }

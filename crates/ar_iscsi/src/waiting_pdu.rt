@@ -1,4 +1,5 @@
 // A PDU as it is kept until the data of a WRITE before it have come.
+use crate::flow::Collecting;
 use bytes::Bytes;
 
 /// What is left to do with a PDU that waits, in its turn.
@@ -19,4 +20,13 @@ pub struct WaitingPdu {
     /// Its data segment.
     pub carried: Bytes,
     pub state: WaitingState,
+    pub early: Early,
+}
+
+/// The unsolicited data of a WRITE that have come before its turn.
+#[derive(Debug, Drop)]
+pub struct Early {
+    pub bytes: Bytes,
+    /// The WRITE after those data; None: none have come.
+    pub collecting: Option<Collecting>,
 }
