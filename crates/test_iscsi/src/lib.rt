@@ -18,3 +18,5 @@ mod pdus;
 mod scarce;
 #[cfg(test)]
 mod sessions;
+#[cfg(test)]
+mod unsolicited;

@@ -7,7 +7,7 @@ use std::alloc::Global;
 use std::process::Abort;
 
 // Plays a session over these bytes, and compares its end and what it wrote.
-fn plays(rt: &impl Abort, alloc: Global, input: &[&[u8]], end: IscsiEnd, output: &[&[u8]]) {
+pub fn plays(rt: &impl Abort, alloc: Global, input: &[&[u8]], end: IscsiEnd, output: &[&[u8]]) {
     let input = joined(rt, alloc, input);
     let output = joined(rt, alloc, output);
     let mut reader = MemSource::new(input);
@@ -47,7 +47,7 @@ const READ_BYTES: &[u8] = &[0x5A; 512];
 
 const LEFT: IscsiEnd = IscsiEnd::Feature(FeatureEnd::LoggedOut);
 
-const ENDED: IscsiEnd = IscsiEnd::Feature(FeatureEnd::Unread(ReceiveEnd::End));
+pub const ENDED: IscsiEnd = IscsiEnd::Feature(FeatureEnd::Unread(ReceiveEnd::End));
 
 #[test]
 fn a_read_returns_what_is_expected_in_segments(rt: HostRuntime) {
