@@ -211,6 +211,18 @@ class Pings(TimedCase):
         late.close()
         self.stops(server)
 
+    def test_an_initiator_that_takes_nothing(self):
+        """It can't be pinged, since its answers fill the connection: its session ends as one that doesn't answer."""
+        server = self.serve(
+            "--iscsi-ping", "1", "--geometry", "paper", "--extents", "16", "0:0:32M", doors=("operator", "iscsi")
+        )
+        initiator, begun = self.ready(server), time.monotonic()
+        for _ in range(4):
+            initiator.sends(read_10(0, 32768), flags=0xC1, expected=32768 * 512)
+        self.wants(server.wait_for_none(), "", "sessions after it has taken nothing")
+        self.passes(begun, 1.8, 8, "its session ends")
+        self.stops(server)
+
     def test_an_initiator_that_owes_data(self):
         """A WRITE's data may come after a ping, whose tag isn't that of the R2T."""
         server = self.served("--iscsi-ping", "1")
