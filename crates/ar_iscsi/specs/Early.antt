@@ -55,9 +55,9 @@ is_ignored steps.Ignores = true
 is_ignored other = false
 
 -- data aren't the next ones
-abbrev pub is_broken : DataStep → Bool
-is_broken steps.Breaks = true
-is_broken other = false
+abbrev pub is_breaking : DataStep → Bool
+is_breaking steps.Breaks = true
+is_breaking other = false
 
 -- a Data-Out PDU of `len` bytes belongs to this PDU, which waits
 abbrev pub is_early : Limits → DataOut → ℕ → WaitingPdu → Bool
@@ -65,7 +65,7 @@ is_early limits data_out len pdu = not (is_ignored (early_step limits data_out l
 
 -- it does, and its data aren't the next ones
 abbrev pub breaks_early : Limits → DataOut → ℕ → WaitingPdu → Bool
-breaks_early limits data_out len pdu = is_broken (early_step limits data_out len pdu)
+breaks_early limits data_out len pdu = is_breaking (early_step limits data_out len pdu)
 
 -- a PDU that waits after data, by their step
 abbrev pub gathered : DataStep → List ℕ → WaitingPdu → WaitingPdu

@@ -68,8 +68,8 @@ owes_report pending lun request cdb =
     (is_marked pending.resets lun || is_marked pending.changes lun) && reports request cdb
 
 -- the mark of a LUN is taken away
-abbrev pub unmarked : List Bool → ℕ → List Bool
-unmarked marks lun = if nat_lt lun 8 then slice_set marks lun false else marks
+abbrev pub without_mark : List Bool → ℕ → List Bool
+without_mark marks lun = if nat_lt lun 8 then slice_set marks lun false else marks
 
 -- the unit at a LUN has to report a reset
 abbrev pub due : Pending → ℕ → Pending
@@ -84,7 +84,7 @@ all_due pending = record pending { resets = all_marked true }
 -- attention condition precedence level)
 abbrev pub settled : Pending → ℕ → Pending
 settled pending lun =
-    record { resets = unmarked pending.resets lun; changes = unmarked pending.changes lun; seen = pending.seen }
+    record { resets = without_mark pending.resets lun; changes = without_mark pending.changes lun; seen = pending.seen }
 
 -- a command with this status has shown the inventory: a REPORT LUNS, whatever it selects, at whatever LUN
 abbrev pub shows_inventory : Request → Status → Bool

@@ -60,7 +60,7 @@ pub data ServesAsDevice {P : Type 0} (commands : Commands P) (flushes : UnitFlus
       → ServesAsDevice commands flushes thin old lun cdb payload reply (record old { port = port })
 
 -- a command, before which the device server looks whether the inventory of the host's units has changed
-pub record ServesCommand {P : Type 0} (commands : Commands P) (flushes : UnitFlushes P) (thin : ThinUnits P)
+pub record ServesAfterLook {P : Type 0} (commands : Commands P) (flushes : UnitFlushes P) (thin : ThinUnits P)
     (counts : InventoryChanges P) (old : ServerState P) (lun : ℕ) (cdb payload : List ℕ) (reply : Reply)
     (new : ServerState P) : Type 0 where
   pub count : ℕ

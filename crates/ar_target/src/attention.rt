@@ -138,7 +138,7 @@ pub(crate) fn settle(pending: &mut Pending, lun: u8)
 
 // Takes the mark of a LUN away.
 fn unmark(marks: &mut [bool; 8], lun: u8)
-    ensures { marks.new ≡ attention.unmarked marks.old lun }
+    ensures { marks.new ≡ attention.without_mark marks.old lun }
 {
     if lun <= MAX_LUN {
         marks[usize::from(lun)] = false;

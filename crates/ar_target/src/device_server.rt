@@ -92,7 +92,7 @@ impl<P: DiscardPort> DeviceServer<P> {
 }
 
 impl<P: DiscardPort + InventoryPort> Port for DeviceServer<P> {
-    ghost use Rattle.ar_target.specs.DeviceServer.{LogsInAs, ServesCommand};
+    ghost use Rattle.ar_target.specs.DeviceServer.{LogsInAs, ServesAfterLook};
 
     ghost has_login = { λ server. P.has_login server.port };
 
@@ -100,7 +100,7 @@ impl<P: DiscardPort + InventoryPort> Port for DeviceServer<P> {
         (record { attributes = old.attributes; pending = old.pending; port = old.port }) host login
         (record { attributes = new.attributes; pending = new.pending; port = new.port }) };
 
-    ghost commands = { λ old lun cdb payload reply new. ServesCommand P.commands P.flushes
+    ghost commands = { λ old lun cdb payload reply new. ServesAfterLook P.commands P.flushes
         (record { discards = P.discards; runs = P.runs }) P.counts
         (record { attributes = old.attributes; pending = old.pending; port = old.port }) lun cdb payload reply
         (record { attributes = new.attributes; pending = new.pending; port = new.port }) };
