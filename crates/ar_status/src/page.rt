@@ -289,7 +289,7 @@ function showGraphs(bounds) {
   at('graphs').replaceChildren(
     graph('commands/s', sample => sample.commands, n => count(Math.round(n))),
     graph('bytes/s', sample => sample.bytes, size),
-    graph('slowest iSCSI command', sample => sample.slowest, time, bounds.length),
+    graph('slowest command', sample => sample.slowest, time, bounds.length),
   );
 }
 
