@@ -19,60 +19,62 @@ use Rattle.ar_target.specs.OwnCommands.{LooksFor, inquiry_cdb, presence_of}
 -- nothing is due
 pub serves_at_once :
     {P : Type 0} {commands : Commands P} {flushes : UnitFlushes P} {thin : ThinUnits P}
-    (old : ServerState P) {lun : ℕ} {cdb payload : List ℕ}
+    (old : ServerState P) {lun generation : ℕ} {cdb payload : List ℕ}
     {reply : Reply} {port : P} (pending : Pending) (request : Request) → request ≡ request_of cdb
     → owes_report old.pending lun request cdb ≡ false
-    → MeetsRequest commands flushes thin old.attributes request old.port lun cdb payload reply port
+    → MeetsRequest commands flushes thin old.attributes request old.port lun generation cdb payload reply port
     → pending ≡ after_reply old.pending request reply.status
-    → ServesAsDevice commands flushes thin old lun cdb payload reply (record old { pending = pending; port = port })
-serves_at_once {commands = commands} {flushes = flushes} {thin = thin} old {lun = lun} {cdb = cdb}
-    {payload = payload} {reply = reply} {port = port} pending request is due meets same =
+    → ServesAsDevice commands flushes thin old lun generation cdb payload reply
+    (record old { pending = pending; port = port })
+serves_at_once {commands = commands} {flushes = flushes} {thin = thin} old {lun = lun} {generation = generation}
+    {cdb = cdb} {payload = payload} {reply = reply} {port = port} pending request is due meets same =
     rw (same, is)
     (nothing_due reply port (subst (λ (r : Request). owes_report old.pending lun r cdb ≡ false) is due)
-    (subst (λ (r : Request). MeetsRequest commands flushes thin old.attributes r old.port lun cdb payload reply
-    port) is meets))
+    (subst (λ (r : Request). MeetsRequest commands flushes thin old.attributes r old.port lun generation cdb payload
+    reply port) is meets))
 
 -- it is due, and there is no unit
 pub serves_without_unit :
     {P : Type 0} {commands : Commands P} {flushes : UnitFlushes P} {thin : ThinUnits P}
-    (old : ServerState P) {lun : ℕ} {cdb payload : List ℕ}
+    (old : ServerState P) {lun generation : ℕ} {cdb payload : List ℕ}
     {reply : Reply} {mid port : P} (pending : Pending) (request : Request) → request ≡ request_of cdb
     → owes_report old.pending lun request cdb ≡ true → LooksFor commands old.port lun false mid
-    → MeetsRequest commands flushes thin old.attributes request mid lun cdb payload reply port
+    → MeetsRequest commands flushes thin old.attributes request mid lun generation cdb payload reply port
     → pending ≡ after_reply old.pending request reply.status
-    → ServesAsDevice commands flushes thin old lun cdb payload reply (record old { pending = pending; port = port })
-serves_without_unit {commands = commands} {flushes = flushes} {thin = thin} old {lun = lun} {cdb = cdb}
-    {payload = payload} {reply = reply} {mid = mid} {port = port} pending request is due seeks meets same =
+    → ServesAsDevice commands flushes thin old lun generation cdb payload reply
+    (record old { pending = pending; port = port })
+serves_without_unit {commands = commands} {flushes = flushes} {thin = thin} old {lun = lun} {generation = generation}
+    {cdb = cdb} {payload = payload} {reply = reply} {mid = mid} {port = port} pending request is due seeks meets same =
     rw (same, is)
     (no_unit reply mid port (subst (λ (r : Request). owes_report old.pending lun r cdb ≡ true) is due) seeks
-    (subst (λ (r : Request). MeetsRequest commands flushes thin old.attributes r mid lun cdb payload reply port)
-    is meets))
+    (subst (λ (r : Request). MeetsRequest commands flushes thin old.attributes r mid lun generation cdb payload
+    reply port) is meets))
 
 -- it is reported
 pub serves_attention :
     {P : Type 0} {commands : Commands P} {flushes : UnitFlushes P} {thin : ThinUnits P}
-    (old : ServerState P) {lun : ℕ} {cdb payload : List ℕ}
+    (old : ServerState P) {lun generation : ℕ} {cdb payload : List ℕ}
     {reply : Reply} {port : P} (pending : Pending) (request : Request) (sense : Sense) → request ≡ request_of cdb
     → owes_report old.pending lun request cdb ≡ true → sense ≡ sense_due old.pending lun
     → LooksFor commands old.port lun true port
     → reply ≡ attention_reply sense request → pending ≡ settled old.pending lun
-    → ServesAsDevice commands flushes thin old lun cdb payload reply
+    → ServesAsDevice commands flushes thin old lun generation cdb payload reply
     (record { attributes = old.attributes; pending = pending; port = port })
-serves_attention {commands = commands} {flushes = flushes} {thin = thin} old {lun = lun} {cdb = cdb}
-    {payload = payload} {reply = reply} {port = port} pending request sense is due first looks made same =
+serves_attention {commands = commands} {flushes = flushes} {thin = thin} old {lun = lun} {generation = generation}
+    {cdb = cdb} {payload = payload} {reply = reply} {port = port} pending request sense is due first looks made same =
     rw (same, made, first, is)
     (reported port (subst (λ (r : Request). owes_report old.pending lun r cdb ≡ true) is due) looks)
 
 -- it is still due
 pub serves_due :
     {P : Type 0} {commands : Commands P} {flushes : UnitFlushes P} {thin : ThinUnits P}
-    (old : ServerState P) {lun : ℕ} {cdb payload : List ℕ}
+    (old : ServerState P) {lun generation : ℕ} {cdb payload : List ℕ}
     {reply : Reply} {port : P} (request : Request) (sense : Sense) → request ≡ request_of cdb
     → owes_report old.pending lun request cdb ≡ true → sense ≡ sense_due old.pending lun
     → KeepsReport commands old.port lun request sense reply port
-    → ServesAsDevice commands flushes thin old lun cdb payload reply (record old { port = port })
-serves_due {commands = commands} {flushes = flushes} {thin = thin} old {lun = lun} {cdb = cdb}
-    {payload = payload} {reply = reply} {port = port} request sense is due first keeps =
+    → ServesAsDevice commands flushes thin old lun generation cdb payload reply (record old { port = port })
+serves_due {commands = commands} {flushes = flushes} {thin = thin} old {lun = lun} {generation = generation}
+    {cdb = cdb} {payload = payload} {reply = reply} {port = port} request sense is due first keeps =
     still_due reply port (subst (λ (r : Request). owes_report old.pending lun r cdb ≡ true) is due)
     (subst (λ (s : Sense). KeepsReport commands old.port lun (request_of cdb) s reply port) first
     (subst (λ (r : Request). KeepsReport commands old.port lun r sense reply port) is keeps))

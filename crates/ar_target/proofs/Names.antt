@@ -2,26 +2,41 @@
 use Rattle.std.proofs.Common.{◌≡◌, ◌<◌, ◌+◌, ◌/◌, ◌%◌, ◌∙◌, ℕ, Bool, true, false, List, [], ◌∷◌}
 use Rattle.std.proofs.Common.{refl, take, drop, get_or, sym, ap, arith}
 use Rattle.std.specs.Prelude.{nat_lt, cond}
-use Rattle.std.specs.Int.{w32, to_be_bytes, from_be_bytes}
+use Rattle.std.specs.Int.{w16, w32, to_be_bytes, from_be_bytes}
 use Rattle.std.proofs.lemmas.Bool.{ltb-true, ltb-false}
-use Rattle.std.proofs.lemmas.Nat.{from_be_bytes-to_be_bytes_4}
+use Rattle.std.proofs.lemmas.Nat.{from_be_bytes-to_be_bytes_2, from_be_bytes-to_be_bytes_4}
 use Rattle.ar_target.specs.Laws.{TellsUnits}
-use Rattle.ar_target.specs.Vpd.{hex_digit, hex_digits, unit_name, serial_number, vendor_designator, naa_designator}
+use Rattle.ar_target.specs.Vpd.{hex_digit, hex_digits, unit_name, serial_number, short_generation, vendor_designator}
+use Rattle.ar_target.specs.Vpd.{naa_designator}
 
--- a name has one array, one host and one LUN
-pub name-tells : TellsUnits unit_name
-name-tells array other host host' lun lun' fits fits' h h' l l' e =
-    let bytes : to_be_bytes w32 array ≡ to_be_bytes w32 other = ap (take 4) e in (
+-- a name has one array, one host, one LUN and one generation
+pub name-tells : TellsUnits (λ generation. generation) unit_name
+name-tells array other host host' lun lun' generation generation' fits fits' h h' l l' g g' e =
+    let bytes : to_be_bytes w32 array ≡ to_be_bytes w32 other = ap (take 4) e in
+    let last : to_be_bytes w16 generation ≡ to_be_bytes w16 generation' = ap (drop 6) e in (
       sym (from_be_bytes-to_be_bytes_4 array fits) ∙ ap (from_be_bytes w32) bytes
           ∙ from_be_bytes-to_be_bytes_4 other fits',
       ap (λ (l : List ℕ). get_or l 4 0) e,
       ap (λ (l : List ℕ). get_or l 5 0) e,
+      sym (from_be_bytes-to_be_bytes_2 generation g) ∙ ap (from_be_bytes w16) last
+          ∙ from_be_bytes-to_be_bytes_2 generation' g',
     )
 
--- the NAA designator ends in the name
-pub naa-tells : TellsUnits naa_designator
-naa-tells array other host host' lun lun' fits fits' h h' l l' e =
-    name-tells array other host host' lun lun' fits fits' h h' l l' (ap (drop 6) e)
+-- the first two bytes of the NAA designator have one generation of twelve bits
+front-tells : (m n : ℕ) → m < 4096 → n < 4096 → 48 + m / 256 ≡ 48 + n / 256 → m % 256 ≡ n % 256 → m ≡ n
+front-tells m n small small' e e' = omega arith
+
+-- the NAA designator ends in the array, the host and the LUN
+pub naa-tells : TellsUnits short_generation naa_designator
+naa-tells array other host host' lun lun' generation generation' fits fits' h h' l l' g g' e =
+    let bytes : to_be_bytes w32 array ≡ to_be_bytes w32 other = ap (λ (l : List ℕ). take 4 (drop 6 l)) e in (
+      sym (from_be_bytes-to_be_bytes_4 array fits) ∙ ap (from_be_bytes w32) bytes
+          ∙ from_be_bytes-to_be_bytes_4 other fits',
+      ap (λ (l : List ℕ). get_or l 10 0) e,
+      ap (λ (l : List ℕ). get_or l 11 0) e,
+      front-tells (generation % 4096) (generation' % 4096) (omega arith) (omega arith)
+          (ap (λ (l : List ℕ). get_or l 4 0) e) (ap (λ (l : List ℕ). get_or l 5 0) e),
+    )
 
 -- a hexadecimal digit has one value
 digit_same :
@@ -60,16 +75,17 @@ digits-tell (x ∷ xs) (y ∷ ys) small small' e =
     let tail : xs ≡ ys = digits-tell xs ys small.1 small'.1 (ap (drop 2) e) in cc
 
 -- a name is of bytes
-name_bytes : (array host lun : ℕ) → host < 256 → lun < 256 → AreBytes (unit_name array host lun)
-name_bytes array host lun h l = (omega arith, (omega arith, (omega arith, (omega arith, (h, (l, tt))))))
+name_bytes : (array host lun generation : ℕ) → host < 256 → lun < 256 → AreBytes (unit_name array host lun generation)
+name_bytes array host lun generation h l =
+    (omega arith, (omega arith, (omega arith, (omega arith, (h, (l, (omega arith, (omega arith, tt))))))))
 
 -- the serial number has the digits of the name
-pub serial-tells : TellsUnits serial_number
-serial-tells array other host host' lun lun' fits fits' h h' l l' e =
-    name-tells array other host host' lun lun' fits fits' h h' l l'
-    (digits-tell _ _ (name_bytes array host lun h l) (name_bytes other host' lun' h' l') e)
+pub serial-tells : TellsUnits (λ generation. generation) serial_number
+serial-tells array other host host' lun lun' generation generation' fits fits' h h' l l' g g' e =
+    name-tells array other host host' lun lun' generation generation' fits fits' h h' l l' g g'
+    (digits-tell _ _ (name_bytes array host lun generation h l) (name_bytes other host' lun' generation' h' l') e)
 
 -- the vendor's designator ends in the serial number
-pub vendor-tells : TellsUnits vendor_designator
-vendor-tells array other host host' lun lun' fits fits' h h' l l' e =
-    serial-tells array other host host' lun lun' fits fits' h h' l l' (ap (drop 12) e)
+pub vendor-tells : TellsUnits (λ generation. generation) vendor_designator
+vendor-tells array other host host' lun lun' generation generation' fits fits' h h' l l' g g' e =
+    serial-tells array other host host' lun lun' generation generation' fits fits' h h' l l' g g' (ap (drop 12) e)

@@ -31,14 +31,16 @@ absent_page_answer SupportedPages len = good (take len absent_pages)
 absent_page_answer other len = check invalid_field_in_cdb
 
 -- to INQUIRY of a VPD page, by whether there is a unit
-abbrev pub vpd_answer_by : Option Bool → Attributes → ℕ → VpdPage → ℕ → Reply → Reply
-vpd_answer_by None attributes lun page len own_reply = handed_on own_reply
-vpd_answer_by (Some false) attributes lun page len own_reply = absent_page_answer page len
-vpd_answer_by (Some true) attributes lun page len own_reply = good (take len (vpd_data attributes lun page))
+abbrev pub vpd_answer_by : Option Bool → Attributes → ℕ → ℕ → VpdPage → ℕ → Reply → Reply
+vpd_answer_by None attributes lun generation page len own_reply = handed_on own_reply
+vpd_answer_by (Some false) attributes lun generation page len own_reply = absent_page_answer page len
+vpd_answer_by (Some true) attributes lun generation page len own_reply =
+    good (take len (vpd_data attributes lun generation page))
 
 -- to INQUIRY of a VPD page (SPC-3, INQUIRY command)
-abbrev pub vpd_answer : Attributes → ℕ → VpdPage → ℕ → Reply → Reply
-vpd_answer attributes lun page len own_reply = vpd_answer_by (presence_of own_reply) attributes lun page len own_reply
+abbrev pub vpd_answer : Attributes → ℕ → ℕ → VpdPage → ℕ → Reply → Reply
+vpd_answer attributes lun generation page len own_reply =
+    vpd_answer_by (presence_of own_reply) attributes lun generation page len own_reply
 
 -- to MODE SENSE (SPC-3, MODE SENSE (6) command)
 abbrev pub mode_answer : Bool → ModeSense → Reply → Reply

@@ -12,7 +12,7 @@ use Rattle.ar_target.specs.Attention.{KeepsReport, after_reply, all_due, attenti
 use Rattle.ar_target.specs.Attention.{owes_report, sense_due, settled}
 use Rattle.ar_target.specs.DiscardPort.{ThinUnits}
 use Rattle.ar_target.specs.FlushPort.{UnitFlushes}
-use Rattle.ar_target.specs.InventoryPort.{InventoryChanges}
+use Rattle.ar_target.specs.InventoryPort.{InventoryChanges, UnitInventory}
 use Rattle.ar_target.specs.Request.{request_of}
 use Rattle.ar_target.specs.Serving.{MeetsCommand}
 use Rattle.ar_target.specs.OwnCommands.{LooksFor, inquiry_cdb, presence_of}
@@ -37,36 +37,40 @@ pub record LogsInAs {P : Type 0} (logins : Logins P) (counts : InventoryChanges 
 -- A command is answered by what its CDB asks for, unless its unit has a report to make, and the command makes it. Where
 -- the report can't be made, it stays due, and nothing else is done.
 pub data ServesAsDevice {P : Type 0} (commands : Commands P) (flushes : UnitFlushes P) (thin : ThinUnits P)
-    (old : ServerState P) (lun : ℕ) (cdb payload : List ℕ) : Reply → ServerState P → Type 0 where
+    (old : ServerState P) (lun generation : ℕ) (cdb payload : List ℕ) : Reply → ServerState P → Type 0 where
   nothing_due :
       (reply : Reply) (port : P) → owes_report old.pending lun (request_of cdb) cdb ≡ false
-      → MeetsCommand commands flushes thin old.attributes old.port lun cdb payload reply port
-      → ServesAsDevice commands flushes thin old lun cdb payload reply
+      → MeetsCommand commands flushes thin old.attributes old.port lun generation cdb payload reply port
+      → ServesAsDevice commands flushes thin old lun generation cdb payload reply
       (record old { pending = after_reply old.pending (request_of cdb) reply.status; port = port })
   no_unit :
       (reply : Reply) (mid port : P) → owes_report old.pending lun (request_of cdb) cdb ≡ true
       → LooksFor commands old.port lun false mid
-      → MeetsCommand commands flushes thin old.attributes mid lun cdb payload reply port
-      → ServesAsDevice commands flushes thin old lun cdb payload reply
+      → MeetsCommand commands flushes thin old.attributes mid lun generation cdb payload reply port
+      → ServesAsDevice commands flushes thin old lun generation cdb payload reply
       (record old { pending = after_reply old.pending (request_of cdb) reply.status; port = port })
   reported :
       (port : P) → owes_report old.pending lun (request_of cdb) cdb ≡ true → LooksFor commands old.port lun true port
-      → ServesAsDevice commands flushes thin old lun cdb payload
+      → ServesAsDevice commands flushes thin old lun generation cdb payload
       (attention_reply (sense_due old.pending lun) (request_of cdb))
       (record old { pending = settled old.pending lun; port = port })
   still_due :
       (reply : Reply) (port : P) → owes_report old.pending lun (request_of cdb) cdb ≡ true
       → KeepsReport commands old.port lun (request_of cdb) (sense_due old.pending lun) reply port
-      → ServesAsDevice commands flushes thin old lun cdb payload reply (record old { port = port })
+      → ServesAsDevice commands flushes thin old lun generation cdb payload reply (record old { port = port })
 
--- a command, before which the device server looks whether the inventory of the host's units has changed
+-- a command, before which the device server looks whether the inventory of the host's units has changed, and of which
+-- generation the unit is
 pub record ServesAfterLook {P : Type 0} (commands : Commands P) (flushes : UnitFlushes P) (thin : ThinUnits P)
-    (counts : InventoryChanges P) (old : ServerState P) (lun : ℕ) (cdb payload : List ℕ) (reply : Reply)
+    (inventory : UnitInventory P) (old : ServerState P) (lun : ℕ) (cdb payload : List ℕ) (reply : Reply)
     (new : ServerState P) : Type 0 where
   pub count : ℕ
-  pub counted : counts old.port count
+  pub counted : inventory.counts old.port count
+  pub generation : ℕ
+  pub generated : inventory.generations old.port lun generation
   pub serves :
-      ServesAsDevice commands flushes thin (record old { pending = looked old.pending count }) lun cdb payload reply new
+      ServesAsDevice commands flushes thin (record old { pending = looked old.pending count }) lun generation cdb
+      payload reply new
 
 -- the outcome of a reset by whether INQUIRY states that there is a unit: one that can't be asked may be there
 abbrev pub reset_outcome : Option Bool → ResetOutcome

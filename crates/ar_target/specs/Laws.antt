@@ -11,7 +11,7 @@ use Rattle.ar_target.specs.declared.request.Request.TheVariants.{Given, Standard
 use Rattle.ar_target.specs.FlushPort.{UnitFlushes}
 use Rattle.ar_target.specs.Request.{request_of}
 use Rattle.ar_target.specs.Serving.{Synchronizes}
-use Rattle.ar_target.specs.Vpd.{unit_name, serial_number, vendor_designator, naa_designator}
+use Rattle.ar_target.specs.Vpd.{unit_name, serial_number, short_generation, vendor_designator, naa_designator}
 
 -- a request gives the port the CDB that came, untouched
 abbrev pub GivesCdb : Request → Type 0
@@ -23,19 +23,22 @@ GivesCdb other = ⊥
 abbrev pub CommandsAreGiven : Type 0
 CommandsAreGiven = (cdb : List ℕ) (command : Command) → reading cdb ≡ Ok command → GivesCdb (request_of cdb)
 
--- what is equal of two units tells that they are one: of units of different arrays, hosts or LUNs it differs
-abbrev pub TellsUnits : (ℕ → ℕ → ℕ → List ℕ) → Type 0
-TellsUnits named =
-    (array other host host' lun lun' : ℕ) → array < 2 ^ 32 → other < 2 ^ 32 → host < 256 → host' < 256 → lun < 256
-    → lun' < 256 → named array host lun ≡ named other host' lun' → (array ≡ other) × (host ≡ host') × (lun ≡ lun')
+-- What is equal of two units tells that they are one: of units of different arrays, hosts, LUNs or generations it
+-- differs. Of the generation that is told which `told` keeps of it.
+abbrev pub TellsUnits : (ℕ → ℕ) → (ℕ → ℕ → ℕ → ℕ → List ℕ) → Type 0
+TellsUnits told named =
+    (array other host host' lun lun' generation generation' : ℕ) → array < 2 ^ 32 → other < 2 ^ 32 → host < 256
+    → host' < 256 → lun < 256 → lun' < 256 → generation < 2 ^ 16 → generation' < 2 ^ 16
+    → named array host lun generation ≡ named other host' lun' generation'
+    → (array ≡ other) × (host ≡ host') × (lun ≡ lun') × (told generation ≡ told generation')
 
--- units of different arrays, hosts or LUNs differ in their names, serial numbers, and designators of both kinds (SPC-3,
--- Device Identification VPD page)
+-- units of different arrays, hosts, LUNs or generations differ in their names, serial numbers, and designators of both
+-- kinds; in NAA designators those of generations do that differ modulo 4096 (SPC-3, Device Identification VPD page)
 pub record NamesDiffer : Type 0 where
-  pub names : TellsUnits unit_name
-  pub serial_numbers : TellsUnits serial_number
-  pub vendor_designators : TellsUnits vendor_designator
-  pub naa_designators : TellsUnits naa_designator
+  pub names : TellsUnits (λ generation. generation) unit_name
+  pub serial_numbers : TellsUnits (λ generation. generation) serial_number
+  pub vendor_designators : TellsUnits (λ generation. generation) vendor_designator
+  pub naa_designators : TellsUnits short_generation naa_designator
 
 -- a SYNCHRONIZE CACHE that is GOOD has flushed the unit
 abbrev pub GoodIsFlushed : {P : Type 0} → Commands P → UnitFlushes P → Type 0

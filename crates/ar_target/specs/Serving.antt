@@ -64,50 +64,50 @@ pub record ReturnsStandard {P : Type 0} (commands : Commands P) (len : ℕ) (cdb
   pub given : commands old lun cdb payload own_reply new
   pub returned : IsReturned (standard_answer len own_reply) reply
 
--- What is done with each request at the port, and its reply.
+-- What is done with each request at the port, and its reply: at a LUN, whose unit is of this generation.
 abbrev pub MeetsRequest : {P : Type 0} → Commands P → UnitFlushes P → ThinUnits P → Attributes → Request → P
-    → ℕ → List ℕ → List ℕ → Reply → P → Type 0
-MeetsRequest commands flushes thin attributes request.Given old lun cdb payload reply new =
+    → ℕ → ℕ → List ℕ → List ℕ → Reply → P → Type 0
+MeetsRequest commands flushes thin attributes request.Given old lun generation cdb payload reply new =
     commands old lun cdb payload reply new
-MeetsRequest commands flushes thin attributes (request.StandardData len) old lun cdb payload reply new =
+MeetsRequest commands flushes thin attributes (request.StandardData len) old lun generation cdb payload reply new =
     ReturnsStandard commands len cdb payload old lun reply new
-MeetsRequest commands flushes thin attributes (request.Transfer own) old lun cdb payload reply new =
+MeetsRequest commands flushes thin attributes (request.Transfer own) old lun generation cdb payload reply new =
     commands old lun own payload reply new
-MeetsRequest commands flushes thin attributes (request.Verify read compares) old lun cdb payload reply new =
+MeetsRequest commands flushes thin attributes (request.Verify read compares) old lun generation cdb payload reply new =
     ReturnsBy commands read (verify_answer compares payload) old lun reply new
-MeetsRequest commands flushes thin attributes (request.InvalidAtTarget sense) old lun cdb payload reply new =
+MeetsRequest commands flushes thin attributes (request.InvalidAtTarget sense) old lun generation cdb payload reply new =
     (reply ≡ check sense) × (new ≡ old)
-MeetsRequest commands flushes thin attributes (request.InvalidAtUnit sense) old lun cdb payload reply new =
+MeetsRequest commands flushes thin attributes (request.InvalidAtUnit sense) old lun generation cdb payload reply new =
     ReturnsBy commands capacity_cdb (invalid_answer sense) old lun reply new
-MeetsRequest commands flushes thin attributes (request.Vpd page len) old lun cdb payload reply new =
-    ReturnsBy commands inquiry_cdb (vpd_answer attributes lun page len) old lun reply new
-MeetsRequest commands flushes thin attributes (request.ReportLuns len) old lun cdb payload reply new =
+MeetsRequest commands flushes thin attributes (request.Vpd page len) old lun generation cdb payload reply new =
+    ReturnsBy commands inquiry_cdb (vpd_answer attributes lun generation page len) old lun reply new
+MeetsRequest commands flushes thin attributes (request.ReportLuns len) old lun generation cdb payload reply new =
     ReportsLuns commands len old reply new
-MeetsRequest commands flushes thin attributes (request.ReportWellKnown len) old lun cdb payload reply new =
+MeetsRequest commands flushes thin attributes (request.ReportWellKnown len) old lun generation cdb payload reply new =
     IsReturned (good (take len (lun_list []))) reply × (new ≡ old)
-MeetsRequest commands flushes thin attributes (request.ModeSense sense) old lun cdb payload reply new =
+MeetsRequest commands flushes thin attributes (request.ModeSense sense) old lun generation cdb payload reply new =
     ReturnsBy commands capacity_cdb (mode_answer attributes.write_back sense) old lun reply new
-MeetsRequest commands flushes thin attributes (request.RequestSense len) old lun cdb payload reply new =
+MeetsRequest commands flushes thin attributes (request.RequestSense len) old lun generation cdb payload reply new =
     ReturnsBy commands ready_cdb (sense_answer len) old lun reply new
-MeetsRequest commands flushes thin attributes (request.LongCapacity len) old lun cdb payload reply new =
+MeetsRequest commands flushes thin attributes (request.LongCapacity len) old lun generation cdb payload reply new =
     ReturnsBy commands capacity_cdb (long_capacity_answer attributes.block_sectors len) old lun reply new
-MeetsRequest commands flushes thin attributes (request.LbaStatus lba len) old lun cdb payload reply new =
+MeetsRequest commands flushes thin attributes (request.LbaStatus lba len) old lun generation cdb payload reply new =
     GetsLbaStatus commands thin.runs attributes.block_sectors lba len old lun reply new
-MeetsRequest commands flushes thin attributes (request.Synchronize lba count) old lun cdb payload reply new =
+MeetsRequest commands flushes thin attributes (request.Synchronize lba count) old lun generation cdb payload reply new =
     Synchronizes commands flushes lba count old lun reply new
-MeetsRequest commands flushes thin attributes (request.Unmap len) old lun cdb payload reply new =
+MeetsRequest commands flushes thin attributes (request.Unmap len) old lun generation cdb payload reply new =
     Unmaps commands thin.discards attributes.block_sectors len old lun payload reply new
-MeetsRequest commands flushes thin attributes (request.WriteSame same) old lun cdb payload reply new =
+MeetsRequest commands flushes thin attributes (request.WriteSame same) old lun generation cdb payload reply new =
     WritesSame commands thin.discards attributes.block_sectors same old lun payload reply new
-MeetsRequest commands flushes thin attributes request.StartStop old lun cdb payload reply new =
+MeetsRequest commands flushes thin attributes request.StartStop old lun generation cdb payload reply new =
     ReturnsBy commands ready_cdb ready_answer old lun reply new
-MeetsRequest commands flushes thin attributes request.SelfTest old lun cdb payload reply new =
+MeetsRequest commands flushes thin attributes request.SelfTest old lun generation cdb payload reply new =
     ReturnsBy commands ready_cdb ready_answer old lun reply new
-MeetsRequest commands flushes thin attributes (request.Report report len) old lun cdb payload reply new =
+MeetsRequest commands flushes thin attributes (request.Report report len) old lun generation cdb payload reply new =
     ReturnsBy commands capacity_cdb (report_answer report len) old lun reply new
 
 -- what a device server does with a command: what its CDB asks for
-abbrev pub MeetsCommand : {P : Type 0} → Commands P → UnitFlushes P → ThinUnits P → Attributes → P → ℕ → List ℕ
+abbrev pub MeetsCommand : {P : Type 0} → Commands P → UnitFlushes P → ThinUnits P → Attributes → P → ℕ → ℕ → List ℕ
     → List ℕ → Reply → P → Type 0
-MeetsCommand commands flushes thin attributes old lun cdb payload reply new =
-    MeetsRequest commands flushes thin attributes (request_of cdb) old lun cdb payload reply new
+MeetsCommand commands flushes thin attributes old lun generation cdb payload reply new =
+    MeetsRequest commands flushes thin attributes (request_of cdb) old lun generation cdb payload reply new

@@ -18,13 +18,14 @@ abbrev pub hex_digits : List ℕ → List ℕ
 hex_digits [] = []
 hex_digits (byte ∷ bytes) = hex_digit (byte / 16) ∷ hex_digit (byte % 16) ∷ hex_digits bytes
 
--- what tells a unit from all others: its array in four bytes, its host, its LUN
-abbrev pub unit_name : ℕ → ℕ → ℕ → List ℕ
-unit_name array host lun = to_be_bytes w32 array ++ (host ∷ lun ∷ [])
+-- what tells a unit from all others: its array in four bytes, its host, its LUN, and its generation, how many units
+-- were made at that LUN before it, in two
+abbrev pub unit_name : ℕ → ℕ → ℕ → ℕ → List ℕ
+unit_name array host lun generation = to_be_bytes w32 array ++ (host ∷ lun ∷ to_be_bytes w16 generation)
 
--- PRODUCT SERIAL NUMBER: the unit's name in twelve hexadecimal digits
-abbrev pub serial_number : ℕ → ℕ → ℕ → List ℕ
-serial_number array host lun = hex_digits (unit_name array host lun)
+-- PRODUCT SERIAL NUMBER: the unit's name in sixteen hexadecimal digits
+abbrev pub serial_number : ℕ → ℕ → ℕ → ℕ → List ℕ
+serial_number array host lun generation = hex_digits (unit_name array host lun generation)
 
 -- Supported VPD pages (SPC-3, Supported VPD pages): the codes of the pages, ascending
 abbrev pub supported_pages : List ℕ
@@ -36,20 +37,31 @@ abbrev pub absent_pages : List ℕ
 absent_pages = 0x7F ∷ 0x00 ∷ 0x00 ∷ 0x01 ∷ 0x00 ∷ []
 
 -- Unit Serial Number (SPC-3, Unit Serial Number VPD page)
-unfoldable pub unit_serial_number : ℕ → ℕ → ℕ → List ℕ
-unit_serial_number array host lun = (0x00 ∷ 0x80 ∷ 0x00 ∷ 0x0C ∷ []) ++ serial_number array host lun
+unfoldable pub unit_serial_number : ℕ → ℕ → ℕ → ℕ → List ℕ
+unit_serial_number array host lun generation =
+    (0x00 ∷ 0x80 ∷ 0x00 ∷ 0x10 ∷ []) ++ serial_number array host lun generation
 
 -- a designator of the logical unit in ASCII, T10 vendor ID based: AUTORAID and the serial number (SPC-3, T10 vendor
 -- ID based designator format)
-abbrev pub vendor_designator : ℕ → ℕ → ℕ → List ℕ
-vendor_designator array host lun =
-    (0x02 ∷ 0x01 ∷ 0x00 ∷ 0x14 ∷ 0x41 ∷ 0x55 ∷ 0x54 ∷ 0x4F ∷ 0x52 ∷ 0x41 ∷ 0x49 ∷ 0x44 ∷ [])
-    ++ serial_number array host lun
+abbrev pub vendor_designator : ℕ → ℕ → ℕ → ℕ → List ℕ
+vendor_designator array host lun generation =
+    (0x02 ∷ 0x01 ∷ 0x00 ∷ 0x18 ∷ 0x41 ∷ 0x55 ∷ 0x54 ∷ 0x4F ∷ 0x52 ∷ 0x41 ∷ 0x49 ∷ 0x44 ∷ [])
+    ++ serial_number array host lun generation
 
--- a designator of the logical unit in binary, NAA Locally Assigned (3h): the byte 41h and the unit's name (SPC-3, NAA
--- Locally Assigned designator format)
-abbrev pub naa_designator : ℕ → ℕ → ℕ → List ℕ
-naa_designator array host lun = (0x01 ∷ 0x03 ∷ 0x00 ∷ 0x08 ∷ 0x30 ∷ 0x41 ∷ []) ++ unit_name array host lun
+-- the generation as the NAA designator has it, which has twelve bits for it
+abbrev pub short_generation : ℕ → ℕ
+short_generation generation = generation % 4096
+
+-- the first two bytes of the NAA designator: NAA 3h, and the generation's twelve bits
+abbrev pub naa_front : ℕ → List ℕ
+naa_front short = (0x30 + short / 256) ∷ (short % 256) ∷ []
+
+-- a designator of the logical unit in binary, NAA Locally Assigned (3h), of 64 bits: the generation modulo 4096, the
+-- array, the host, the LUN (SPC-3, NAA Locally Assigned designator format)
+abbrev pub naa_designator : ℕ → ℕ → ℕ → ℕ → List ℕ
+naa_designator array host lun generation =
+    (0x01 ∷ 0x03 ∷ 0x00 ∷ 0x08 ∷ [])
+    ++ (naa_front (short_generation generation) ++ (to_be_bytes w32 array ++ (host ∷ lun ∷ [])))
 
 -- the name of the target port of a host: that of its target, and of the one portal group (SPC-4, SCSI name string
 -- designator format; RFC 7143, 4.2.7.4)
@@ -66,13 +78,14 @@ port_designators host =
     ++ ((0x53 ∷ 0x98 ∷ 0x00 ∷ 0x2C ∷ []) ++ (port_name host ++ 0x00 ∷ [])))
 
 -- the designators of the logical unit
-abbrev pub unit_designators : ℕ → ℕ → ℕ → List ℕ
-unit_designators array host lun = vendor_designator array host lun ++ naa_designator array host lun
+abbrev pub unit_designators : ℕ → ℕ → ℕ → ℕ → List ℕ
+unit_designators array host lun generation =
+    vendor_designator array host lun generation ++ naa_designator array host lun generation
 
 -- Device Identification (SPC-3, Device Identification VPD page)
-unfoldable pub device_identification : ℕ → ℕ → ℕ → List ℕ
-device_identification array host lun =
-    (0x00 ∷ 0x83 ∷ 0x00 ∷ 0x64 ∷ []) ++ (unit_designators array host lun ++ port_designators host)
+unfoldable pub device_identification : ℕ → ℕ → ℕ → ℕ → List ℕ
+device_identification array host lun generation =
+    (0x00 ∷ 0x83 ∷ 0x00 ∷ 0x68 ∷ []) ++ (unit_designators array host lun generation ++ port_designators host)
 
 -- REPORT TARGET PORT GROUPS data (SPC-4, REPORT TARGET PORT GROUPS command): RETURN DATA LENGTH; group 1 is
 -- active/optimized, the only state that it supports; it has one port, relative target port 1
@@ -112,11 +125,13 @@ logical_block_provisioning = 0x00 ∷ 0xB2 ∷ 0x00 ∷ 0x04 ∷ 0x00 ∷ 0xE4 �
 unfoldable pub block_device_characteristics : List ℕ
 block_device_characteristics = (0x00 ∷ 0xB1 ∷ 0x00 ∷ 0x3C ∷ 0x00 ∷ 0x01 ∷ []) ++ replicate 58 0
 
--- the page of the unit at a LUN
-abbrev pub vpd_data : Attributes → ℕ → VpdPage → List ℕ
-vpd_data attributes lun SupportedPages = supported_pages
-vpd_data attributes lun UnitSerialNumber = unit_serial_number attributes.array attributes.host lun
-vpd_data attributes lun DeviceIdentification = device_identification attributes.array attributes.host lun
-vpd_data attributes lun BlockLimits = block_limits attributes.block_sectors
-vpd_data attributes lun BlockDeviceCharacteristics = block_device_characteristics
-vpd_data attributes lun LogicalBlockProvisioning = logical_block_provisioning
+-- the page of the unit at a LUN, of this generation
+abbrev pub vpd_data : Attributes → ℕ → ℕ → VpdPage → List ℕ
+vpd_data attributes lun generation SupportedPages = supported_pages
+vpd_data attributes lun generation UnitSerialNumber =
+    unit_serial_number attributes.array attributes.host lun generation
+vpd_data attributes lun generation DeviceIdentification =
+    device_identification attributes.array attributes.host lun generation
+vpd_data attributes lun generation BlockLimits = block_limits attributes.block_sectors
+vpd_data attributes lun generation BlockDeviceCharacteristics = block_device_characteristics
+vpd_data attributes lun generation LogicalBlockProvisioning = logical_block_provisioning

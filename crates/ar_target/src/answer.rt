@@ -44,16 +44,17 @@ pub(crate) fn answer_vpd(
     alloc: Global,
     attributes: &Attributes,
     lun: u8,
+    generation: u16,
     page: VpdPage,
     len: u16,
     own_reply: Reply,
 ) -> Reply
     requires { IsReply own_reply }
-    ensures answer { IsReturned (answer.vpd_answer attributes.now lun page len own_reply) result }
+    ensures answer { IsReturned (answer.vpd_answer attributes.now lun generation page len own_reply) result }
     ensures reply { IsReply result }
 {
     match presence(&own_reply) {
-        Some(true) => page_reply(alloc, attributes, lun, page, usize::from(len)),
+        Some(true) => page_reply(alloc, attributes, lun, generation, page, usize::from(len)),
         Some(false) => absent_page_reply(alloc, page, usize::from(len)),
         None => handed_on(own_reply),
     }
@@ -72,19 +73,34 @@ fn absent_page_reply(alloc: Global, page: VpdPage, len: usize) -> Reply
 }
 
 // GOOD with the first `len` bytes of a page.
-fn page_reply(alloc: Global, attributes: &Attributes, lun: u8, page: VpdPage, len: usize) -> Reply
+fn page_reply(
+    alloc: Global,
+    attributes: &Attributes,
+    lun: u8,
+    generation: u16,
+    page: VpdPage,
+    len: usize,
+) -> Reply
     requires { len < 65536 }
-    ensures answer { IsReturned (good (take len (vpd.vpd_data attributes.now lun page))) result }
+    ensures answer { IsReturned (good (take len (vpd.vpd_data attributes.now lun generation page))) result }
     ensures reply { IsReply result }
 {
     let (array, host) = (attributes.array, attributes.host);
     match page {
         VpdPage::SupportedPages => cut_reply(alloc, &supported_pages(), len),
         VpdPage::UnitSerialNumber => {
-            cut_reply(alloc, &unit_serial_number(array, host, lun), len)
+            cut_reply(
+                alloc,
+                &unit_serial_number(array, host, lun, generation),
+                len,
+            )
         }
         VpdPage::DeviceIdentification => {
-            cut_reply(alloc, &device_identification(array, host, lun), len)
+            cut_reply(
+                alloc,
+                &device_identification(array, host, lun, generation),
+                len,
+            )
         }
         VpdPage::BlockLimits => cut_reply(alloc, &block_limits(attributes.block_sectors), len),
         VpdPage::BlockDeviceCharacteristics => {

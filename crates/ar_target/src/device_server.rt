@@ -54,12 +54,13 @@ impl<P> DeviceServer<P> {
 }
 
 impl<P: DiscardPort> DeviceServer<P> {
-    // Answers a command, once the session has looked whether the inventory of the host's units has changed.
-    fn answer(&mut self, lun: u8, cdb: &[u8; 16], payload: Bytes) -> Reply
+    // Answers a command, once the session has looked whether the inventory of the host's units has changed, and of
+    // which generation the unit is.
+    fn answer(&mut self, lun: u8, generation: u16, cdb: &[u8; 16], payload: Bytes) -> Reply
         requires { P.has_login self.old.port ≡ true }
         ensures serves { ServesAsDevice P.commands P.flushes (record { discards = P.discards; runs = P.runs })
-            (record { attributes = self.old.attributes; pending = self.old.pending; port = self.old.port }) lun cdb.now
-            payload result
+            (record { attributes = self.old.attributes; pending = self.old.pending; port = self.old.port }) lun
+            generation cdb.now payload result
             (record { attributes = self.new.attributes; pending = self.new.pending; port = self.new.port }) }
         ensures reply { IsReply result }
         ensures stays { P.has_login self.new.port ≡ true }
@@ -83,6 +84,7 @@ impl<P: DiscardPort> DeviceServer<P> {
             &attributes,
             request,
             lun,
+            generation,
             cdb,
             payload,
         );
@@ -101,7 +103,8 @@ impl<P: DiscardPort + InventoryPort> Port for DeviceServer<P> {
         (record { attributes = new.attributes; pending = new.pending; port = new.port }) };
 
     ghost commands = { λ old lun cdb payload reply new. ServesAfterLook P.commands P.flushes
-        (record { discards = P.discards; runs = P.runs }) P.counts
+        (record { discards = P.discards; runs = P.runs })
+        (record { counts = P.counts; generations = P.generations })
         (record { attributes = old.attributes; pending = old.pending; port = old.port }) lun cdb payload reply
         (record { attributes = new.attributes; pending = new.pending; port = new.port }) };
 
@@ -117,7 +120,8 @@ impl<P: DiscardPort + InventoryPort> Port for DeviceServer<P> {
     fn command(&mut self, lun: u8, cdb: &[u8; 16], payload: Bytes) -> Reply {
         let count = self.port.changes();
         look(&mut self.pending, count);
-        self.answer(lun, cdb, payload)
+        let generation = self.port.generation(lun);
+        self.answer(lun, generation, cdb, payload)
     }
 
     fn refuse(&mut self, cdb: &[u8; 16]) -> Reply {

@@ -53,7 +53,7 @@ pub fn commands_are_given()
     ensures { CommandsAreGiven }
 {}
 
-/// Law: units of different arrays, hosts or LUNs have different names, serial numbers and designators.
+/// Law: units of different arrays, hosts, LUNs or generations have different names, serial numbers and designators.
 pub fn names_differ()
     ensures { NamesDiffer }
 {}

@@ -20,21 +20,22 @@ use ar_scsi::{Reply, Sense};
 use bytes::Bytes;
 use std::alloc::Global;
 
-/// Does what a request asks for at the unit of `lun`. `cdb` is its command block, and `payload` the data that came with
-/// it, which the device server's own requests ignore.
+/// Does what a request asks for at the unit of `lun`, which is of this generation. `cdb` is its command block, and
+/// `payload` the data that came with it, which the device server's own requests ignore.
 pub(crate) fn serve<P: DiscardPort>(
     alloc: Global,
     port: &mut P,
     attributes: &Attributes,
     request: Request,
     lun: u8,
+    generation: u16,
     cdb: &[u8; 16],
     payload: Bytes,
 ) -> Reply
     requires logged { P.has_login port.old ≡ true }
     requires suits { SuitsRequest request }
     ensures answers { serving.MeetsRequest P.commands P.flushes (record { discards = P.discards; runs = P.runs })
-        attributes.now request port.old lun cdb.now payload result port.new }
+        attributes.now request port.old lun generation cdb.now payload result port.new }
     ensures reply { IsReply result }
     ensures stays { P.has_login port.new ≡ true }
 {
@@ -52,7 +53,15 @@ pub(crate) fn serve<P: DiscardPort>(
         Request::InvalidAtTarget(sense) => Reply::check(sense),
         Request::InvalidAtUnit(sense) => refuse(sense, ask(port, lun, &CAPACITY)),
         Request::Vpd { page, len } => {
-            answer_vpd(alloc, attributes, lun, page, len, ask(port, lun, &INQUIRY))
+            answer_vpd(
+                alloc,
+                attributes,
+                lun,
+                generation,
+                page,
+                len,
+                ask(port, lun, &INQUIRY),
+            )
         }
         Request::ReportLuns { len } => report_luns(alloc, port, len),
         Request::ReportWellKnown { len } => list_reply(alloc, &[], len as usize),

@@ -29,11 +29,12 @@ fn hex_digit(value: u8) -> u8
     }
 }
 
-/// The serial number of a unit: its array, host and LUN in hexadecimal digits.
-pub fn serial_number(array: u32, host: u8, lun: u8) -> [u8; 12]
-    ensures { result ≡ page.serial_number array host lun }
+/// The serial number of a unit: its array, host, LUN and generation in hexadecimal digits.
+pub fn serial_number(array: u32, host: u8, lun: u8, generation: u16) -> [u8; 16]
+    ensures { result ≡ page.serial_number array host lun generation }
 {
     let number = array.to_be_bytes();
+    let made = generation.to_be_bytes();
     [
         hex_digit(number[0] / 16),
         hex_digit(number[0] % 16),
@@ -47,47 +48,68 @@ pub fn serial_number(array: u32, host: u8, lun: u8) -> [u8; 12]
         hex_digit(host % 16),
         hex_digit(lun / 16),
         hex_digit(lun % 16),
+        hex_digit(made[0] / 16),
+        hex_digit(made[0] % 16),
+        hex_digit(made[1] / 16),
+        hex_digit(made[1] % 16),
     ]
 }
 
 /// Unit Serial Number (SPC-3, Unit Serial Number VPD page).
 #[tactic(auto, unfolding(crate::specs::Vpd::unit_serial_number))]
-pub(crate) fn unit_serial_number(array: u32, host: u8, lun: u8) -> [u8; 16]
-    ensures { result ≡ page.unit_serial_number array host lun }
+pub(crate) fn unit_serial_number(array: u32, host: u8, lun: u8, generation: u16) -> [u8; 20]
+    ensures { result ≡ page.unit_serial_number array host lun generation }
 {
-    let mut bytes = [0; 16];
+    let mut bytes = [0; 20];
     bytes[1] = 0x80;
-    bytes[3] = 0x0C;
-    bytes[4..].copy_from_slice(&serial_number(array, host, lun));
+    bytes[3] = 0x10;
+    bytes[4..].copy_from_slice(&serial_number(array, host, lun, generation));
     bytes
 }
 
 /// Device Identification (SPC-3, Device Identification VPD page): a T10 vendor ID based designator of the unit, an NAA
 /// Locally Assigned one, and three of the target port.
 #[tactic(auto, unfolding(crate::specs::Vpd::device_identification))]
-pub(crate) fn device_identification(array: u32, host: u8, lun: u8) -> [u8; 104]
-    ensures { result ≡ page.device_identification array host lun }
+pub(crate) fn device_identification(array: u32, host: u8, lun: u8, generation: u16) -> [u8; 108]
+    ensures { result ≡ page.device_identification array host lun generation }
 {
-    let mut bytes = [0; 104];
+    let mut bytes = [0; 108];
     bytes[1] = 0x83;
-    bytes[3] = 0x64;
-    bytes[4..40].copy_from_slice(&unit_designators(array, host, lun));
-    bytes[40..].copy_from_slice(&port_designators(host));
+    bytes[3] = 0x68;
+    bytes[4..44].copy_from_slice(&unit_designators(array, host, lun, generation));
+    bytes[44..].copy_from_slice(&port_designators(host));
     bytes
 }
 
 // The designators of the logical unit.
-fn unit_designators(array: u32, host: u8, lun: u8) -> [u8; 36]
-    ensures { result ≡ page.unit_designators array host lun }
+fn unit_designators(array: u32, host: u8, lun: u8, generation: u16) -> [u8; 40]
+    ensures { result ≡ page.unit_designators array host lun generation }
 {
-    let s = serial_number(array, host, lun);
+    let mut bytes = [0; 40];
+    bytes[..12].copy_from_slice(b"\x02\x01\x00\x18AUTORAID");
+    bytes[12..28].copy_from_slice(&serial_number(array, host, lun, generation));
+    bytes[28..].copy_from_slice(&naa_designator(array, host, lun, generation));
+    bytes
+}
+
+// The NAA designator of the logical unit, which has twelve bits of the generation.
+fn naa_designator(array: u32, host: u8, lun: u8, generation: u16) -> [u8; 12]
+    ensures { result ≡ page.naa_designator array host lun generation }
+{
     let number = array.to_be_bytes();
+    let [first, second] = naa_front(generation % 4096);
     [
-        0x02, 0x01, 0x00, 0x14, b'A', b'U', b'T', b'O', b'R', b'A', b'I', b'D', //
-        s[0], s[1], s[2], s[3], s[4], s[5], s[6], s[7], s[8], s[9], s[10], s[11], //
-        0x01, 0x03, 0x00, 0x08, 0x30, 0x41, //
-        number[0], number[1], number[2], number[3], host, lun,
+        0x01, 0x03, 0x00, 0x08, first, second, number[0], number[1], number[2], number[3], host,
+        lun,
     ]
+}
+
+// NAA 3h, and the twelve bits of a generation.
+fn naa_front(short: u16) -> [u8; 2]
+    requires { short < 4096 }
+    ensures { result ≡ page.naa_front short }
+{
+    [0x30 + (short / 256) as u8, (short % 256) as u8]
 }
 
 // The designators of the target port of a host.

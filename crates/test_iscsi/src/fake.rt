@@ -160,6 +160,12 @@ impl InventoryPort for Fake {
     fn changes(&self) -> u64 {
         0
     }
+
+    ghost generations = { λ port lun generation. Unit {0} };
+
+    fn generation(&self, _lun: u8) -> u16 {
+        0
+    }
 }
 
 impl FlushPort for Fake {

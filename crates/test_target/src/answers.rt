@@ -117,12 +117,13 @@ static STANDARD: &[u8] = b"\x00\x00\x05\x02\x45\x10\x00\x02AUTORAIDTWO LEVEL ARR
 
 // The Device Identification page of host 2's LUN 3.
 static NAMES: &[u8] = &[
-    0x00, 0x83, 0x00, 0x64, // 100 bytes of designators
-    0x02, 0x01, 0x00, 0x14, // in ASCII, of the logical unit, T10 vendor ID based, 20 bytes
+    0x00, 0x83, 0x00, 0x68, // 104 bytes of designators
+    0x02, 0x01, 0x00, 0x18, // in ASCII, of the logical unit, T10 vendor ID based, 24 bytes
     b'A', b'U', b'T', b'O', b'R', b'A', b'I', b'D', //
     b'0', b'0', b'0', b'0', b'0', b'C', b'B', b'C', b'0', b'2', b'0', b'3', //
+    b'0', b'0', b'0', b'0', //
     0x01, 0x03, 0x00, 0x08, // in binary, of the logical unit, NAA, 8 bytes
-    0x30, 0x41, 0x00, 0x00, 0x0C, 0xBC, 0x02, 0x03, //
+    0x30, 0x00, 0x00, 0x00, 0x0C, 0xBC, 0x02, 0x03, //
     0x51, 0x94, 0x00, 0x04, // in binary, of the target port over iSCSI, relative target port, 4 bytes
     0x00, 0x00, 0x00, 0x01, //
     0x51, 0x95, 0x00, 0x04, // in binary, of the target port, target port group, 4 bytes
@@ -162,12 +163,12 @@ fn pages_of_vital_product_data(rt: HostRuntime) {
             (
                 0,
                 &[0x12, 1, 0x80, 1, 0],
-                Good(b"\x00\x80\x00\x0C00000CBC0200"),
+                Good(b"\x00\x80\x00\x1000000CBC02000000"),
             ),
             (
                 3,
                 &[0x12, 1, 0x80, 1, 0],
-                Good(b"\x00\x80\x00\x0C00000CBC0203"),
+                Good(b"\x00\x80\x00\x1000000CBC02030000"),
             ),
             (3, &[0x12, 1, 0x83, 0, 255], Good(NAMES)),
             (0, &[0x12, 1, 0xB0, 0, 255], Good(LIMITS)),
@@ -416,7 +417,7 @@ fn each_unit_reports_a_new_session_once(rt: HostRuntime) {
         &rt,
         &mut server,
         &[
-            (0, &[0x12, 1, 0x80, 0, 4], Good(&[0, 0x80, 0, 0x0C])),
+            (0, &[0x12, 1, 0x80, 0, 4], Good(&[0, 0x80, 0, 0x10])),
             (0, &[0x12, 0, 0, 0, 36], Good(&STANDARD[..36])),
             (0, &[0x12, 0, 0, 0, 96], Good(STANDARD)),
             (0, &[0x12, 0, 0, 0, 60], Good(&STANDARD[..60])),
@@ -449,7 +450,7 @@ fn request_sense_reports_a_unit_attention(rt: HostRuntime) {
         &rt,
         &mut server,
         &[
-            (0, &[0x12, 1, 0x80, 0, 4], Good(&[0, 0x80, 0, 0x0C])),
+            (0, &[0x12, 1, 0x80, 0, 4], Good(&[0, 0x80, 0, 0x10])),
             (0, &[0xA0, 0, 0, 0, 0, 0, 0, 0, 0, 16], Good(&LUNS[..16])),
             (
                 0,

@@ -24,6 +24,8 @@ pub struct Fake {
     pub discarded: u64,
     // How often units were made or removed.
     pub changes: u64,
+    // How many units were made at LUN 3 before the one that is there.
+    pub generation: u16,
 }
 
 impl Fake {
@@ -38,6 +40,7 @@ impl Fake {
             flushes: 0,
             discarded: 0,
             changes: 0,
+            generation: 0,
         }
     }
 }
@@ -116,6 +119,16 @@ impl InventoryPort for Fake {
 
     fn changes(&self) -> u64 {
         self.changes
+    }
+
+    ghost generations = { λ port lun generation. Unit {0} };
+
+    // Units were made at LUN 3 before.
+    fn generation(&self, lun: u8) -> u16 {
+        match lun {
+            3 => self.generation,
+            _ => 0,
+        }
     }
 }
 

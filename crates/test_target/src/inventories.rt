@@ -120,3 +120,33 @@ fn a_new_session_covers_a_change(rt: HostRuntime) {
     );
     drop(server);
 }
+
+// A unit that was made after 4,114 others, 1012h, at its LUN: its serial number has all of that, the NAA designator
+// twelve bits.
+#[test]
+fn a_unit_made_anew_has_another_name(rt: HostRuntime) {
+    let mut server = settled(&rt, rt.alloc(), false);
+    server.port.generation = 0x1012;
+    play(
+        &rt,
+        &mut server,
+        &[
+            (
+                3,
+                &[0x12, 1, 0x80, 1, 0],
+                Good(b"\x00\x80\x00\x1000000CBC02031012"),
+            ),
+            (3, &[0x12, 1, 0x83, 0, 44], Good(SHORT_NAMES)),
+            (
+                0,
+                &[0x12, 1, 0x80, 1, 0],
+                Good(b"\x00\x80\x00\x1000000CBC02000000"),
+            ),
+        ],
+    );
+    drop(server);
+}
+
+// The designators of its logical unit: T10 vendor ID based, and NAA 3h.
+static SHORT_NAMES: &[u8] =
+    b"\x00\x83\x00\x68\x02\x01\x00\x18AUTORAID00000CBC02031012\x01\x03\x00\x08\x30\x12\x00\x00\x0C\xBC\x02\x03";
