@@ -16,9 +16,12 @@ use Rattle.ar_record.proofs.Fields.{wide_number_takes, wide_number_again, bytes_
 use Rattle.ar_compaction.specs.declared.head.HeadError.{HeadError}
 use Rattle.ar_compaction.specs.declared.head.HeadError.TheVariants.{OtherVersion}
 use Rattle.ar_compaction.specs.declared.head.StoreHead.{StoreHead}
-use Rattle.ar_compaction.specs.Head.{HeadData, IsHead, geometry_byte, head_data, head_encoding}
-use Rattle.ar_compaction.specs.HeadReading.{fields_at, geometry_at, head_with, shape_at, name_at, or_invalid}
+use Rattle.ar_compaction.specs.Head.{HeadData, IsEncodingOf, IsHead, fields_of, former_encoding, geometry_byte}
+use Rattle.ar_compaction.specs.Head.{head_data, head_encoding, makes_part}
+use Rattle.ar_compaction.specs.HeadReading.{fields_at, geometry_at, head_with, makes_field_at, shape_at, name_at}
+use Rattle.ar_compaction.specs.HeadReading.{or_invalid}
 use Rattle.ar_compaction.specs.HeadReading.{HeadReadsAs, head_decoded}
+use Rattle.ar_compaction.specs.Makes.{no_makes}
 
 -- ---- a number of two bytes
 
@@ -113,64 +116,95 @@ name_takes (count ∷ rest) name e =
 name_again : (name : List ℕ) → length name ≤ 64 → name_at (length name ∷ name) ≡ Some name
 name_again name short = rw (le-ltb 64 (length name) short, eq-eqb (length name) (length name) refl) refl
 
+-- ---- the units made
+
+-- what is read of them is what the version has, and zeros where it is the former one
+record TakesMakes (is_former : Bool) (bytes : List ℕ) (x : List ℕ × List ℕ) : Type 0 where
+  taken : Takes bytes (makes_part is_former x.0) x.1
+  len : length x.0 ≡ 64
+  none : is_former ≡ true → x.0 ≡ no_makes
+
+makes_takes : (is_former : Bool) (bytes : List ℕ) (x : List ℕ × List ℕ) → IsBytes bytes
+    → makes_field_at is_former bytes ≡ Some x → TakesMakes is_former bytes x
+makes_takes true bytes x fits e =
+    subst (λ (y : List ℕ × List ℕ). TakesMakes true bytes y) (some_is (no_makes, bytes) x e)
+    (record { taken = record { parts = refl; rest_fits = fits }; len = refl; none = λ _. refl })
+makes_takes false bytes x fits e =
+    let t = bytes_take 64 bytes x fits e in record { taken = t.0; len = t.1; none = λ none. absurd cc }
+
+makes_again : (is_former : Bool) (makes rest : List ℕ) → length makes ≡ 64 → (is_former ≡ true → makes ≡ no_makes)
+    → makes_field_at is_former (makes_part is_former makes ++ rest) ≡ Some (makes, rest)
+makes_again true makes rest len none = ap (λ (m : List ℕ). Some (m, rest)) (sym (none refl))
+makes_again false makes rest len none = bytes_again 64 makes rest len
+
 -- ---- all fields
 
--- the bytes after the version
-abbrev fields_of : HeadData → List ℕ
-fields_of head =
-    to_be_bytes w64 head.generation ++ (head.identity ++ (geometry_byte head.geometry ∷ head.disks ∷ []
-    ++ (to_be_bytes w16 head.extents ++ length head.name ∷ head.name)))
+-- what the fields of a version are those of
+record AreFields (is_former : Bool) (bytes : List ℕ) (head : HeadData) : Type 0 where
+  is : IsHead head
+  bytes_are : bytes ≡ fields_of is_former head
+  none : is_former ≡ true → head.makes ≡ no_makes
 
-fields_take : (bytes : List ℕ) (head : HeadData) → IsBytes bytes → fields_at bytes ≡ Some head
-    → IsHead head × (bytes ≡ fields_of head)
+fields_take : (is_former : Bool) (bytes : List ℕ) (head : HeadData) → IsBytes bytes
+    → fields_at is_former bytes ≡ Some head → AreFields is_former bytes head
 unfolding fields_at
-fields_take bytes head fits e =
+fields_take is_former bytes head fits e =
     let a = bind_some (number_at w64 bytes)
     (λ generation. bytes_at 16 generation.1 >>= λ identity. shape_at identity.1 >>= λ shape. number_at w16 shape.1
-    >>= λ extents. name_at extents.1 >>= λ name. Some
-    (head_with generation.0 identity.0 shape.0 extents.0 name)) head e in
+    >>= λ extents. makes_field_at is_former extents.1 >>= λ makes. name_at makes.1 >>= λ name. Some
+    (head_with generation.0 identity.0 shape.0 extents.0 makes.0 name)) head e in
     let b = bind_some (bytes_at 16 a.0.1)
-    (λ identity. shape_at identity.1 >>= λ shape. number_at w16 shape.1 >>= λ extents. name_at extents.1 >>= λ name.
-    Some (head_with a.0.0 identity.0 shape.0 extents.0 name)) head a.2 in
+    (λ identity. shape_at identity.1 >>= λ shape. number_at w16 shape.1
+    >>= λ extents. makes_field_at is_former extents.1 >>= λ makes. name_at makes.1 >>= λ name.
+    Some (head_with a.0.0 identity.0 shape.0 extents.0 makes.0 name)) head a.2 in
     let c = bind_some (shape_at b.0.1)
-    (λ shape. number_at w16 shape.1 >>= λ extents. name_at extents.1 >>= λ name. Some
-    (head_with a.0.0 b.0.0 shape.0 extents.0 name)) head b.2 in
+    (λ shape. number_at w16 shape.1 >>= λ extents. makes_field_at is_former extents.1 >>= λ makes. name_at makes.1
+    >>= λ name. Some (head_with a.0.0 b.0.0 shape.0 extents.0 makes.0 name)) head b.2 in
     let d = bind_some (number_at w16 c.0.1)
-    (λ extents. name_at extents.1 >>= λ name. Some (head_with a.0.0 b.0.0 c.0.0 extents.0 name)) head c.2 in
-    let n = bind_some (name_at d.0.1) (λ name. Some (head_with a.0.0 b.0.0 c.0.0 d.0.0 name)) head d.2 in
+    (λ extents. makes_field_at is_former extents.1 >>= λ makes. name_at makes.1 >>= λ name. Some
+    (head_with a.0.0 b.0.0 c.0.0 extents.0 makes.0 name)) head c.2 in
+    let m = bind_some (makes_field_at is_former d.0.1)
+    (λ makes. name_at makes.1 >>= λ name. Some (head_with a.0.0 b.0.0 c.0.0 d.0.0 makes.0 name)) head d.2 in
+    let n = bind_some (name_at m.0.1) (λ name. Some (head_with a.0.0 b.0.0 c.0.0 d.0.0 m.0.0 name)) head m.2 in
     let t0 = wide_number_takes bytes a.0 fits a.1 in
     let t1 = bytes_take 16 a.0.1 b.0 t0.0.rest_fits b.1 in
     let t2 = shape_takes b.0.1 c.0 t1.0.rest_fits c.1 in
     let t3 = short_takes c.0.1 d.0 t2.0.rest_fits d.1 in
-    let t4 = name_takes d.0.1 n.0 n.1 in
+    let t4 = makes_takes is_former d.0.1 m.0 t3.0.rest_fits m.1 in
+    let t5 = name_takes m.0.1 n.0 n.1 in
     let shape : List ℕ = geometry_byte c.0.0.0 ∷ c.0.0.1 ∷ [] in
-    let whole : bytes ≡ to_be_bytes w64 a.0.0 ++ (b.0.0 ++ (shape ++ (to_be_bytes w16 d.0.0 ++ length n.0 ∷ n.0))) =
+    let made : HeadData = head_with a.0.0 b.0.0 c.0.0 d.0.0 m.0.0 n.0 in
+    let whole : bytes ≡ fields_of is_former made =
     t0.0.parts ∙ ap (λ (l : List ℕ). to_be_bytes w64 a.0.0 ++ l)
     (t1.0.parts ∙ ap (λ (l : List ℕ). b.0.0 ++ l)
     (t2.0.parts ∙ ap (λ (l : List ℕ). shape ++ l)
-    (t3.0.parts ∙ ap (λ (l : List ℕ). to_be_bytes w16 d.0.0 ++ l) t4.0))) in
-    let made : HeadData = head_with a.0.0 b.0.0 c.0.0 d.0.0 n.0 in
+    (t3.0.parts ∙ ap (λ (l : List ℕ). to_be_bytes w16 d.0.0 ++ l)
+    (t4.taken.parts ∙ ap (λ (l : List ℕ). makes_part is_former m.0.0 ++ l) t5.0)))) in
     let is : IsHead made = record {
       generation_fits = t0.1;
       identity_len = t1.1;
       disks_fit = t2.1;
       extents_fit = t3.1;
-      name_short = t4.1;
+      makes_len = t4.len;
+      name_short = t5.1;
     } in
-    subst (λ (h : HeadData). IsHead h × (bytes ≡ fields_of h))
-    (some_is made head n.2) (is, whole)
+    subst (λ (h : HeadData). AreFields is_former bytes h)
+    (some_is made head n.2) (record { is = is; bytes_are = whole; none = t4.none })
 
-fields_again : (head : HeadData) → IsHead head → fields_at (fields_of head) ≡ Some head
+fields_again : (is_former : Bool) (head : HeadData) → IsHead head → (is_former ≡ true → head.makes ≡ no_makes)
+    → fields_at is_former (fields_of is_former head) ≡ Some head
 unfolding fields_at
-fields_again head is =
+fields_again is_former head is none =
     let name = length head.name ∷ head.name in
-    let extents = to_be_bytes w16 head.extents ++ name in
+    let makes = makes_part is_former head.makes ++ name in
+    let extents = to_be_bytes w16 head.extents ++ makes in
     let shape = geometry_byte head.geometry ∷ head.disks ∷ [] ++ extents in
     rw (
       wide_number_again head.generation (head.identity ++ shape) is.generation_fits,
       bytes_again 16 head.identity shape is.identity_len,
       geometry_again head.geometry,
-      short_again head.extents name is.extents_fit,
+      short_again head.extents makes is.extents_fit,
+      makes_again is_former head.makes name is.makes_len none,
       name_again head.name is.name_short,
     ) refl
 
@@ -181,22 +215,37 @@ or_some None head e = absurd cc
 or_some (Some h) head e = cc
 
 head_takes : (bytes : List ℕ) (head : HeadData) → IsBytes bytes → head_decoded bytes ≡ Ok head
-    → IsHead head × (bytes ≡ head_encoding head)
+    → IsHead head × IsEncodingOf head bytes
 head_takes [] head fits e = absurd cc
-head_takes (version ∷ bytes) head fits e = by (eqb version 1) refl e
+head_takes (version ∷ bytes) head fits e = by (eqb version 1) refl (eqb version 2) refl e
   where
-    by : (p : Bool) → eqb version 1 ≡ p → cond p (or_invalid (fields_at bytes)) (Err OtherVersion) ≡ Ok head
-        → IsHead head × (version ∷ bytes ≡ head_encoding head)
-    by true f e =
-        let t = fields_take bytes head (IsBytes-rest version bytes fits) (or_some (fields_at bytes) head e) in
-        (t.0, ap (λ (v : ℕ). v ∷ bytes) (eqb-true version 1 f) ∙ ap (λ (l : List ℕ). 1 ∷ l) t.1)
-    by false f e = absurd cc
+    by : (p : Bool) → eqb version 1 ≡ p → (q : Bool) → eqb version 2 ≡ q
+        → cond p (or_invalid (fields_at true bytes)) (cond q (or_invalid (fields_at false bytes)) (Err OtherVersion))
+        ≡ Ok head
+        → IsHead head × IsEncodingOf head (version ∷ bytes)
+    by true f q g e =
+        let t =
+        fields_take true bytes head (IsBytes-rest version bytes fits) (or_some (fields_at true bytes) head e) in (
+          t.is,
+          inr (ap (λ (v : ℕ). v ∷ bytes) (eqb-true version 1 f) ∙ ap (λ (l : List ℕ). 1 ∷ l) t.bytes_are, t.none refl),
+        )
+    by false f true g e =
+        let t =
+        fields_take false bytes head (IsBytes-rest version bytes fits) (or_some (fields_at false bytes) head e) in (
+          t.is,
+          inl (ap (λ (v : ℕ). v ∷ bytes) (eqb-true version 2 g) ∙ ap (λ (l : List ℕ). 2 ∷ l) t.bytes_are),
+        )
+    by false f false g e = absurd cc
 
 pub head_found : (bytes : List ℕ) (r : Result StoreHead HeadError) → IsBytes bytes
     → HeadReadsAs head_data r (head_decoded bytes)
-    → IfOk r (λ found. IsHead (head_data found) × (bytes ≡ head_encoding (head_data found)))
+    → IfOk r (λ found. IsHead (head_data found) × IsEncodingOf (head_data found) bytes)
 head_found bytes (Ok found) fits given = head_takes bytes (head_data found) fits given
 head_found bytes (Err e) fits given = tt
 
 pub head_again : (head : HeadData) → IsHead head → head_decoded (head_encoding head) ≡ Ok head
-head_again head is = ap or_invalid (fields_again head is)
+head_again head is = ap or_invalid (fields_again false head is (λ former. absurd cc))
+
+pub former_again : (head : HeadData) → IsHead head → head.makes ≡ no_makes
+    → head_decoded (former_encoding head) ≡ Ok head
+former_again head is none = ap or_invalid (fields_again true head is (λ _. none))

@@ -1,6 +1,6 @@
 -- The head that bytes are the encoding of. There is none where a field is cut short or unknown, or bytes follow.
-use Rattle.std.specs.Prelude.{◌≡◌, ◌==◌, ℕ, nat_lt, List, [], ◌∷◌, length, Option, Some, None, Result, Ok, Err}
-use Rattle.std.specs.Prelude.{if◌then◌else◌}
+use Rattle.std.specs.Prelude.{◌≡◌, ◌==◌, ℕ, Bool, true, false, nat_lt, List, [], ◌∷◌, length, Option, Some, None}
+use Rattle.std.specs.Prelude.{if◌then◌else◌, Result, Ok, Err}
 use Rattle.std.specs.Int.{w16, w64}
 use Rattle.ar_disks.specs.declared.geometry.Geometry.{Geometry}
 use Rattle.ar_disks.specs.declared.geometry.Geometry.TheVariants.{Paper, Small}
@@ -8,6 +8,7 @@ use Rattle.ar_record.specs.Reading.{◌>>=◌, bytes_at, number_at}
 use Rattle.ar_compaction.specs.declared.head.HeadError.{HeadError}
 use Rattle.ar_compaction.specs.declared.head.HeadError.TheVariants.{NoMemory, OtherVersion, Invalid}
 use Rattle.ar_compaction.specs.Head.{HeadData}
+use Rattle.ar_compaction.specs.Makes.{no_makes}
 
 -- the geometry of a byte
 abbrev pub geometry_at : ℕ → Option Geometry
@@ -25,26 +26,33 @@ abbrev pub name_at : List ℕ → Option (List ℕ)
 name_at [] = None
 name_at (count ∷ name) = if nat_lt 64 count then None else (if length name == count then Some name else None)
 
+-- the numbers of units made, which the former version lacks
+abbrev pub makes_field_at : Bool → List ℕ → Option (List ℕ × List ℕ)
+makes_field_at true bytes = Some (no_makes, bytes)
+makes_field_at false bytes = bytes_at 64 bytes
+
 -- a head by its fields
-abbrev pub head_with : ℕ → List ℕ → Geometry × ℕ → ℕ → List ℕ → HeadData
-head_with generation identity shape extents name = record {
+abbrev pub head_with : ℕ → List ℕ → Geometry × ℕ → ℕ → List ℕ → List ℕ → HeadData
+head_with generation identity shape extents makes name = record {
   generation = generation;
   identity = identity;
   geometry = shape.0;
   disks = shape.1;
   extents = extents;
+  makes = makes;
   name = name;
 }
 
--- the fields after the version
-unfoldable pub fields_at : List ℕ → Option HeadData
-fields_at bytes = do
+-- the fields after the version, which may be the former one
+unfoldable pub fields_at : Bool → List ℕ → Option HeadData
+fields_at is_former bytes = do
   generation ← number_at w64 bytes
   identity ← bytes_at 16 generation.1
   shape ← shape_at identity.1
   extents ← number_at w16 shape.1
-  name ← name_at extents.1
-  Some (head_with generation.0 identity.0 shape.0 extents.0 name)
+  makes ← makes_field_at is_former extents.1
+  name ← name_at makes.1
+  Some (head_with generation.0 identity.0 shape.0 extents.0 makes.0 name)
 
 -- what a reader of a part returned, seen by `view`, is what reading gives, unless out of memory
 abbrev pub PartFailsAs : {Y : Type 0} → HeadError → Option Y → Type 0
@@ -61,10 +69,12 @@ abbrev pub or_invalid : Option HeadData → Result HeadData HeadError
 or_invalid None = Err Invalid
 or_invalid (Some head) = Ok head
 
--- a head, of this version
+-- a head, of this version or the former one
 abbrev pub head_decoded : List ℕ → Result HeadData HeadError
 head_decoded [] = Err Invalid
-head_decoded (version ∷ bytes) = if version == 1 then or_invalid (fields_at bytes) else Err OtherVersion
+head_decoded (version ∷ bytes) =
+    if version == 1 then or_invalid (fields_at true bytes)
+    else (if version == 2 then or_invalid (fields_at false bytes) else Err OtherVersion)
 
 -- the same of a whole head
 abbrev pub HeadFailsAs : HeadError → Result HeadData HeadError → Type 0

@@ -6,6 +6,7 @@ pub mod Contents
 pub mod Giving
 pub mod Head
 pub mod HeadReading
+pub mod Makes
 pub mod RecordsFields
 pub mod ReplayFields
 pub mod Replaying

@@ -1,14 +1,21 @@
-// The head of a store's log: whose log it is, and the shape of its array. A number of several bytes is big-endian:
+// The head of a store's log: whose log it is, the shape of its array, and how many units were made before. A number of
+// several bytes is big-endian:
 //
-//     version, 1 byte (1) | generation, 8 | identity, 16 | geometry, 1 (0 paper, 1 small) | disks, 1
-//     | extents of a disk, 2 | length of the name, 1 (at most 64) | name
+//     version, 1 byte (2) | generation, 8 | identity, 16 | geometry, 1 (0 paper, 1 small) | disks, 1
+//     | extents of a disk, 2 | units made at each of 32 addresses, 64 | length of the name, 1 (at most 64) | name
+//
+// A head of version 1 has no numbers of units made, which are read as zeros; none is written any more.
 ghost use Rattle.std.specs.Prelude.{◌≡◌, ◌≤◌, IfOk, length};
 ghost use Rattle.std.specs.Int.{w16, w64};
 ghost use Rattle.ar_record.specs.Reading.{bytes_at, number_at};
 ghost use Rattle.ar_compaction.specs.declared.head.HeadError.TheVariants.{NoMemory};
-ghost use Rattle.ar_compaction.specs.Head.{HeadData, IsHead, geometry_byte, head_data, head_encoding};
-ghost use Rattle.ar_compaction.specs.HeadReading.{HeadReadsAs, PartReadsAs, fields_at, head_decoded, name_at, shape_at};
+ghost use Rattle.ar_compaction.specs.Head.{HeadData, IsEncodingOf, IsHead, former_encoding, geometry_byte, head_data};
+ghost use Rattle.ar_compaction.specs.Head.{head_encoding};
+ghost use Rattle.ar_compaction.specs.HeadReading.{HeadReadsAs, PartReadsAs, fields_at, head_decoded, makes_field_at};
+ghost use Rattle.ar_compaction.specs.HeadReading.{name_at, shape_at};
+ghost use Rattle.ar_compaction.specs.Makes.{no_makes};
 
+use crate::Makes;
 use ar_disks::Geometry;
 use std::alloc::{AllocError, Global};
 
@@ -16,7 +23,10 @@ use std::alloc::{AllocError, Global};
 pub const MAX_NAME: usize = 64;
 
 // The version of this layout, and of the records after it.
-const VERSION: u8 = 1;
+const VERSION: u8 = 2;
+
+// The version without the units made.
+const FORMER_VERSION: u8 = 1;
 
 /// What a store's log begins with.
 #[derive(Debug, Drop)]
@@ -31,6 +41,8 @@ pub struct StoreHead {
     pub disks: u8,
     /// The extents of each disk.
     pub extents: u16,
+    /// How many units were made at each address that the log's own records don't make.
+    pub makes: Makes,
     /// The store's name, at most 64 bytes.
     pub name: Vec<u8>,
 }
@@ -65,18 +77,21 @@ pub fn encode_head(alloc: Global, head: &StoreHead) -> Result<Vec<u8>, AllocErro
     out.extend_from_slice(&head.identity)?;
     out.extend_from_slice(&[geometry_byte(head.geometry), head.disks])?;
     out.extend_from_slice(&head.extents.to_be_bytes())?;
+    out.extend_from_slice(&head.makes.bytes)?;
     out.extend_from_slice(&[head.name.len() as u8])?;
     out.extend_from_slice(&head.name)?;
     Ok(out)
 }
 
-/// Decodes the head that `bytes` are the encoding of.
+/// Decodes the head that `bytes` are the encoding of, in this version or the former one.
 pub fn decode_head(alloc: Global, bytes: &[u8]) -> Result<StoreHead, HeadError>
     ensures exact { HeadReadsAs head_data result (head_decoded bytes.now) }
     // What is decoded has these bytes as its encoding.
-    ensures found { IfOk result (λ head. IsHead (head_data head) × (bytes.now ≡ head_encoding (head_data head))) }
+    ensures found { IfOk result (λ head. IsHead (head_data head) × IsEncodingOf (head_data head) bytes.now) }
     // What is encoded is decoded again, unless out of memory.
     ensures again { (head : HeadData) → IsHead head → bytes.now ≡ head_encoding head
+        → HeadReadsAs head_data result (Ok head) }
+    ensures former { (head : HeadData) → IsHead head → head.makes ≡ no_makes → bytes.now ≡ former_encoding head
         → HeadReadsAs head_data result (Ok head) }
 {
     whole_head(alloc, bytes)
@@ -89,21 +104,23 @@ fn whole_head(alloc: Global, bytes: &[u8]) -> Result<StoreHead, HeadError>
     let Some((version, rest)) = bytes.split_first() else {
         return Err(HeadError::Invalid);
     };
-    if *version != VERSION {
-        return Err(HeadError::OtherVersion);
+    match *version {
+        FORMER_VERSION => fields_of(alloc, true, rest),
+        VERSION => fields_of(alloc, false, rest),
+        _ => Err(HeadError::OtherVersion),
     }
-    fields_of(alloc, rest)
 }
 
-// The fields after the version.
+// The fields after the version, which may be the former one.
 #[tactic(auto, unfolding(crate::specs::HeadReading::fields_at))]
-fn fields_of(alloc: Global, bytes: &[u8]) -> Result<StoreHead, HeadError>
-    ensures { PartReadsAs head_data result (fields_at bytes.now) }
+fn fields_of(alloc: Global, is_former: bool, bytes: &[u8]) -> Result<StoreHead, HeadError>
+    ensures { PartReadsAs head_data result (fields_at is_former bytes.now) }
 {
     let (generation, rest) = generation_of(bytes)?;
     let (identity, rest) = identity_of(rest)?;
     let (geometry, disks, rest) = shape_of(rest)?;
     let (extents, rest) = extents_of(rest)?;
+    let (makes, rest) = makes_of(is_former, rest)?;
     let name = name_of(alloc, rest)?;
     Ok(StoreHead {
         generation,
@@ -111,6 +128,7 @@ fn fields_of(alloc: Global, bytes: &[u8]) -> Result<StoreHead, HeadError>
         geometry,
         disks,
         extents,
+        makes,
         name,
     })
 }
@@ -159,6 +177,22 @@ fn extents_of(bytes: &[u8]) -> Result<(u16, &[u8]), HeadError>
     }
     let (front, rest) = bytes.split_at(2);
     Ok((u16::from_be_bytes([front[0], front[1]]), rest))
+}
+
+// How many units were made; the former version doesn't say.
+fn makes_of(is_former: bool, bytes: &[u8]) -> Result<(Makes, &[u8]), HeadError>
+    ensures { PartReadsAs (λ x. (x.0.bytes, x.1.now)) result (makes_field_at is_former bytes.now) }
+{
+    if is_former {
+        return Ok((Makes::none(), bytes));
+    }
+    if bytes.len() < 64 {
+        return Err(HeadError::Invalid);
+    }
+    let (front, rest) = bytes.split_at(64);
+    let mut makes = Makes::none();
+    makes.bytes.copy_from_slice(front);
+    Ok((makes, rest))
 }
 
 // The name, and nothing after it.

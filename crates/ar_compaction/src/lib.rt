@@ -8,6 +8,7 @@ mod addresses;
 mod compacting;
 mod contents;
 mod head;
+mod makes;
 mod replay;
 mod steps;
 mod unit_records;
@@ -15,6 +16,7 @@ mod unit_records;
 pub use addresses::{addresses_in, note_address};
 pub use compacting::compact;
 pub use head::{HeadError, MAX_NAME, StoreHead, decode_head, encode_head};
+pub use makes::Makes;
 pub use replay::UnitReplay;
 pub use unit_records::UnitRecords;
 

@@ -69,6 +69,13 @@ impl UnitReplay {
         }
     }
 
+    /// The unit's address.
+    pub fn addr(&self) -> Addr
+        ensures { unit_address result ≡ self.now.addr }
+    {
+        self.addr
+    }
+
     /// Whether the unit is present.
     pub fn is_present(&self) -> bool
         ensures { result ≡ is_present self.now.unit }
