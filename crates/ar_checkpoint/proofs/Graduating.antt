@@ -133,8 +133,8 @@ module _ {M : Type 0} (seen : M → List ℕ) (may_leave : M → List ℕ → Ty
       ap (λ (n : ℕ). log_records (take n all)) is in
       let first : log_records (take next.number all) ≡ [] =
       ap log_records (reads.taken ∙ ap (λ (n : ℕ). take n all ++ items_of batch ∷ []) is) in
-      subst (λ (l : List RecordData). IsReplayOf l now) (none ∙ sym first)
-      (subst (λ (r : LogReplay). IsReplayOf (log_records (take place.number all)) r) (sym (one.head is)) before)
+      subst (λ (l : List RecordData). IsReplayOf l now) (sym first)
+      (one.head is (subst (λ (l : List RecordData). IsReplayOf l replay) none before))
   batch_replayed all batch place next replay now (suc n) is reads within one before =
       let some : place.number ≡ 0 → ⊥ = λ none. (let e : suc n ≡ 0 = sym is ∙ none in cc e) in
       subst (λ (l : List RecordData). IsReplayOf l now)

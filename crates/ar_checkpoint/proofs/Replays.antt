@@ -17,6 +17,8 @@ use Rattle.ar_record.specs.Replay.{own_of, unit_of}
 use Rattle.ar_record.proofs.Records.{all_decoded-append}
 use Rattle.ar_compaction.specs.Addresses.{AreAddresses, address_named, is_among, noted, noted_one}
 use Rattle.ar_compaction.specs.Checkpoint.{added_disks}
+use Rattle.ar_compaction.specs.Makes.{makes_after, makes_noted}
+use Rattle.ar_compaction.specs.declared.makes.Makes.{Makes}
 use Rattle.ar_compaction.specs.Replaying.{ReplayState, replayed, unit_address}
 use Rattle.ar_compaction.proofs.Looping.{replay_more, replay_is}
 use Rattle.ar_compaction.proofs.Creation.{added_disks-append}
@@ -109,15 +111,22 @@ all_replayed records r (a ∷ addresses) =
     (replay_more (replay_at records a) a records r refl refl))
     ∙ ap (λ (l : List ReplayState). replay_at (records ++ r ∷ []) a ∷ l) (all_replayed records r addresses)
 
+-- units made by records and one more
+makes_push : (bytes : List ℕ) (records : List RecordData) (r : RecordData)
+    → makes_after bytes (records ++ r ∷ []) ≡ makes_noted (makes_after bytes records) r
+makes_push bytes [] r = refl
+makes_push bytes (q ∷ records) r = makes_push (makes_noted bytes q) records r
+
 pub replays_more : (records : List RecordData) (r : RecordData) (old new : LogReplay) (units : List ReplayState)
     → new.disks.items ≡ old.disks.items ++ added_disks (r ∷ [])
     → map unit_address new.addresses.items ≡ noted (map unit_address old.addresses.items) r
     → ((before : List RecordData) → AreAddresses before (map unit_address old.addresses.items)
     → AreReplayed before (map unit_address old.addresses.items) old.units.items
     → AreReplayed before (map unit_address new.addresses.items) units)
-    → new.units.items ≡ map (λ (unit : ReplayState). replayed unit r) units → IsReplayOf records old
+    → new.units.items ≡ map (λ (unit : ReplayState). replayed unit r) units
+    → new.makes.bytes ≡ makes_noted old.makes.bytes r → new.before ≡ old.before → IsReplayOf records old
     → IsReplayOf (records ++ r ∷ []) new
-replays_more records r old new units disks addresses noted_units executed is = record {
+replays_more records r old new units disks addresses noted_units executed makes before is = record {
   addresses =
       subst (λ (l : List (ℕ × ℕ)). AreAddresses (records ++ r ∷ []) l) (sym addresses)
       (one_noted records (map unit_address old.addresses.items) r is.addresses);
@@ -129,6 +138,11 @@ replays_more records r old new units disks addresses noted_units executed is = r
       disks
       ∙ ap (λ (l : List ℕ). l ++ added_disks (r ∷ [])) is.disks
       ∙ sym (added_disks-append records (r ∷ []));
+  makes =
+      makes
+      ∙ ap (λ (l : List ℕ). makes_noted l r) is.makes
+      ∙ sym (makes_push old.before.bytes records r)
+      ∙ ap (λ (m : Makes). makes_after m.bytes (records ++ r ∷ [])) (sym before);
 }
 
 -- ---- one batch more

@@ -1,6 +1,6 @@
 -- A successor that becomes the active log.
 use Rattle.std.proofs.Common.{◌≡◌, ◌⊎◌, inl, inr, ℕ, Bool, true, false, if◌then◌else◌, List, Option, None, Result, Ok}
-use Rattle.std.proofs.Common.{Err, IfOk, IfErr, IfSome}
+use Rattle.std.proofs.Common.{Err, IfOk, IfErr, IfSome, map}
 use Rattle.std.proofs.Common.{IsTrue, refl, sym, ap, subst, ◌∙◌}
 use Rattle.ar_media.specs.Media.{LeavesOnly}
 use Rattle.ar_media.proofs.Moments.{then_goes_on}
@@ -16,8 +16,11 @@ use Rattle.ar_journal.specs.declared.files.JournalFiles.{JournalFiles}
 use Rattle.ar_journal.specs.declared.journal.Journal.{Journal}
 use Rattle.ar_journal.specs.declared.reader.JournalReader.{JournalReader}
 use Rattle.ar_journal.proofs.Reading.{leaves_read}
+use Rattle.ar_record.specs.Record.{RecordData}
 use Rattle.ar_compaction.specs.Head.{HeadData, head_encoding}
-use Rattle.ar_checkpoint.specs.LogReplay.{IsReplayOf}
+use Rattle.ar_compaction.specs.Makes.{makes_after, makes_before_all}
+use Rattle.ar_compaction.specs.Replaying.{unit_address}
+use Rattle.ar_checkpoint.specs.LogReplay.{IsReplayOf, replay_makes}
 use Rattle.ar_checkpoint.specs.Failing.{IsBeforeSwitch}
 use Rattle.ar_checkpoint.specs.Replacing.{FailsToReplace, FailsToSwitch, LeavesFailed, LeavesOld, LeavesOldOrNew}
 use Rattle.ar_checkpoint.specs.Replacing.{LeavesSwitch, ReplacesLog, SwitchesLog}
@@ -26,7 +29,7 @@ use Rattle.ar_checkpoint.specs.declared.error.CheckpointError.{CheckpointError}
 use Rattle.ar_checkpoint.specs.declared.error.CheckpointError.TheVariants.{NoMemory, Log as LogFails}
 use Rattle.ar_checkpoint.specs.declared.error.CheckpointError.TheVariants.{Record as RecordFails, LastGeneration}
 use Rattle.ar_checkpoint.specs.declared.error.CheckpointError.TheVariants.{Successor, Switch}
-use Rattle.ar_checkpoint.specs.Successor.{BeginsWithHead, IsSuccessor, next_head, log_records}
+use Rattle.ar_checkpoint.specs.Successor.{BeginsWithHead, IsNextHead, IsSuccessor, next_head, log_records}
 use Rattle.ar_checkpoint.specs.Writing.{WritesSuccessor}
 use Rattle.ar_checkpoint.specs.declared.log_replay.LogReplay.{LogReplay}
 
@@ -53,13 +56,31 @@ module _ {M : Type 0} (seen : M → List ℕ) (may_leave : M → List ℕ → Ty
   }
   log_switched head replay journal without spare successor (Err e) is writes ready switches either = tt
 
+  -- the next head counts the units that the replay of a log has made
+  next_is : (head : HeadData) (replay : LogReplay) (records : List RecordData) → replay.before.bytes ≡ head.makes
+      → IsReplayOf records replay → IsNextHead head records (next_head head (replay_makes replay))
+  next_is head replay records begun is =
+      let addresses = map unit_address replay.addresses.items in
+      record {
+        addresses = addresses;
+        named = is.addresses;
+        is =
+            ap (next_head head)
+            (ap (λ (m : List ℕ). makes_before_all m replay.units.items)
+            (is.makes ∙ ap (λ (m : List ℕ). makes_after m records) begun)
+            ∙ ap (makes_before_all (makes_after head.makes records)) is.units);
+      }
+
   -- what was written of a replay is a successor of the log that it is a replay of
   successor_is : (head : HeadData) (bytes : List ℕ) (replay : LogReplay) (old : List Batch) (spare : M)
       (successor : Log M)
-      → bytes ≡ head_encoding (next_head head) → IsReplayOf (log_records old) replay
+      → bytes ≡ head_encoding (next_head head (replay_makes replay)) → replay.before.bytes ≡ head.makes
+      → IsReplayOf (log_records old) replay
       → WritesSuccessor seen may_leave is_clean bytes replay spare successor → IsTrue (is_clean successor.media)
       → IsSuccessor head old (batches_of (seen successor.media))
-  successor_is head bytes replay old spare successor encoded is writes sound = record {
+  successor_is head bytes replay old spare successor encoded begun is writes sound = record {
+    next = next_head head (replay_makes replay);
+    next_is = next_is head replay (log_records old) begun is;
     head_is =
         subst (λ (b : List ℕ). BeginsWithHead b (batches_of (seen successor.media))) encoded (writes.head_is sound);
     compaction = writes.compaction sound (log_records old) is;
@@ -68,12 +89,12 @@ module _ {M : Type 0} (seen : M → List ℕ) (may_leave : M → List ℕ → Ty
 
   pub log_replaced : (head : HeadData) (bytes : List ℕ) (replay : LogReplay) (reader mid : JournalReader M)
       (journal now : Journal M)
-      → bytes ≡ head_encoding (next_head head)
+      → bytes ≡ head_encoding (next_head head (replay_makes replay)) → replay.before.bytes ≡ head.makes
       → (IsTrue (is_clean mid.active) → IsReplayOf (log_records (batches_of (seen reader.active))) replay)
       → (IsTrue (is_clean journal.active.media) → IsTrue (is_clean mid.active))
       → SwitchesLog seen may_leave moment left_since is_clean bytes replay journal now
       → ReplacesLog seen is_clean head reader now
-  log_replaced head bytes replay reader mid journal now encoded replayed clean switched =
+  log_replaced head bytes replay reader mid journal now encoded begun replayed clean switched =
       let successor = switched.successor in
       let here : now.active ≡ successor = switched.switches.active in
       record {
@@ -82,7 +103,7 @@ module _ {M : Type 0} (seen : M → List ℕ) (may_leave : M → List ℕ → Ty
         successor = λ old_clean new_clean.
             subst (λ (l : Log M). IsSuccessor head (batches_of (seen reader.active)) (batches_of (seen l.media)))
             (sym here)
-            (successor_is head bytes replay (batches_of (seen reader.active)) switched.spare successor encoded
+            (successor_is head bytes replay (batches_of (seen reader.active)) switched.spare successor encoded begun
             (replayed (clean old_clean)) switched.writes
             (subst (λ (l : Log M). IsTrue (is_clean l.media)) here new_clean));
       }
@@ -298,12 +319,12 @@ module _ {M : Type 0} (seen : M → List ℕ) (may_leave : M → List ℕ → Ty
 
     pub fails_to_replace : (head : HeadData) (bytes : List ℕ) (replay : LogReplay) (error : CheckpointError)
         (files : JournalFiles M)
-        → bytes ≡ head_encoding (next_head head)
+        → bytes ≡ head_encoding (next_head head (replay_makes replay)) → replay.before.bytes ≡ head.makes
         → (IsTrue (is_clean mid.active) → IsReplayOf (log_records (batches_of (seen reader.active))) replay)
         → FailsToReplace seen may_leave moment left_since is_clean bytes replay journal error files
         → LeavesFailed seen may_leave moment left_since is_clean head reader error files
     unfolding Either
-    fails_to_replace head bytes replay error files encoded replayed (inl kept) =
+    fails_to_replace head bytes replay error files encoded begun replayed (inl kept) =
         let at : old_of reader.is_second files ≡ journal.active.media =
         ap (λ (b : Bool). old_of b files) (sym (resumes.is_second ∙ reads.is_second)) ∙ kept.1.old in
         failed_before head reader error files kept.0 (record {
@@ -312,7 +333,7 @@ module _ {M : Type 0} (seen : M → List ℕ) (may_leave : M → List ℕ → Ty
               subst (λ (m : M). LeavesRead seen may_leave moment left_since is_clean reader m) (sym at)
               (before (subst (λ (m : M). IsTrue (is_clean m)) at sound));
         })
-    fails_to_replace head bytes replay error files encoded replayed (inr found) =
+    fails_to_replace head bytes replay error files encoded begun replayed (inr found) =
         let successor = found.1 in
         let failed = found.3 in
         let is_second : journal.is_second ≡ reader.is_second = resumes.is_second ∙ reads.is_second in
@@ -329,7 +350,7 @@ module _ {M : Type 0} (seen : M → List ℕ) (may_leave : M → List ℕ → Ty
         (sym old_at) (record {
           successor = λ sound new_clean.
               subst (λ (m : M). IsSuccessor head (batches_of (seen reader.active)) (batches_of (seen m))) at
-              (successor_is head bytes replay (batches_of (seen reader.active)) found.0 successor encoded
+              (successor_is head bytes replay (batches_of (seen reader.active)) found.0 successor encoded begun
               (replayed (clean sound)) found.2
               (subst (λ (m : M). IsTrue (is_clean m)) (sym at) new_clean));
           leaves = record {

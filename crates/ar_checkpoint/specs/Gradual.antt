@@ -1,6 +1,6 @@
 -- A checkpoint that is made piece by piece, while records are appended to the journal.
 use Rattle.std.specs.Prelude.{◌≡◌, ◌≢◌, ◌⊎◌, ◌++◌, ℕ, Bool, true, false, List, [], map, take, Option, None, Some}
-use Rattle.std.specs.Prelude.{IsTrue, Vec}
+use Rattle.std.specs.Prelude.{◌∷◌, IsTrue, Ok, Vec}
 use Rattle.std.specs.declared.alloc.Global.{Global}
 use Rattle.ar_log.specs.Codec.{items_of}
 use Rattle.ar_log.specs.Log.{batches_of}
@@ -13,6 +13,8 @@ use Rattle.ar_record.specs.Reading.{all_decoded}
 use Rattle.ar_record.specs.Record.{RecordData, AddDisk, AreEncodable}
 use Rattle.ar_record.specs.Replay.{unit_of}
 use Rattle.ar_compaction.specs.Compaction.{IsCompaction}
+use Rattle.ar_compaction.specs.Head.{HeadData}
+use Rattle.ar_compaction.specs.HeadReading.{head_decoded}
 use Rattle.ar_checkpoint.specs.LogReplay.{IsReplayOf}
 use Rattle.ar_checkpoint.specs.Successor.{BeginsWithHead, log_records}
 use Rattle.ar_checkpoint.specs.Writing.{AreCheckpoints, IsAppendable}
@@ -87,9 +89,18 @@ pub record IsCopying {M : Type 0} (seen : M → List ℕ) (may_leave : M → Lis
   pub compaction : IsTrue (is_clean journal.active.media) → IsTrue (is_clean log.media)
       → IsCompaction (records_before seen journal place) (log_records (batches_of (seen log.media)))
 
--- the records of a batch were replayed, unless it is the first one, the head's
+-- the batch is a head's, in which these are the numbers of units made
+pub record HasMakes (batch : List (List ℕ)) (makes : List ℕ) : Type 0 where
+  pub bytes : List ℕ
+  pub alone : batch ≡ bytes ∷ []
+  pub head : HeadData
+  pub decoded : head_decoded bytes ≡ Ok head
+  pub makes_are : makes ≡ head.makes
+
+-- the records of a batch were replayed, unless it is the first one, the head's, before which there is none
 pub record ReplaysBatch (old : LogReplay) (number : ℕ) (batch : List (Vec ℕ Global)) (new : LogReplay) : Type 0 where
-  pub head : number ≡ 0 → new ≡ old
+  pub head : number ≡ 0 → IsReplayOf [] old → IsReplayOf [] new
+  pub begun : number ≡ 0 → HasMakes (items_of batch) new.before.bytes
   pub more : (number ≡ 0 → ⊥) → (records : List RecordData) → IsReplayOf records old
       → IsReplayOf (records ++ all_decoded (items_of batch)) new
 
@@ -143,13 +154,25 @@ abbrev pub KeepsLog : {M : Type 0} → (M → List ℕ) → (M → List ℕ → 
 KeepsLog seen may_leave moment left_since is_clean old new =
     ReadsLog seen may_leave moment left_since is_clean old (record new { spare = old.spare })
 
+-- the successor's head stays, but where the successor is begun: it is encoded then
+abbrev pub KeepsHead : {M : Type 0} → Stage M → Vec ℕ Global → Vec ℕ Global → Type 0
+KeepsHead (Replayed replay) old new = Unit {0}
+KeepsHead (Replaying replay count) old new = new ≡ old
+KeepsHead (Writing writer) old new = new ≡ old
+KeepsHead (Copying log) old new = new ≡ old
+
+-- there is more to do, and the successor's head has these bytes
+abbrev pub HasSuccessorHead : {M : Type 0} → List ℕ → Progress M → Type 0
+HasSuccessorHead head (Going next) = next.head.items ≡ head
+HasSuccessorHead head Done = ⊥
+
 -- a piece was made, and nothing but the spare is written
 pub record Continues {M : Type 0} (seen : M → List ℕ) (may_leave : M → List ℕ → Type 0) (moment : M → ℕ)
     (left_since : M → ℕ → List ℕ → Type 0) (is_clean : M → Bool) (old : Journal M) (checkpoint : GradualCheckpoint M)
     (next : GradualCheckpoint M) (new : Journal M) : Type 0 where
   pub keeps : KeepsLog seen may_leave moment left_since is_clean old new
   pub follows : GoesWith seen may_leave is_clean new next
-  pub head : next.head ≡ checkpoint.head
+  pub head : KeepsHead checkpoint.stage checkpoint.head next.head
   pub clean : is_other_clean is_clean (other_medium new (Some next))
       ≡ is_other_clean is_clean (other_medium old (Some checkpoint))
 

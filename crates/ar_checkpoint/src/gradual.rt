@@ -7,14 +7,16 @@
 //
 // Until the switch the old log is the active one, and nothing but the spare is written.
 ghost use Rattle.std.specs.Prelude.{◌≡◌, ◌≤◌, IfErr, IfNone, IfOk, IfSome, None, OnOk, Some, false, length};
+ghost use Rattle.ar_log.specs.Codec.{items_of};
 ghost use Rattle.ar_journal.specs.Journal.{IsReady};
 ghost use Rattle.ar_journal.specs.Switch.{LeavesEither, Switches};
 ghost use Rattle.ar_record.specs.Record.{AreEncodable};
 ghost use Rattle.ar_compaction.specs.Head.{head_data, head_encoding};
 ghost use Rattle.ar_checkpoint.specs.Gradual.{MakesPiece, GoesWith, GoesWithIf, GivesUp, HasFirstBatch};
-ghost use Rattle.ar_checkpoint.specs.Gradual.{IsNewCheckpoint, IsCopying};
+ghost use Rattle.ar_checkpoint.specs.Gradual.{HasSuccessorHead, HasMakes, IsNewCheckpoint, IsCopying};
 ghost use Rattle.ar_checkpoint.specs.Gradual.{IsReplaying, IsWriting, IsReplaced, KeepsLog, KeepsLogUnits, LeavesLogs};
 ghost use Rattle.ar_checkpoint.specs.Gradual.{ReplaysBatch, StaysAt, WritesFirst};
+ghost use Rattle.ar_checkpoint.specs.LogReplay.{replay_makes};
 ghost use Rattle.ar_checkpoint.specs.Successor.{next_head};
 ghost use Rattle.ar_checkpoint.specs.Writing.{IsAppendable};
 ghost use Rattle.ar_checkpoint.specs.declared.gradual.Stage.TheVariants as stages;
@@ -24,7 +26,7 @@ use crate::log_replay::LogReplay;
 use crate::reading::replay_batch;
 use crate::replacing::encode_next;
 use crate::successor::{append, write_disks};
-use ar_compaction::{StoreHead, UnitRecords, UnitReplay};
+use ar_compaction::{HeadError, Makes, StoreHead, UnitRecords, UnitReplay, decode_head};
 use ar_journal::{Journal, first_place};
 use ar_log::{Log, LogError, Place, create};
 use ar_media::Media;
@@ -33,7 +35,7 @@ use std::alloc::Global;
 /// A checkpoint of an open journal, as far as it is made.
 #[derive(Drop)]
 pub struct GradualCheckpoint<M: Media> {
-    // The successor's head.
+    // The successor's head, once it is begun.
     pub(crate) head: Vec<u8>,
     pub(crate) stage: Stage<M>,
     // After the batches that were replayed or copied.
@@ -71,7 +73,8 @@ pub(crate) enum Progress<M: Media> {
 
 /// Makes the next piece of a checkpoint of an open journal, or begins one: reads a batch of the log, or appends up to
 /// 16 records or a batch to the successor. The journal may have got batches since the piece before. All units are in
-/// memory meanwhile. `head` is the head of the log, which the successor has with the generation raised by one.
+/// memory meanwhile. `head` is the head of the log, which the successor has with the generation raised by one, and with
+/// the units that were made before, counted from the log.
 ///
 /// Returns what there is more to do, or None where the successor has become the log. An error gives the checkpoint up,
 /// and leaves the log as it was, but where the selector can't be written: the journal is closed then.
@@ -102,28 +105,23 @@ pub fn make_piece<M: Media + Drop>(
 {
     let checkpoint = match checkpoint {
         Some(checkpoint) => checkpoint,
-        None => begin(alloc, head)?,
+        None => begin(alloc),
     };
-    match advance(alloc, journal, checkpoint)? {
+    match advance(alloc, journal, checkpoint, head)? {
         Progress::Going(next) => Ok(Some(next)),
         Progress::Done => Ok(None),
     }
 }
 
 // Begins a checkpoint. Nothing is read or written yet.
-fn begin<M: Media + Drop>(
-    alloc: Global,
-    head: &StoreHead,
-) -> Result<GradualCheckpoint<M>, CheckpointError>
-    requires { length head.now.name.items ≤ 64 }
-    ensures head { IfOk result (λ begun. begun.head.items ≡ head_encoding (next_head (head_data head.now))) }
-    ensures begun { IfOk result (λ begun. IsNewCheckpoint M.seen M.may_leave M.is_clean begun) }
+fn begin<M: Media + Drop>(alloc: Global) -> GradualCheckpoint<M>
+    ensures { IsNewCheckpoint M.seen M.may_leave M.is_clean result }
 {
-    Ok(GradualCheckpoint {
-        head: encode_next(alloc, head)?,
-        stage: Stage::Replaying(LogReplay::new(alloc), 0),
+    GradualCheckpoint {
+        head: Vec::new(alloc),
+        stage: Stage::Replaying(LogReplay::new(alloc, Makes::none()), 0),
         place: first_place(),
-    })
+    }
 }
 
 // Makes the next piece.
@@ -131,9 +129,11 @@ fn advance<M: Media + Drop>(
     alloc: Global,
     journal: &mut Journal<M>,
     checkpoint: GradualCheckpoint<M>,
+    store: &StoreHead,
 ) -> Result<Progress<M>, CheckpointError>
     requires ready { IsReady M.seen M.may_leave M.is_clean journal.old }
     requires follows { GoesWith M.seen M.may_leave M.is_clean journal.old checkpoint }
+    requires name { length store.now.name.items ≤ 64 }
     ensures done { IfOk result (λ progress.
         MakesPiece M.seen M.may_leave M.moment M.left_since M.is_clean journal.old checkpoint progress journal.new) }
     ensures given_up { IfErr result (λ _.
@@ -148,7 +148,7 @@ fn advance<M: Media + Drop>(
         Stage::Replaying(replay, count) => {
             replay_piece(alloc, journal, head, replay, count, place)
         }
-        Stage::Replayed(replay) => begin_successor(alloc, journal, head, replay, place),
+        Stage::Replayed(replay) => { begin_successor(alloc, journal, head, replay, place, store) }
         Stage::Writing(writer) => write_piece(alloc, journal, head, writer, place),
         Stage::Copying(log) => copy_piece(alloc, journal, head, log, place),
     }
@@ -190,7 +190,8 @@ fn replay_piece<M: Media + Drop>(
     }
 }
 
-// Replays the records of the batch at a place, unless it is the head's, and returns how many were replayed.
+// Replays the records of the batch at a place, or begins at the numbers of units made in the head, and returns how many
+// were replayed.
 fn replay_read(
     alloc: Global,
     replay: LogReplay,
@@ -202,43 +203,63 @@ fn replay_read(
 {
     let mut replay = replay;
     if place.number == 0 {
+        replay.begin_at(makes_in(alloc, records)?);
         return Ok((replay, count));
     }
     let count = replay_batch(alloc, &mut replay, records, count)?;
     Ok((replay, count))
 }
 
-// Takes the spare, and begins a successor on it: its head, and the records of added disks.
+// The numbers of units made in the head of a log, which is its first batch.
+fn makes_in(alloc: Global, records: &[Vec<u8>]) -> Result<Makes, CheckpointError>
+    ensures { IfOk result (λ makes. HasMakes (items_of records.now) makes.bytes) }
+{
+    let [bytes] = records else {
+        return Err(CheckpointError::Log(LogError::NotALog));
+    };
+    match decode_head(alloc, bytes.as_slice()) {
+        Ok(head) => Ok(head.makes),
+        Err(HeadError::NoMemory) => Err(CheckpointError::NoMemory),
+        Err(_) => Err(CheckpointError::Log(LogError::NotALog)),
+    }
+}
+
+// Takes the spare, and begins a successor on it: its head, which is encoded now, and the records of added disks.
 fn begin_successor<M: Media + Drop>(
     alloc: Global,
     journal: &mut Journal<M>,
-    head: Vec<u8>,
+    unencoded: Vec<u8>,
     replay: LogReplay,
     place: Place,
+    store: &StoreHead,
 ) -> Result<Progress<M>, CheckpointError>
     requires ready { IsReady M.seen M.may_leave M.is_clean journal.old }
     requires is_open { journal.old.active.is_closed ≡ false }
     requires replaying { IsReplaying M.seen M.is_clean journal.old replay place }
+    requires name { length store.now.name.items ≤ 64 }
     ensures done { IfOk result (λ progress. MakesPiece M.seen M.may_leave M.moment M.left_since M.is_clean journal.old
-        (record { head = head; stage = stages.Replayed replay; place = place }) progress journal.new) }
+        (record { head = unencoded; stage = stages.Replayed replay; place = place }) progress journal.new) }
+    ensures head { IfOk result
+        (HasSuccessorHead (head_encoding (next_head (head_data store.now) (replay_makes replay)))) }
     ensures given_up { IfErr result (λ _. GivesUp M.seen M.may_leave M.moment M.left_since M.is_clean journal.old
-        (record { head = head; stage = stages.Replayed replay; place = place }) journal.new) }
+        (record { head = unencoded; stage = stages.Replayed replay; place = place }) journal.new) }
     ensures ready { IsReady M.seen M.may_leave M.is_clean journal.new }
 {
     if place.number == 0 {
         return Err(CheckpointError::Log(LogError::NotALog));
     }
+    let next = encode_next(alloc, store, &replay)?;
     let Some(spare) = journal.take_spare() else {
         return Err(CheckpointError::Log(LogError::Closed));
     };
     let LogReplay { units, disks, .. } = replay;
-    match write_first(alloc, spare, &head, &disks) {
+    match write_first(alloc, spare, &next, &disks) {
         Err((error, spare)) => {
             journal.return_spare(spare);
             Err(error)
         }
         Ok(log) => Ok(Progress::Going(GradualCheckpoint {
-            head,
+            head: next,
             stage: Stage::Writing(Writer {
                 log,
                 rest: None,

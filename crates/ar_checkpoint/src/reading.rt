@@ -1,5 +1,5 @@
 // The rest of a log, replayed batch by batch.
-ghost use Rattle.std.specs.Prelude.{[], ◌++◌, List, IfErr, IfOk, OnOk, IsTrue};
+ghost use Rattle.std.specs.Prelude.{◌≡◌, [], ◌++◌, List, IfErr, IfOk, OnOk, IsTrue};
 ghost use Rattle.ar_log.specs.Codec.{items_of};
 ghost use Rattle.ar_log.specs.Log.{HoldsBatches, batches_of};
 ghost use Rattle.ar_journal.specs.Reader.{IsReading, ReadsActive, batches_read};
@@ -11,15 +11,18 @@ ghost use Rattle.ar_checkpoint.specs.Successor.{IsHeadAlone, log_records};
 
 use crate::CheckpointError;
 use crate::log_replay::LogReplay;
+use ar_compaction::Makes;
 use ar_journal::JournalReader;
 use ar_media::Media;
 use ar_record::{DecodeError, decode};
 use std::alloc::Global;
 
-// Replays the records after the head of a log, of which the head was read. Nothing is written.
+// Replays the records after the head of a log, of which the head was read, with how many units were made before.
+// Nothing is written.
 pub(crate) fn replay_rest<M: Media>(
     alloc: Global,
     reader: &mut JournalReader<M>,
+    before: Makes,
 ) -> Result<LogReplay, CheckpointError>
     requires reading { IsReading M.seen M.may_leave M.is_clean reader.old }
     requires head { IsTrue (M.is_clean reader.old.active) → IsHeadAlone (batches_read M.seen reader.old) }
@@ -29,9 +32,10 @@ pub(crate) fn replay_rest<M: Media>(
         → HoldsBatches (batches_of (M.seen reader.old.active)) (M.seen reader.old.active)) }
     ensures replayed { IfOk result (λ replay. IsTrue (M.is_clean reader.new.active)
         → IsReplayOf (log_records (batches_of (M.seen reader.old.active))) replay) }
+    ensures before { IfOk result (λ replay. replay.before ≡ before) }
     ensures error { IfErr result IsBeforeSwitch }
 {
-    let mut replay = LogReplay::new(alloc);
+    let mut replay = LogReplay::new(alloc, before);
     let mut count = 0;
     'reading: loop {
         match reader.next_batch(alloc) {
@@ -51,6 +55,7 @@ pub(crate) fn replay_batch(
 ) -> Result<u64, CheckpointError>
     ensures replayed { OnOk result ((records : List RecordData) → IsReplayOf records replay.old
         → IsReplayOf (records ++ all_decoded (items_of batch.now)) replay.new) }
+    ensures before { replay.new.before ≡ replay.old.before }
     ensures error { IfErr result IsBeforeSwitch }
 {
     let mut number = first;
@@ -70,6 +75,7 @@ fn replay_one(
 ) -> Result<(), CheckpointError>
     ensures replayed { OnOk result ((records : List RecordData) → IsReplayOf records replay.old
         → IsReplayOf (records ++ with_record (decoded bytes.now) []) replay.new) }
+    ensures before { replay.new.before ≡ replay.old.before }
     ensures error { IfErr result IsBeforeSwitch }
 {
     match decode(alloc, bytes) {

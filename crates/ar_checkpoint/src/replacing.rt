@@ -6,6 +6,7 @@ ghost use Rattle.ar_log.specs.Log.{IsSynced};
 ghost use Rattle.ar_journal.specs.Reader.{IsReading, batches_read};
 ghost use Rattle.ar_compaction.specs.Head.{head_data, head_encoding};
 ghost use Rattle.ar_checkpoint.specs.Failing.{IsBeforeSwitch};
+ghost use Rattle.ar_checkpoint.specs.LogReplay.{replay_makes};
 ghost use Rattle.ar_checkpoint.specs.Replacing.{FailsToReplace, FailsToSwitch, LeavesFailed, LeavesOldOrNew};
 ghost use Rattle.ar_checkpoint.specs.Replacing.{ReplacesLog, SwitchesLog, new_of, old_of};
 ghost use Rattle.ar_checkpoint.specs.Successor.{IsHeadAlone, next_head};
@@ -23,9 +24,9 @@ use std::alloc::Global;
 /// Replaces a journal's log, of which the head was read, by a successor with far fewer records that make the same
 /// units, and makes that the active log.
 ///
-/// `head` is the store's head, which the successor has with the generation raised by one. All units are in memory
-/// meanwhile. An error returns the files: the log is active with each of its batches, but for `Switch`, after which a
-/// new start finds the log or its successor.
+/// `head` is the store's head, which the successor has with the generation raised by one, and with the units that were
+/// made, but for those that its records make again. All units are in memory meanwhile. An error returns the files: the
+/// log is active with each of its batches, but for `Switch`, after which a new start finds the log or its successor.
 pub fn checkpoint<M: Media + Drop>(
     alloc: Global,
     reader: JournalReader<M>,
@@ -47,11 +48,11 @@ pub fn checkpoint<M: Media + Drop>(
         LeavesFailed M.seen M.may_leave M.moment M.left_since M.is_clean (head_data head.now) reader e.0 e.1) }
 {
     let mut reader = reader;
-    let replay = match replay_rest(alloc, &mut reader) {
+    let replay = match replay_rest(alloc, &mut reader, head.makes) {
         Err(error) => return Err((error, reader.into_files())),
         Ok(replay) => replay,
     };
-    let bytes = match encode_next(alloc, head) {
+    let bytes = match encode_next(alloc, head, &replay) {
         Err(error) => return Err((error, reader.into_files())),
         Ok(bytes) => bytes,
     };
@@ -61,10 +62,15 @@ pub fn checkpoint<M: Media + Drop>(
     }
 }
 
-// The encoding of the head of the next generation.
-pub(crate) fn encode_next(alloc: Global, head: &StoreHead) -> Result<Vec<u8>, CheckpointError>
+// The encoding of the head of the next generation, whose log begins with the units of a replay.
+pub(crate) fn encode_next(
+    alloc: Global,
+    head: &StoreHead,
+    replay: &LogReplay,
+) -> Result<Vec<u8>, CheckpointError>
     requires { length head.now.name.items ≤ 64 }
-    ensures bytes { IfOk result (λ bytes. bytes.items ≡ head_encoding (next_head (head_data head.now))) }
+    ensures bytes { IfOk result (λ bytes. bytes.items
+        ≡ head_encoding (next_head (head_data head.now) (replay_makes replay.now))) }
     ensures error { IfErr result IsBeforeSwitch }
 {
     let Some(generation) = head.generation.checked_add(1) else {
@@ -76,6 +82,7 @@ pub(crate) fn encode_next(alloc: Global, head: &StoreHead) -> Result<Vec<u8>, Ch
         geometry: head.geometry,
         disks: head.disks,
         extents: head.extents,
+        makes: replay.makes_left(),
         name: head.name.clone()?,
     };
     Ok(encode_head(alloc, &next)?)

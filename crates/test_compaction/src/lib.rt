@@ -6,6 +6,8 @@ mod checkpoints;
 #[cfg(test)]
 mod drawn;
 #[cfg(test)]
+mod heads;
+#[cfg(test)]
 mod plain;
 #[cfg(test)]
 mod stores;

@@ -9,7 +9,7 @@ ghost use Rattle.ar_media.specs.Media.{Only};
 ghost use Rattle.ar_media.specs.Memory.{memory_may_leave, memory_seen};
 
 use ar_checkpoint::{CheckpointError, checkpoint};
-use ar_compaction::{StoreHead, decode_head, encode_head};
+use ar_compaction::{Makes, StoreHead, decode_head, encode_head};
 use ar_disks::Geometry;
 use ar_journal::{Journal, JournalFiles, JournalReader, create, open};
 use ar_media::{Fate, Media, MemoryFile};
@@ -29,6 +29,7 @@ fn first_head(alloc: Global) -> Result<StoreHead, AllocError>
         geometry: Geometry::SMALL,
         disks: 4,
         extents: 9,
+        makes: Makes::none(),
         name: Vec::from_slice(alloc, b"drawn")?,
     })
 }

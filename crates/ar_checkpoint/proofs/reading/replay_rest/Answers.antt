@@ -64,4 +64,5 @@ reading-preserved g c =
           (subst (λ (l : List (Vec ℕ Global)). (before : List RecordData) → IsReplayOf before c.reading.replay
           → IsReplayOf (before ++ all_decoded (items_of l)) c.replay_batch.new.replay) c.deref.ensures.value
           c.in_ok-count-in-Ok-Some.ensures.replayed);
+      before = c.replay_batch.ensures.before ∙ c.reading.invariant.before;
     }

@@ -1,5 +1,5 @@
 -- the records of the batches that were read were replayed
-use Rattle.std.proofs.Common.{◌-◌, ◌^◌, IsTrue}
+use Rattle.std.proofs.Common.{◌≡◌, ◌-◌, ◌^◌, IsTrue}
 use Rattle.ar_journal.specs.Reader.{IsReading, ReadsActive, batches_read}
 use Rattle.ar_checkpoint.proofs.Replays.{IsReplayed}
 use Rattle.ar_checkpoint.proofs.reading.replay_rest.Given as goal
@@ -10,6 +10,7 @@ invariant-reading g l = record {
   reads : ReadsActive g.M.Media.seen g.M.Media.may_leave g.M.Media.moment g.M.Media.left_since g.M.Media.is_clean
       l.fn.reader l.reader;
   replayed : IsTrue (g.M.Media.is_clean l.reader.active) → IsReplayed (batches_read g.M.Media.seen l.reader) l.replay;
+  before : l.replay.before ≡ l.fn.before;
 }
 
 abbrev pub decreases-reading : goal.decreases-reading

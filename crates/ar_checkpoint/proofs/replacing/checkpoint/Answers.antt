@@ -1,6 +1,8 @@
-use Rattle.std.proofs.Common.{◌≡◌, ◌∙◌}
+use Rattle.std.proofs.Common.{◌≡◌, ◌∙◌, ap}
 use Rattle.ar_compaction.specs.Head.{head_data, head_encoding}
 use Rattle.ar_checkpoint.specs.declared.error.CheckpointError.TheVariants.{Log}
+use Rattle.ar_compaction.specs.declared.makes.Makes.{Makes}
+use Rattle.ar_checkpoint.specs.LogReplay.{replay_makes}
 use Rattle.ar_checkpoint.specs.Successor.{next_head}
 use Rattle.ar_checkpoint.proofs.Clauses.{if_err, if_ok}
 use Rattle.ar_checkpoint.proofs.Switching.{log_replaced, leaves_either, fails_to_replace, fails_to_read, fails_to_cut}
@@ -8,14 +10,15 @@ use Rattle.ar_checkpoint.proofs.replacing.checkpoint.Goals as goal
 
 pub returns-in-Ok-finish-clause-replaced : goal.returns-in-Ok-finish-clause-replaced
 returns-in-Ok-finish-clause-replaced g c =
-    let bytes : c.deref.result.now ≡ head_encoding (next_head (head_data c.args.head.now)) =
+    let bytes : c.deref.result.now
+    ≡ head_encoding (next_head (head_data c.args.head.now) (replay_makes c.in-Ok.replay)) =
     c.deref.ensures.value ∙ c.in-Ok-encode_next.ensures.bytes in
     let fin = c.in-Ok-finish.ensures in
     if_ok _ _ c.replace_log.result
     (λ now switched.
     log_replaced g.M.Media.seen g.M.Media.may_leave g.M.Media.moment g.M.Media.left_since g.M.Media.is_clean
     (head_data c.args.head.now) c.deref.result.now c.in-Ok.replay c.args.reader c.replay_rest.new.reader
-    c.in-Ok-finish.journal now bytes
+    c.in-Ok-finish.journal now bytes (ap (λ (m : Makes). m.bytes) c.in-Ok.ensures.before)
     c.in-Ok.ensures.replayed fin.clean switched)
     c.replace_log.ensures.switched
 
@@ -39,7 +42,7 @@ returns-in-Ok-finish-clause-any_moment_err g c =
     c.args.reader c.replay_rest.new.reader c.in-Ok-finish.journal c.requires.reading g.met.M.Media.only_now
     c.replay_rest.ensures.reads c.in-Ok.ensures.whole fin.clean fin.batches fin.files fin.any_moment
     (head_data c.args.head.now) c.deref.result.now c.in-Ok.replay e.0 e.1
-    (c.deref.ensures.value ∙ c.in-Ok-encode_next.ensures.bytes)
+    (c.deref.ensures.value ∙ c.in-Ok-encode_next.ensures.bytes) (ap (λ (m : Makes). m.bytes) c.in-Ok.ensures.before)
     c.in-Ok.ensures.replayed failed)
     c.replace_log.ensures.failed
 
