@@ -1,5 +1,5 @@
 -- Batches of records that are executed again, one after another.
-use Rattle.std.proofs.Common.{◌≡◌, ◌≢◌, ◌<◌, ◌+◌, ℕ, List, [], ◌∷◌, ◌++◌, Vec, length, take, get_or, sym, ◌∙◌, ap}
+use Rattle.std.proofs.Common.{◌≡◌, ◌≢◌, ◌<◌, ◌+◌, ℕ, List, [], ◌∷◌, ◌++◌, Vec, length, take, get_or, refl, sym, ◌∙◌, ap}
 use Rattle.std.proofs.Common.{subst, append_assoc}
 use Rattle.std.specs.declared.alloc.Global.{Global}
 use Rattle.std.proofs.lemmas.List.{map_push, take_more}
@@ -12,6 +12,7 @@ use Rattle.ar_record.proofs.Records.{all_decoded-append}
 use Rattle.ar_record.specs.Record.{RecordData}
 use Rattle.ar_record.specs.Replay.{own_of}
 use Rattle.ar_record.proofs.Replaying.{own_of-append}
+use Rattle.ar_compaction.specs.Makes.{makes_after, makes_noted}
 use Rattle.ar_recovery.specs.Logging.{records_of}
 use Rattle.ar_recovery.specs.Recovering.{RedoesAll}
 use Rattle.ar_recovery.proofs.Recovering.{redoes_none}
@@ -56,6 +57,38 @@ replayed_more batches now batch old new before is one =
           (sym (ap log_records is ∙ log_records-push batches batch some))
           (redoes_both [] old new (log_records batches) (all_decoded batch) before.redone one);
     }
+
+-- units made by records and then others
+makes_both : (bytes : List ℕ) (records more : List RecordData)
+    → makes_after bytes (records ++ more) ≡ makes_after (makes_after bytes records) more
+makes_both bytes [] more = refl
+makes_both bytes (r ∷ records) more = makes_both (makes_noted bytes r) records more
+
+-- after the head no unit is made yet
+pub made_head : (batches : List Batch) (bytes : List ℕ) → IsHeadAlone batches
+    → bytes ≡ makes_after bytes (log_records batches)
+made_head batches bytes only =
+    subst (λ (l : List Batch). bytes ≡ makes_after bytes (log_records l)) (sym only.1) refl
+
+-- those of one batch more
+pub made_more : (batches now : List Batch) (batch : Batch) (bytes old new : List ℕ) (history : List Entry)
+    → IsReplayed batches history → now ≡ batches ++ batch ∷ [] → old ≡ makes_after bytes (log_records batches)
+    → new ≡ makes_after old (all_decoded batch) → new ≡ makes_after bytes (log_records now)
+made_more batches now batch bytes old new history before is was one =
+    let some : batches ≢ [] =
+    λ none. (let e : before.head ∷ before.more ≡ [] = sym before.batches_are ∙ none in cc e) in
+    one
+    ∙ ap (λ (l : List ℕ). makes_after l (all_decoded batch)) was
+    ∙ sym (makes_both bytes (log_records batches) (all_decoded batch))
+    ∙ ap (makes_after bytes) (sym (ap log_records is ∙ log_records-push batches batch some))
+
+-- those of one item more
+pub made_item : (bytes : List ℕ) (items more now : List RecordData) (old new : List ℕ)
+    → now ≡ items ++ more → old ≡ makes_after bytes items → new ≡ makes_after old more
+    → new ≡ makes_after bytes now
+made_item bytes items more now old new is was one =
+    one ∙ ap (λ (l : List ℕ). makes_after l more) was ∙ sym (makes_both bytes items more)
+    ∙ ap (makes_after bytes) (sym is)
 
 -- the records of one item more
 pub decoded_more : (vs : List (Vec ℕ Global)) (i : ℕ) (v : Vec ℕ Global) → i < length vs → v ≡ get_or vs i v

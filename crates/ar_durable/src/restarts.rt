@@ -8,12 +8,13 @@ ghost use Rattle.ar_journal.specs.Files.{AreDurable};
 ghost use Rattle.ar_journal.specs.Reader.{IsReading, ReadsActive, batches_read};
 ghost use Rattle.ar_record.specs.Reading.{all_decoded, decoded, with_record};
 ghost use Rattle.ar_record.specs.Record.{data_of};
+ghost use Rattle.ar_compaction.specs.Makes.{makes_after};
 ghost use Rattle.ar_recovery.specs.Recovering.{IsRecovered, Redoes, RedoesAll};
 ghost use Rattle.ar_checkpoint.specs.Successor.{IsHeadAlone, log_records};
 ghost use Rattle.ar_durable.specs.Durable.{AreRecords, IsReplayed};
 
 use crate::Store;
-use ar_compaction::{HeadError, StoreHead, decode_head};
+use ar_compaction::{HeadError, Makes, StoreHead, decode_head};
 use ar_core::{Array, NewDisk};
 use ar_disks::{Disk, Geometry};
 use ar_history::LiveArray;
@@ -78,12 +79,14 @@ fn head_in(alloc: Global, batch: &[Vec<u8>]) -> Result<StoreHead, RestartError> 
 
 /// Executes the records of a store again, of which the head was read, on an array without units. Then it cuts off
 /// what a crash tore, and returns the array, the store, which is ready for appends, and the number of records. Until
-/// data loss each unit is what its own entries among the records make of an absent one.
+/// data loss each unit is what its own entries among the records make of an absent one. `makes`, at first that of the
+/// head, counts the units that the records make.
 pub fn restart<D: Disk + Drop, M: Media + Drop, S: DiskSource<D>>(
     alloc: Global,
     reader: JournalReader<M>,
     array: Array<D>,
     source: &mut S,
+    makes: &mut Makes,
 ) -> Result<(LiveArray<D>, Store<M>, u64), RestartError>
     requires reading { IsReading M.seen M.may_leave M.is_clean reader }
     requires head { IsTrue (M.is_clean reader.active) → IsHeadAlone (batches_read M.seen reader) }
@@ -92,9 +95,11 @@ pub fn restart<D: Disk + Drop, M: Media + Drop, S: DiskSource<D>>(
     ensures none_waits { IfOk result (λ r. r.1.waiting ≡ []) }
     ensures units { IfOk result (λ r. IsTrue (M.is_clean r.1.journal.active.media)
         → IsRecovered (log_records (batches_of (M.seen reader.active))) r.0) }
+    ensures makes { IfOk result (λ r. IsTrue (M.is_clean r.1.journal.active.media)
+        → makes.new.bytes ≡ makes_after makes.old.bytes (log_records (batches_of (M.seen reader.active)))) }
 {
     let mut reader = reader;
-    let (live, count) = replay(alloc, &mut reader, array, source)?;
+    let (live, count) = replay(alloc, &mut reader, array, source, makes)?;
     match reader.finish(alloc) {
         Ok(journal) => Ok((live, Store::new(alloc, journal), count)),
         Err((error, _reader)) => Err(RestartError::Journal(error)),
@@ -102,12 +107,13 @@ pub fn restart<D: Disk + Drop, M: Media + Drop, S: DiskSource<D>>(
 }
 
 /// Executes the records of a store again, of which the head was read, on an array without units, and returns the array
-/// and the number of records. Nothing is written.
+/// and the number of records. `makes`, at first that of the head, counts the units that they make. Nothing is written.
 pub fn replay<D: Disk + Drop, M: Media, S: DiskSource<D>>(
     alloc: Global,
     reader: &mut JournalReader<M>,
     array: Array<D>,
     source: &mut S,
+    makes: &mut Makes,
 ) -> Result<(LiveArray<D>, u64), RestartError>
     requires reading { IsReading M.seen M.may_leave M.is_clean reader.old }
     requires head { IsTrue (M.is_clean reader.old.active) → IsHeadAlone (batches_read M.seen reader.old) }
@@ -116,10 +122,12 @@ pub fn replay<D: Disk + Drop, M: Media, S: DiskSource<D>>(
     ensures reads { ReadsActive M.seen M.may_leave M.moment M.left_since M.is_clean reader.old reader.new }
     ensures replayed { IfOk result (λ r. IsTrue (M.is_clean reader.new.active)
         → IsReplayed (batches_of (M.seen reader.old.active)) r.0.history) }
+    ensures makes { OnOk result (IsTrue (M.is_clean reader.new.active)
+        → makes.new.bytes ≡ makes_after makes.old.bytes (log_records (batches_of (M.seen reader.old.active)))) }
     ensures kept { IfOk result (λ r. HistoryAgrees r.0.array r.0.history) }
 {
     let mut recovery = Recovery::of(alloc, array);
-    let count = redo_all(alloc, reader, &mut recovery, source)?;
+    let count = redo_all(alloc, reader, &mut recovery, source, makes)?;
     Ok((recovery.finish(), count))
 }
 
@@ -129,6 +137,7 @@ fn redo_all<D: Disk + Drop, M: Media, S: DiskSource<D>>(
     reader: &mut JournalReader<M>,
     recovery: &mut Recovery<D>,
     source: &mut S,
+    makes: &mut Makes,
 ) -> Result<u64, RestartError>
     requires reading { IsReading M.seen M.may_leave M.is_clean reader.old }
     requires head { IsTrue (M.is_clean reader.old.active) → IsHeadAlone (batches_read M.seen reader.old) }
@@ -137,13 +146,15 @@ fn redo_all<D: Disk + Drop, M: Media, S: DiskSource<D>>(
     ensures reads { ReadsActive M.seen M.may_leave M.moment M.left_since M.is_clean reader.old reader.new }
     ensures replayed { OnOk result (IsTrue (M.is_clean reader.new.active)
         → IsReplayed (batches_of (M.seen reader.old.active)) recovery.new.history) }
+    ensures makes { OnOk result (IsTrue (M.is_clean reader.new.active)
+        → makes.new.bytes ≡ makes_after makes.old.bytes (log_records (batches_of (M.seen reader.old.active)))) }
 {
     let mut count = 0;
     'reading: loop {
         match reader.next_batch(alloc) {
             Err(error) => return Err(RestartError::Journal(error)),
             Ok(None) => return Ok(count),
-            Ok(Some(batch)) => count = redo_batch(alloc, recovery, &batch, source, count)?,
+            Ok(Some(batch)) => count = redo_batch(alloc, recovery, &batch, source, makes, count)?,
         }
     }
 }
@@ -154,13 +165,17 @@ fn redo_batch<D: Disk + Drop, S: DiskSource<D>>(
     recovery: &mut Recovery<D>,
     batch: &[Vec<u8>],
     source: &mut S,
+    makes: &mut Makes,
     first: u64,
 ) -> Result<u64, RestartError>
-    ensures { OnOk result (RedoesAll recovery.old.history (all_decoded (items_of batch.now)) recovery.new.history) }
+    ensures redone { OnOk result
+        (RedoesAll recovery.old.history (all_decoded (items_of batch.now)) recovery.new.history) }
+    ensures makes { OnOk result
+        (makes.new.bytes ≡ makes_after makes.old.bytes (all_decoded (items_of batch.now))) }
 {
     let mut number = first;
     for bytes in batch {
-        redo_one(alloc, recovery, bytes.as_slice(), source, number)?;
+        redo_one(alloc, recovery, bytes.as_slice(), source, makes, number)?;
         number = number.saturating_add(1);
     }
     Ok(number)
@@ -172,9 +187,13 @@ fn redo_one<D: Disk + Drop, S: DiskSource<D>>(
     recovery: &mut Recovery<D>,
     bytes: &[u8],
     source: &mut S,
+    makes: &mut Makes,
     number: u64,
 ) -> Result<(), RestartError>
-    ensures { OnOk result (RedoesAll recovery.old.history (with_record (decoded bytes.now) []) recovery.new.history) }
+    ensures redone { OnOk result
+        (RedoesAll recovery.old.history (with_record (decoded bytes.now) []) recovery.new.history) }
+    ensures makes { OnOk result
+        (makes.new.bytes ≡ makes_after makes.old.bytes (with_record (decoded bytes.now) [])) }
 {
     let entry = match decode(alloc, bytes) {
         Ok(entry) => entry,
@@ -182,6 +201,7 @@ fn redo_one<D: Disk + Drop, S: DiskSource<D>>(
         Err(DecodeError::Invalid) => return Err(RestartError::Record(number)),
     };
     supply_for(alloc, recovery, &entry, source)?;
+    makes.note(&entry);
     if recovery.redo(entry) {
         Ok(())
     } else {

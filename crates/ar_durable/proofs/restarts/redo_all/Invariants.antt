@@ -1,5 +1,7 @@
-use Rattle.std.proofs.Common.{◌-◌, ◌^◌, IsTrue}
+use Rattle.std.proofs.Common.{◌≡◌, ◌-◌, ◌^◌, IsTrue}
 use Rattle.ar_journal.specs.Reader.{IsReading, ReadsActive, batches_read}
+use Rattle.ar_compaction.specs.Makes.{makes_after}
+use Rattle.ar_checkpoint.specs.Successor.{log_records}
 use Rattle.ar_durable.specs.Durable.{IsReplayed}
 use Rattle.ar_durable.proofs.restarts.redo_all.Given as goal
 
@@ -10,6 +12,8 @@ invariant-reading g l = record {
       l.fn.reader l.reader;
   replayed : IsTrue (g.M.Media.is_clean l.reader.active)
       → IsReplayed (batches_read g.M.Media.seen l.reader) l.recovery.history;
+  made : IsTrue (g.M.Media.is_clean l.reader.active)
+      → l.makes.bytes ≡ makes_after l.fn.makes.bytes (log_records (batches_read g.M.Media.seen l.reader));
 }
 
 abbrev pub decreases-reading : goal.decreases-reading

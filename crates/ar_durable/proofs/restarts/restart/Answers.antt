@@ -1,7 +1,8 @@
-use Rattle.std.proofs.Common.{List, [], ◌++◌, IsTrue, append-nil, refl, sym, ap, subst, ◌∙◌}
+use Rattle.std.proofs.Common.{◌≡◌, List, [], ◌++◌, IsTrue, append-nil, refl, sym, ap, subst, ◌∙◌}
 use Rattle.ar_log.specs.Log.{batches_of}
 use Rattle.ar_journal.specs.Journal.{batches_now}
 use Rattle.ar_record.specs.Record.{RecordData}
+use Rattle.ar_compaction.specs.Makes.{makes_after}
 use Rattle.ar_record.specs.Replay.{own_of}
 use Rattle.ar_recovery.specs.Recovering.{IsRecovered}
 use Rattle.ar_recovery.proofs.Recovering.{recovered_is}
@@ -42,3 +43,12 @@ returns-in-Ok-clause-units g c =
     (sym c.new.ensures)
     (λ clean. recovered_is records live (c.in_ok-live.ensures.replayed (c.in-Ok.ensures.clean clean)).redone
     c.in_ok-live.ensures.kept)
+
+pub returns-in-Ok-clause-makes : goal.returns-in-Ok-clause-makes
+returns-in-Ok-clause-makes g c =
+    let records = log_records (batches_of (g.M.Media.seen c.args.reader.active)) in
+    subst
+    (λ (s : RecordStore g.row.M.Denot). IsTrue (g.M.Media.is_clean s.journal.active.media)
+    → c.replay.new.makes.bytes ≡ makes_after c.args.makes.now.bytes records)
+    (sym c.new.ensures)
+    (λ clean. c.in_ok-live.ensures.makes (c.in-Ok.ensures.clean clean))
