@@ -33,7 +33,28 @@ pub struct UnitUsage {
     /// Blocks that are cached.
     pub cached: u32,
     /// Its serial number, as initiators see it, where they may come.
-    pub serial: Option<[u8; 12]>,
+    pub serial: Option<[u8; 16]>,
+}
+
+/// What tells the units of an array from all others, beside their hosts and LUNs.
+#[derive(Clone, Copy, Debug, PartialEq, Eq)]
+pub struct UnitNames {
+    /// Distinguishes the array from others.
+    pub array: u32,
+    /// The generations of the units, host by host and LUN by LUN.
+    pub generations: [u16; 32],
+}
+
+impl UnitNames {
+    // The serial number of a unit.
+    fn serial_number(&self, host: u8, lun: u8) -> [u8; 16] {
+        let place = 8 * usize::from(host) + usize::from(lun);
+        let generation = match self.generations.get(place) {
+            Some(generation) => *generation,
+            None => 0,
+        };
+        serial_number(self.array, host, lun, generation)
+    }
 }
 
 /// How a disk is.
@@ -86,18 +107,17 @@ pub struct Inventory {
 }
 
 impl Inventory {
-    /// Copies the tables of an array whose disks are on these fuses. `number` distinguishes it from other arrays in the
-    /// serial numbers of its units, if initiators see them. It looks at each block of each unit. Fails only when out
-    /// of memory.
+    /// Copies the tables of an array whose disks are on these fuses. `names` tells its units apart in their serial
+    /// numbers, if initiators see them. It looks at each block of each unit. Fails only when out of memory.
     pub fn of<D: Disk>(
         alloc: Global,
         array: &Array<D>,
         fuses: &[Fuse; 12],
-        number: Option<u32>,
+        names: Option<UnitNames>,
     ) -> Result<Inventory, AllocError> {
         let mut picture = picture_of(alloc, array)?;
         picture.name_lost(lost_disks(fuses));
-        let units = usages_of(alloc, array, &picture.units, number)?;
+        let units = usages_of(alloc, array, &picture.units, &names)?;
         Ok(Inventory {
             picture,
             units,
@@ -224,16 +244,16 @@ fn usages_of<D: Disk>(
     alloc: Global,
     array: &Array<D>,
     units: &[Unit],
-    number: Option<u32>,
+    names: &Option<UnitNames>,
 ) -> Result<Vec<UnitUsage>, AllocError> {
     let mut usages = Vec::with_capacity(alloc, units.len())?;
     for unit in units {
-        usages.push(usage_of(array, *unit, number))?;
+        usages.push(usage_of(array, *unit, names))?;
     }
     Ok(usages)
 }
 
-fn usage_of<D: Disk>(array: &Array<D>, unit: Unit, number: Option<u32>) -> UnitUsage {
+fn usage_of<D: Disk>(array: &Array<D>, unit: Unit, names: &Option<UnitNames>) -> UnitUsage {
     let Unit {
         host,
         lun,
@@ -251,7 +271,15 @@ fn usage_of<D: Disk>(array: &Array<D>, unit: Unit, number: Option<u32>) -> UnitU
         blocks,
         written: placed,
         cached,
-        serial: number.map(|number| serial_number(number, host, lun)),
+        serial: serial_of(names, host, lun),
+    }
+}
+
+// The serial number of a unit, if initiators see it.
+fn serial_of(names: &Option<UnitNames>, host: u8, lun: u8) -> Option<[u8; 16]> {
+    match names {
+        Some(names) => Some(names.serial_number(host, lun)),
+        None => None,
     }
 }
 

@@ -22,7 +22,7 @@ pub use fail::set_fuse;
 pub use fused::{
     DiskCounts, Fuse, FusedDisk, FusedMaker, disk_counts, disk_totals, lost_disks, start_fused,
 };
-pub use inventory::{DiskState, DiskUsage, Inventory, SectorUsage, UnitUsage};
+pub use inventory::{DiskState, DiskUsage, Inventory, SectorUsage, UnitNames, UnitUsage};
 pub use order::{LineFault, OperatorOrder, operator_order_in};
 pub use spare::{Prepared, SpareDisk, WantedDisk, wanted_disk};
 pub use text::{write_counts, write_help, write_initiator, write_session, write_version};

@@ -6,8 +6,8 @@ use ar_disks::Geometry;
 use ar_frames::{MemSource, Sink};
 use ar_history::{Kept, Seat};
 use ar_operator::{
-    Controller, Fuse, FusedDisk, FusedMaker, Inventory, OperatorEnd, OperatorOrder, converse,
-    execute, set_fuse, start_fused, write_counts, write_help, write_version,
+    Controller, Fuse, FusedDisk, FusedMaker, Inventory, OperatorEnd, OperatorOrder, UnitNames,
+    converse, execute, set_fuse, start_fused, write_counts, write_help, write_version,
 };
 use ar_script::Setup;
 use bytes::Bytes;
@@ -70,7 +70,13 @@ impl<'a, L: Ledger> Rig<'a, L> {
 
 impl<L: Ledger> Rig<'_, L> {
     fn inventory(&self) -> Result<Inventory, AllocError> {
-        Inventory::of(self.alloc, self.kept.array(), self.fuses, Some(0x0A0B_0C0D))
+        let mut generations = [0; 32];
+        generations[31] = 0x0102;
+        let names = UnitNames {
+            array: 0x0A0B_0C0D,
+            generations,
+        };
+        Inventory::of(self.alloc, self.kept.array(), self.fuses, Some(names))
     }
 }
 

@@ -132,8 +132,8 @@ spares 0
             (b"make 3 7 5\n", b"ok\n"),
             (
                 b"units\n",
-                b"unit 0 0 sectors 12 blocks 6 written 6 cached 0 serial 0A0B0C0D0000
-unit 3 7 sectors 5 blocks 3 written 0 cached 0 serial 0A0B0C0D0307
+                b"unit 0 0 sectors 12 blocks 6 written 6 cached 0 serial 0A0B0C0D00000000
+unit 3 7 sectors 5 blocks 3 written 0 cached 0 serial 0A0B0C0D03070102
 ",
             ),
             (
