@@ -105,7 +105,7 @@ impl<'a, R: Wait, A: ControlledArray<L, M> + Drop, L: Ledger, M> LockController<
     // Copies what the words above show. Hosts wait meanwhile, as for a picture.
     fn inventory(&self) -> Result<Inventory, AllocError> {
         let array = self.array.array.lock(self.array.rt);
-        array.inventory(self.array.alloc, self.array.fuses, self.array.number)
+        array.inventory(self.array.alloc, self.array.fuses, self.array.names())
     }
 }
 
@@ -277,9 +277,8 @@ fn list_done(
 // Counts a change of the inventory of a host's units, of which its sessions report a UNIT ATTENTION.
 fn count_change(tallies: &Tallies, kind: EventKind) {
     match kind {
-        EventKind::UnitMade { host, .. } | EventKind::UnitDropped { host, .. } => {
-            tallies.change_inventory(host)
-        }
+        EventKind::UnitMade { host, lun } => tallies.make_unit(host, lun),
+        EventKind::UnitDropped { host, .. } => tallies.drop_unit(host),
         _ => {}
     }
 }

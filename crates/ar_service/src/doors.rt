@@ -14,7 +14,7 @@ use ar_disks::Host;
 use ar_frames::{Linked, PairWrite, Sink, Source};
 use ar_iscsi::IscsiEnd;
 use ar_latency::CommandLatencies;
-use ar_operator::{Fuse, OperatorEnd, disk_totals, lost_disks};
+use ar_operator::{Fuse, OperatorEnd, UnitNames, disk_totals, lost_disks};
 use ar_sessions::{Desk, Door, Handler, NoMemory, SharedDoor, Starter, run_pool, start_pool};
 use ar_status::{Activity, ArrayName, ArrayStatus, EventLog, SessionNumbers};
 use log::Log;
@@ -109,6 +109,17 @@ type Sides<'s, O, T, W, I> = (
 );
 
 impl<'a, R: Wait, A: Drop, L: Ledger, M> OperatedArray<'a, R, A, L, M> {
+    /// What tells its units from all others in their serial numbers, if initiators see them.
+    pub fn names(&self) -> Option<UnitNames> {
+        match self.number {
+            Some(array) => Some(UnitNames {
+                array,
+                generations: self.tallies.generations(),
+            }),
+            None => None,
+        }
+    }
+
     /// The seconds that a rebuild still takes by its pace, if one goes on and that can be told.
     pub fn rebuild_seconds_left(&self) -> Option<u64> {
         self.activity.lock(self.rt).rebuild_seconds_left()

@@ -192,6 +192,12 @@ impl<'a, R: Wait + Clock + Log, L: Ledger, P: Port + Drop> InventoryPort
     fn changes(&self) -> u64 {
         self.tallies.inventory_changes(self.host)
     }
+
+    ghost generations = { λ _ _ _. Unit {0} };
+
+    fn generation(&self, lun: u8) -> u16 {
+        self.tallies.generation(self.host, lun)
+    }
 }
 
 // Waits until a host has no session, or for two seconds. A login whose session another has ended waits no longer.

@@ -86,7 +86,7 @@ fn unit_of(alloc: Global, unit: ar_operator::UnitUsage) -> Result<UnitUsage, All
 }
 
 // A serial number as a text.
-fn text_of(alloc: Global, serial: Option<[u8; 12]>) -> Result<Option<String>, AllocError> {
+fn text_of(alloc: Global, serial: Option<[u8; 16]>) -> Result<Option<String>, AllocError> {
     let Some(serial) = serial else {
         return Ok(None);
     };

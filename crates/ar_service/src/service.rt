@@ -79,6 +79,8 @@ pub enum OperatorListener {
 pub struct Plan<'a> {
     /// The units to create before listening, in order.
     pub units: &'a [NewUnit],
+    /// How many units were made at each address, host by host and LUN by LUN, once those are created.
+    pub makes: [u16; 32],
     /// The array's name, for those who watch it.
     pub name: ArrayName,
     /// The TCP port to listen at for hosts, on 127.0.0.1. None: they come over iSCSI alone.
@@ -290,7 +292,7 @@ fn serve_array<
     let (made, initiators) = with_initiators(alloc, made);
     let (log, initiators) = (Mutex::new(log), Mutex::new(initiators));
     let spares = Mutex::new(spares);
-    let tallies = Tallies::new();
+    let tallies = Tallies::new(&plan.makes);
     let activity = Mutex::new(Activity::new());
     let ended = AtomicBool::new(false);
     let operated = OperatedArray {

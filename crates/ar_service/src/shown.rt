@@ -19,8 +19,8 @@ use ar_history::{
 };
 use ar_latency::CommandLatencies;
 use ar_operator::{
-    DiskCounts, DiskMaker, Fuse, Inventory, OperatorOrder, Prepared, SpareDisk, WantedDisk,
-    execute, set_fuse, wanted_disk,
+    DiskCounts, DiskMaker, Fuse, Inventory, OperatorOrder, Prepared, SpareDisk, UnitNames,
+    WantedDisk, execute, set_fuse, wanted_disk,
 };
 use ar_picture::Picture;
 use ar_script::picture_of;
@@ -109,7 +109,7 @@ pub trait ControlledArray<L: Ledger, M>: ServedArray<L> {
         &self,
         alloc: Global,
         fuses: &[Fuse; 12],
-        number: Option<u32>,
+        names: Option<UnitNames>,
     ) -> Result<Inventory, AllocError>;
 }
 
@@ -171,9 +171,9 @@ impl<A: OperableArray<L>, L: Ledger, M: DiskMaker<A::Disk>> ControlledArray<L, M
         &self,
         alloc: Global,
         fuses: &[Fuse; 12],
-        number: Option<u32>,
+        names: Option<UnitNames>,
     ) -> Result<Inventory, AllocError> {
-        Inventory::of(alloc, self.array(), fuses, number)
+        Inventory::of(alloc, self.array(), fuses, names)
     }
 }
 

@@ -78,7 +78,7 @@ impl<'a, R: Wait + Clock, A: ControlledArray<L, M> + Drop, L: Ledger, M> Watch<'
         if !lists {
             return Ok(None);
         }
-        let inventory = array.inventory(alloc, self.array.fuses, self.array.number)?;
+        let inventory = array.inventory(alloc, self.array.fuses, self.array.names())?;
         Ok(Some(inventory))
     }
 

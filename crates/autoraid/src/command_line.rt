@@ -1,4 +1,5 @@
 // From the options of the command line to what the libraries take.
+use crate::makes::{makes_of, numbers_of};
 use ar_command_line::{ArrayOptions, OperatorDoor, ServeOptions, UnitOption};
 use ar_script::Setup;
 use ar_service::{HttpPort, IscsiPort, NewUnit, OperatorListener, OperatorPlace, Plan};
@@ -47,6 +48,7 @@ impl Service {
     ) -> Plan<'a> {
         Plan {
             units: self.units.as_slice(),
+            makes: numbers_of(makes_of(self.units.as_slice())),
             name: ArrayName::of(self.options.name.as_bytes()),
             port: self.options.port,
             sessions: self.options.sessions,

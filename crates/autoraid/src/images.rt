@@ -61,7 +61,8 @@ fn export_unit(
     let fuses = Fuse::twelve();
     let array = start_fused(alloc, setup_in(&head, 0), &fuses).map_err(|_| StoreCause::Start)?;
     let mut source = FusedSource::new(FusedMaker::new(&fuses));
-    let (live, _records) = replay(alloc, &mut reader, array, &mut source)?;
+    let mut makes = head.makes;
+    let (live, _records) = replay(alloc, &mut reader, array, &mut source, &mut makes)?;
     let mut live = live;
     let written = write_unit(&mut live, addr, &mut out);
     drop(live);
@@ -139,7 +140,8 @@ fn import_unit<R: Clock + Log>(
     let fuses = Fuse::twelve();
     let array = start_fused(alloc, setup_in(&head, 0), &fuses).map_err(|_| StoreCause::Start)?;
     let mut source = FusedSource::new(FusedMaker::new(&fuses));
-    let (live, store, _records) = restart(alloc, reader, array, &mut source)?;
+    let mut makes = head.makes;
+    let (live, store, _records) = restart(alloc, reader, array, &mut source, &mut makes)?;
     let most = live.array().sectors(addr).unwrap_or(MOST_SECTORS);
     match read_image(alloc, &mut files.stdin(), most) {
         Ok(image) => write_image::<FusedDisk<'_>, Brand, RegularFile, R>(

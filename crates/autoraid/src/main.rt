@@ -13,6 +13,7 @@ mod dialogue;
 mod drawing;
 mod failure;
 mod images;
+mod makes;
 mod operators;
 mod serve;
 mod stored;

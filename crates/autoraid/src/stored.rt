@@ -8,11 +8,12 @@ ghost use Rattle.ar_durable.specs.Durable.{AreRecords};
 
 use crate::command_line::{RandomNumbers, Service};
 use crate::failure::Failure;
+use crate::makes::{makes_with, numbers_of};
 use crate::operators::{OperatorsEntry, remove_file};
 use crate::serve::conclude;
 use ar_checkpoint::CheckpointError;
 use ar_command_line::{CreateOptions, ShapeOptions, StoreOptions, SyncMode};
-use ar_compaction::{HeadError, StoreHead};
+use ar_compaction::{HeadError, Makes, StoreHead};
 use ar_copies::{CopiedFile, Losses};
 use ar_core::{Array, Refusal};
 use ar_disks::{Addr, Disk, Geometry, Host};
@@ -218,6 +219,7 @@ fn new_head(
         geometry: options.geometry,
         disks: options.disks,
         extents: options.extents,
+        makes: Makes::none(),
         name,
     })
 }
@@ -250,7 +252,8 @@ fn check_store(rt: &HostRuntime, alloc: Global, folder: &str) -> Result<(), Stor
     let fuses = Fuse::twelve();
     let array = start_fused(alloc, setup_in(&head, 0), &fuses).map_err(|_| StoreCause::Start)?;
     let mut source = FusedSource::new(FusedMaker::new(&fuses));
-    let (live, records) = replay(alloc, &mut reader, array, &mut source)?;
+    let mut makes = head.makes;
+    let (live, records) = replay(alloc, &mut reader, array, &mut source, &mut makes)?;
     let reported = tell_contents(rt, &head, live.array(), records);
     drop(live);
     reported.map_err(|_| StoreCause::Write)
@@ -335,7 +338,9 @@ fn serve_by<'s, R: ServiceRuntime + Sync>(
 ) -> Result<(TcpStops<'s, R>, Result<Closing, ServiceFault>), Failure> {
     let alloc = files.alloc();
     let (service, options, random) = asked;
-    let (head, live, store) = match take_up(rt, files, alloc, service, options, fuses, losses) {
+    let (head, live, store, makes) = match take_up(
+        rt, files, alloc, service, options, fuses, losses,
+    ) {
         Ok(taken) => taken,
         Err(cause) => return Err(Failure::Store(cause)),
     };
@@ -344,7 +349,8 @@ fn serve_by<'s, R: ServiceRuntime + Sync>(
         alloc,
         &service.options.operator,
     ).map_err(Failure::Serve)?;
-    let plan = plan_of(service, &head, options, random, listener);
+    let mut plan = plan_of(service, &head, options, random, listener);
+    plan.makes = numbers_of(makes);
     let (stops, served) = serve_taken_up::<FusedDisk<'s>, Brand, FusedMaker<'s>, R, StoreFile<'s>>(
         rt,
         alloc,
@@ -432,8 +438,14 @@ fn serve_taken_up<
 // A file of a store.
 type StoreFile<'a> = CopiedFile<'a, RegularFile>;
 
-// What is taken up: the head of the store, the array, and the store that goes on.
-type TakenUp<'a> = (StoreHead, LiveArray<FusedDisk<'a>>, Store<StoreFile<'a>>);
+// What is taken up: the head of the store, the array, the store that goes on, and how many units were made, with those
+// that the service creates.
+type TakenUp<'a> = (
+    StoreHead,
+    LiveArray<FusedDisk<'a>>,
+    Store<StoreFile<'a>>,
+    Makes,
+);
 
 // Opens a store, and executes its records on a new array.
 fn take_up<'a, R: ServiceRuntime>(
@@ -511,11 +523,13 @@ fn restart_array<'a, R: ServiceRuntime>(
     let setup = setup_in(&head, service.options.array.cache);
     let array = start_fused(alloc, setup, fuses).map_err(|_| StoreCause::Start)?;
     let mut source = FusedSource::new(FusedMaker::new(fuses));
-    let (live, store, records) = restart(alloc, reader, array, &mut source)?;
+    let mut makes = head.makes;
+    let (live, store, records) = restart(alloc, reader, array, &mut source, &mut makes)?;
     check_disks(live.array().disks(), options.shape)?;
     let units = count_units(live.array());
     tell_start(rt, units, records, began).map_err(|_| StoreCause::Write)?;
-    Ok((head, live, store))
+    let makes = makes_with(makes, live.array(), service.units.as_slice());
+    Ok((head, live, store, makes))
 }
 
 // Prints what a start has done.
