@@ -1,5 +1,5 @@
-//! Tests of logs: drawn runs that stop at every call, crash in every way, crash again while they recover, fill up, and
-//! decay.
+//! Tests of logs, and of logs over zeros: drawn runs that stop at every call, crash in every way, crash again while they
+//! recover, fill up, and decay.
 #![tactic(auto)]
 
 #[cfg(test)]
@@ -12,3 +12,11 @@ mod draw;
 mod room;
 #[cfg(test)]
 mod run;
+#[cfg(test)]
+mod zeroed_calls;
+#[cfg(test)]
+mod zeroed_crash;
+#[cfg(test)]
+mod zeroed_decay;
+#[cfg(test)]
+mod zeroed_run;
