@@ -180,6 +180,9 @@ class Tests(Refused):
     def test_log(self):
         self.goes_on("test_log", "scarce::a_log_goes_on")
 
+    def test_log_over_zeros(self):
+        self.goes_on("test_log", "zeroed_scarce::a_log_over_zeros_goes_on")
+
     def test_journal(self):
         self.goes_on("test_log", "scarce::a_journal_goes_on")
 

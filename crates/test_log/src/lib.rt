@@ -4,6 +4,10 @@
 #[cfg(test)]
 mod bytes;
 #[cfg(test)]
+mod copies;
+#[cfg(test)]
 mod rig;
 #[cfg(test)]
 mod scarce;
+#[cfg(test)]
+mod zeroed_scarce;

@@ -20,11 +20,11 @@ use std::process::Abort;
 
 /// The names of the files of a journal.
 #[derive(Clone, Copy)]
-struct Folder {
-    path: &'static str,
-    selector: &'static str,
-    first: &'static str,
-    second: &'static str,
+pub struct Folder {
+    pub path: &'static str,
+    pub selector: &'static str,
+    pub first: &'static str,
+    pub second: &'static str,
 }
 
 const LOG: Folder = Folder {
@@ -56,11 +56,12 @@ const OTHER: Folder = Folder {
 };
 
 /// No other error comes of a refused allocation.
-fn is_refused(rt: &impl Abort, error: LogError) {
+pub fn is_refused(rt: &impl Abort, error: LogError) {
     assert!(rt; error == LogError::Memory, "{error:?}");
 }
 
-fn batch(rt: &impl Abort, alloc: Global, number: usize) -> Vec<Vec<u8>> {
+/// The records of one of the batches.
+pub fn batch(rt: &impl Abort, alloc: Global, number: usize) -> Vec<Vec<u8>> {
     let records = BATCHES[number % 3];
     match batch_of(alloc, records) {
         Ok(batch) => batch,
@@ -68,8 +69,8 @@ fn batch(rt: &impl Abort, alloc: Global, number: usize) -> Vec<Vec<u8>> {
     }
 }
 
-// An empty folder, whatever an earlier run left.
-fn begin(rt: &impl Abort, host: &HostRuntime, folder: Folder) {
+/// Makes an empty folder, whatever an earlier run left.
+pub fn begin(rt: &impl Abort, host: &HostRuntime, folder: Folder) {
     let _ = fs::remove_dir_all(host, folder.path);
     let _ = fs::remove_dir_all(host, folder.path);
     if fs::create_dir(host, folder.path).is_err() {
@@ -77,13 +78,15 @@ fn begin(rt: &impl Abort, host: &HostRuntime, folder: Folder) {
     }
 }
 
-fn end(rt: &impl Abort, host: &HostRuntime, folder: Folder) {
+/// Deletes the folder.
+pub fn end(rt: &impl Abort, host: &HostRuntime, folder: Folder) {
     if fs::remove_dir_all(host, folder.path).is_err() {
         fs::remove_dir_all(host, folder.path).expect(rt, "no folder");
     }
 }
 
-fn opened(rt: &impl Abort, host: &HostRuntime, path: &str) -> RegularFile
+/// The file at a path, which is there then.
+pub fn opened(rt: &impl Abort, host: &HostRuntime, path: &str) -> RegularFile
     ensures { Only (regular_seen result) (regular_may_leave result) }
 {
     match RegularFile::open(host, path) {
