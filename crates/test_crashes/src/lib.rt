@@ -1,5 +1,5 @@
-//! Tests of logs, and of logs over zeros: drawn runs that stop at every call, crash in every way, crash again while they
-//! recover, fill up, and decay.
+//! Tests of logs, and of logs over zeros: drawn runs that stop at every call, crash in every way, crash again while
+//! they recover, fill up, and decay.
 #![tactic(auto)]
 
 #[cfg(test)]

@@ -1,5 +1,5 @@
-//! Logs over zeros in which a bit has decayed. Where a byte of a body has become zero, or a number before it has shrunk,
-//! the batch is read as torn, and the log ends before it. Anything else is reported with its place.
+//! Logs over zeros in which a bit has decayed. Where a byte of a body has become zero, or a number before it has
+//! shrunk, the batch is read as torn, and the log ends before it. Anything else is reported with its place.
 use crate::zeroed_run::{
     Life, MAGIC, NUMBERS, Plan, batches_in, file_of, len_of, plan_of, run_zeroed,
 };

@@ -196,8 +196,8 @@ pub fn batches_in(alloc: Global, bytes: &[u8]) -> Result<Vec<Vec<Vec<u8>>>, LogE
     Ok(read_zeroed(alloc, bytes)?.batches)
 }
 
-/// Ends the test unless a crash may leave these bytes of a run: the batches that were acknowledged, with the next one or
-/// without, or nothing of a log that was not created.
+/// Ends the test unless a crash may leave these bytes of a run: the batches that were acknowledged, with the next one
+/// or without, or nothing of a log that was not created.
 pub fn check_bytes(rt: &impl Abort, alloc: Global, life: &Life, bytes: &[u8]) {
     match batches_in(alloc, bytes) {
         Ok(found) => check_batches(rt, life, &found),
