@@ -1,4 +1,6 @@
 // Heads of both versions, byte for byte.
+ghost use Rattle.std.specs.Prelude.{◌≤◌, IfOk, length};
+
 use ar_compaction::{HeadError, Makes, StoreHead, decode_head, encode_head};
 use ar_disks::{Addr, Geometry, Host};
 use std::alloc::{AllocError, Global};
@@ -19,7 +21,9 @@ fn addr(rt: &impl Abort, host: u8, lun: u8) -> Addr {
 }
 
 // The same head, before whose log two units were made at host 1's LUN 2, and 258 at host 3's LUN 7.
-fn head(rt: &impl Abort, alloc: Global) -> Result<StoreHead, AllocError> {
+fn head(rt: &impl Abort, alloc: Global) -> Result<StoreHead, AllocError>
+    ensures { IfOk result (λ head. length head.name.items ≤ 64) }
+{
     let mut makes = Makes::none();
     for _ in 0..2 {
         makes.count(addr(rt, 1, 2));

@@ -1,5 +1,7 @@
 // Units that are made or removed while a session is open: what it reports of that, and when. The bytes are those of
 // SPC-4.
+ghost use Rattle.std.specs.Prelude.{◌≡◌};
+
 use crate::answers::Wanted::{Check, Good};
 use crate::answers::{
     ATTENTION, DONE, NEW_SESSION, NO_UNIT, Server, Wanted, logged_in, play, settled,
