@@ -76,9 +76,9 @@ class BadPdus(Case):
         self.finish()
 
     def test_unknown_keys(self):
-        """A key that isn't known is answered NotUnderstood, and a digest that isn't offered Reject."""
+        """A key that isn't known is answered NotUnderstood, and a digest that isn't known Reject."""
         initiator = self.connected()
-        said = initiator.log_in(NAME, TARGET_0, "X-unknown=1", "HeaderDigest=CRC32C")
+        said = initiator.log_in(NAME, TARGET_0, "X-unknown=1", "HeaderDigest=CRC-16")
         found = said.login_status.hex(), said.pairs.get(b"X-unknown"), said.pairs.get(b"HeaderDigest")
         self.wants(found, ("0000", b"NotUnderstood", b"Reject"), "the answers to these keys")
         initiator.close()

@@ -6,7 +6,9 @@ use Rattle.std.specs.List.{position_or_len, slice_split, list_any}
 use Rattle.std.proofs.lemmas.List.Splits.{slice_split_none, slice_split_first}
 use Rattle.std.proofs.lemmas.List.Sums.{fails_before_first}
 use Rattle.ar_iscsi.specs.declared.negotiation.Negotiation.{Negotiation}
+use Rattle.ar_iscsi.specs.declared.keys.KeyAnswer.TheVariants as says
 use Rattle.ar_iscsi.specs.Text.{text_answer, items_answer, item_answer, has_member}
+use Rattle.ar_iscsi.specs.Text.{digest_answer, digest_named, first_digest}
 use Rattle.ar_iscsi.specs.Initiator.{named_after, name_after_items, name_after_item}
 use Rattle.ar_iscsi.specs.Negotiation.{negotiated, after_items, after_item}
 use Rattle.ar_iscsi.specs.Targets.{targets_answer, asked_answers, asked_answer}
@@ -126,3 +128,15 @@ pub member_last : (member text : List ℕ) (end : ℕ) → end ≡ position_or_l
 member_last member text end at whole =
     ap (list_any (λ v. bytes_eq v member)) (split_last 44 text end at whole)
     ∙ or_false (bytes_eq text member)
+
+-- the digests of a list: the first that is supported
+pub digest_more : (text rest : List ℕ) (end : ℕ) → rest ≡ drop (end + 1) text
+    → end ≡ position_or_len (λ b. b == 44) text → end < length text
+    → digest_answer text ≡ unwrap_or (digest_named (take end text)) (digest_answer rest)
+digest_more text rest end is at within =
+    ap first_digest (split_first 44 text end at within)
+    ∙ ap (λ (l : List ℕ). unwrap_or (digest_named (take end text)) (digest_answer l)) (sym is)
+
+pub digest_last : (text : List ℕ) (end : ℕ) → end ≡ position_or_len (λ b. b == 44) text → length text ≤ end
+    → digest_answer text ≡ unwrap_or (digest_named text) says.Reject
+digest_last text end at whole = ap first_digest (split_last 44 text end at whole)

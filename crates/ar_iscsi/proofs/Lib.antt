@@ -7,5 +7,6 @@ pub mod Managing
 pub mod Oks
 pub mod Pdus
 pub mod Receiving
+pub mod Remainders
 pub mod Serving
 pub mod Words

@@ -1,14 +1,19 @@
 -- How the parts of a PDU that were read one after the other join, and how reading stops inside one.
-use Rattle.std.proofs.Common.{◌≡◌, ℕ, ◌+◌, ◌<◌, ◌≤◌, true, false, List, ◌++◌, subst, sym, append_assoc, length}
+use Rattle.std.proofs.Common.{◌≡◌, ◌∙◌, ℕ, ◌+◌, ◌<◌, ◌≤◌, true, false, List, [], ◌∷◌, ◌++◌, subst, sym, append_assoc, length}
+use Rattle.std.proofs.Common.{ap, refl, length-take-le}
 use Rattle.std.proofs.Common.{length-append, arith}
+use Rattle.std.proofs.lemmas.Bool.{ne_eqb}
 use Rattle.ar_frames.specs.Stream.{SourceState, Reading}
 use Rattle.ar_frames.proofs.Streams.{Reading-trans}
 use Rattle.ar_iscsi.specs.declared.receive.ReceiveEnd.TheVariants as end
 use Rattle.ar_iscsi.specs.declared.receive.Received.{Received}
 use Rattle.ar_iscsi.specs.declared.receive.Received.TheVariants.{Pdu, Nothing}
-use Rattle.ar_iscsi.specs.Pdu.{IsPdu, segment_len, rest_len}
+use Rattle.ar_iscsi.specs.Pdu.{IsPdu, ahs_len, segment_len, rest_len, padding_len}
+use Rattle.ar_iscsi.specs.declared.digest.Digests.{Digests}
+use Rattle.ar_iscsi.specs.Digest.{IsDigestedPdu, EndsWrong, closed, closes_data}
 use Rattle.ar_iscsi.specs.Receive.{ReceivesPdu, ReadsNoPdu, IsCutPdu, after_header, StopsPdu}
-use Rattle.std.specs.Prelude.{take}
+use Rattle.ar_iscsi.specs.Receive.{ReceivesDigested, StopsDigested}
+use Rattle.std.specs.Prelude.{take, Bool, ◌&&◌, ◌==◌, not}
 use Rattle.std.specs.Io.KnownBytes.{IsAtEnd}
 
 -- first bytes of a PDU and then others
@@ -69,4 +74,73 @@ stops_read a b limit header front part wanted header_is within fits short read =
   );
   read = read;
   ended = tt;
+}
+
+-- first bytes of a PDU with digests and then others
+pub digested_front : (digests : Digests) (a b c : SourceState) (base front buffer : List ℕ) (limit : ℕ)
+    (result : Received) → Reading a b front false
+    → ReceivesDigested digests (base ++ front) limit b c buffer result
+    → ReceivesDigested digests base limit a c buffer result
+digested_front digests a b c base front buffer limit (Pdu header) first rest = (
+  front ++ rest.0,
+  subst (λ (l : List ℕ). IsDigestedPdu digests header (take (segment_len header) buffer) l)
+      (append_assoc base front rest.0) rest.1,
+  rest.2,
+  Reading-trans a b c front rest.0 false first rest.3,
+)
+digested_front digests a b c base front buffer limit (Nothing reason) first rest = (
+  front ++ rest.0,
+  subst (λ (l : List ℕ). StopsDigested digests reason limit l) (append_assoc base front rest.0) rest.1,
+  Reading-trans a b c front rest.0 _ first rest.2,
+  rest.3,
+)
+
+-- padding alone makes no data
+padded_none : (payload padding : List ℕ) → length padding ≡ padding_len (length payload)
+    → (length payload == 0) ≡ (length (payload ++ padding) == 0)
+padded_none [] padding size = ap (λ (n : ℕ). n == 0) (sym size)
+padded_none (byte ∷ payload) padding size =
+    ne_eqb (length (byte ∷ payload)) 0 (λ e. omega (arith, e))
+    ∙ sym (ne_eqb (length ((byte ∷ payload) ++ padding)) 0 (λ e. omega (arith, e)))
+
+-- what was read after a header and its digest makes the PDU whole
+pub digested_whole :
+    (digests : Digests) (header ahs payload tail buffer : List ℕ) → length header ≡ 48 → length ahs ≡ ahs_len header
+    → length payload ≡ segment_len header → payload ≡ take (length payload) buffer
+    → padding_len (length payload) ≤ length tail
+    → payload ++ tail
+    ≡ closed (closes_data digests payload) (payload ++ take (padding_len (length payload)) tail)
+    → IsDigestedPdu digests header (take (segment_len header) buffer)
+    ((closed digests.header (header ++ ahs) ++ payload) ++ tail)
+digested_whole digests header ahs payload tail buffer header_is ahs_is size is room right =
+    let padding : List ℕ = take (padding_len (length payload)) tail in
+    let padding_is : length padding ≡ padding_len (length payload) =
+    length-take-le (padding_len (length payload)) tail room in
+    let wanted : closes_data digests payload ≡ closes_data digests (payload ++ padding) =
+    ap (λ (b : Bool). digests.segment && not b) (padded_none payload padding padding_is) in
+    subst (λ (l : List ℕ). IsDigestedPdu digests header l
+    ((closed digests.header (header ++ ahs) ++ payload) ++ tail)) (is ∙ ap (λ (n : ℕ). take n buffer) size)
+    (record {
+      ahs = ahs;
+      padding = padding;
+      layout = append_assoc (closed digests.header (header ++ ahs)) payload tail
+          ∙ ap (λ (l : List ℕ). closed digests.header (header ++ ahs) ++ l)
+          (right ∙ ap (λ (b : Bool). closed b (payload ++ padding)) wanted);
+      header_is = header_is;
+      ahs_is = ahs_is;
+      segment_is = size;
+      padding_is = padding_is ∙ ap padding_len size;
+    })
+
+both_left : (a b : Bool) → (a && b) ≡ true → a ≡ true
+both_left true b both = refl
+both_left false b both = both
+
+-- a wrong digest of data that have one
+pub wrong_data : (digests : Digests) (payload tail : List ℕ) (covered : ℕ)
+    → EndsWrong (closes_data digests payload) payload tail covered → EndsWrong digests.segment payload tail covered
+wrong_data digests payload tail covered wrong = record {
+  wanted = both_left digests.segment (not (length payload == 0)) wrong.wanted;
+  length_is = wrong.length_is;
+  wrong = wrong.wrong;
 }

@@ -1,4 +1,5 @@
 pub mod Arrival
+pub mod Digest
 pub mod Early
 pub mod Flow
 pub mod Initiator

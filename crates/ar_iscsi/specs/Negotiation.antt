@@ -5,6 +5,7 @@ use Rattle.std.specs.Prelude.{bytes_eq}
 use Rattle.std.specs.Prelude.{Option, Some, None}
 use Rattle.std.specs.Char.{is_ascii_digit}
 use Rattle.std.specs.List.{slice_split}
+use Rattle.ar_iscsi.specs.declared.digest.Digests.{Digests}
 use Rattle.ar_iscsi.specs.declared.keys.Key.{Key}
 use Rattle.ar_iscsi.specs.declared.keys.Key.TheVariants as key
 use Rattle.ar_iscsi.specs.declared.keys.KeyAnswer.{KeyAnswer}
@@ -16,6 +17,7 @@ use Rattle.ar_iscsi.specs.declared.negotiation.TargetChoice.TheVariants.{Unnamed
 use Rattle.ar_iscsi.specs.declared.negotiation.Limits.{Limits}
 use Rattle.ar_iscsi.specs.declared.negotiation.KeysSeen.{KeysSeen}
 use Rattle.ar_iscsi.specs.declared.negotiation.Negotiation.{Negotiation}
+use Rattle.ar_iscsi.specs.Digest.{plain}
 use Rattle.ar_iscsi.specs.Text.{item_name, item_value, key_named, key_answer, numeral}
 
 -- before any text: the default values (RFC 7143, 13)
@@ -32,6 +34,7 @@ at_first = record {
     first_burst = 65536;
     immediate_data = true;
     initial_r2t = true;
+    digests = plain;
     host = None;
   };
 }
@@ -116,6 +119,18 @@ choice_after old other = old
 abbrev pub with_burst : Limits → ℕ → Limits
 with_burst old burst = record old { max_burst = burst; first_burst = min old.first_burst burst }
 
+-- a digest after the answer to its key
+abbrev pub digest_after : Bool → KeyAnswer → Bool
+digest_after old says.Crc32c = true
+digest_after old says.NoneOfThem = false
+digest_after old other = old
+
+-- the digests after the answer to one of their keys
+abbrev pub digests_after : Digests → Key → KeyAnswer → Digests
+digests_after old key.HeaderDigest answer = record { header = digest_after old.header answer; segment = old.segment }
+digests_after old key.DataDigest answer = record { header = old.header; segment = digest_after old.segment answer }
+digests_after old other answer = old
+
 -- what a session may transfer after an item; FirstBurstLength is at most MaxBurstLength (RFC 7143, 13.14)
 abbrev pub limits_after : Limits → Key → List ℕ → Limits
 limits_after old key.MaxRecvDataSegmentLength offer =
@@ -128,6 +143,16 @@ limits_after old key.ImmediateData offer =
     record old { immediate_data = choice_after old.immediate_data (key_answer key.ImmediateData old.max_burst offer) }
 limits_after old key.InitialR2T offer =
     record old { initial_r2t = choice_after old.initial_r2t (key_answer key.InitialR2T old.max_burst offer) }
+limits_after old key.HeaderDigest offer =
+    record old {
+      digests =
+          digests_after old.digests key.HeaderDigest (key_answer key.HeaderDigest old.max_burst offer);
+    }
+limits_after old key.DataDigest offer =
+    record old {
+      digests =
+          digests_after old.digests key.DataDigest (key_answer key.DataDigest old.max_burst offer);
+    }
 limits_after old other offer = old
 
 -- what is negotiated after an item of this key

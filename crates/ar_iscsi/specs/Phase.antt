@@ -3,9 +3,11 @@ use Rattle.std.specs.Prelude.{◌≡◌, ◌≤◌, ℕ, zero, suc, false, List,
 use Rattle.ar_frames.specs.Stream.{SourceState, SinkState, Reading, Sending}
 use Rattle.ar_frames.specs.declared.fill.Sent.{Sent}
 use Rattle.ar_frames.specs.declared.fill.Sent.TheVariants.{Whole, Part}
+use Rattle.ar_iscsi.specs.declared.digest.Digests.{Digests}
 use Rattle.ar_iscsi.specs.declared.receive.ReceiveEnd.{ReceiveEnd}
-use Rattle.ar_iscsi.specs.Pdu.{IsPdu, segment_len}
-use Rattle.ar_iscsi.specs.Receive.{ReadsNoPdu}
+use Rattle.ar_iscsi.specs.Digest.{IsSentPdu, sent_by}
+use Rattle.ar_iscsi.specs.Pdu.{segment_len}
+use Rattle.ar_iscsi.specs.Receive.{ReadsNoSentPdu}
 
 -- the longest data segment that is received: the MaxRecvDataSegmentLength that the target declares
 abbrev pub most_segment : ℕ
@@ -29,17 +31,17 @@ pub record Place (S P : Type 0) : Type 0 where
 
 -- A whole PDU was read, and nothing after it; it did what a turn says, and the answer was written, whole or up to a
 -- write fault.
-pub record ServesPdu {S P E : Type 0} (turns : Turns S P E) (old new : Place S P) (left : E) (sent : Sent)
-    : Type 0 where
+pub record ServesPdu {S P E : Type 0} (digests : Digests) (turns : Turns S P E) (old new : Place S P) (left : E)
+    (sent : Sent) : Type 0 where
   pub header : List ℕ
   pub carried : List ℕ
   pub bytes : List ℕ
   pub out : List ℕ
-  pub is_pdu : IsPdu header carried bytes
+  pub is_pdu : IsSentPdu digests header carried bytes
   pub within : segment_len header ≤ most_segment
   pub read : Reading old.source new.source bytes false
   pub turn : turns header carried old.spot old.port out new.spot new.port left
-  pub sending : Sending old.sink new.sink out sent
+  pub sending : Sending old.sink new.sink (sent_by digests out) sent
 
 -- what a step of a phase may be: the moment before, the moment after it, how it leaves the phase, and how far its
 -- answer was written
@@ -54,18 +56,18 @@ ServesPdus {S = S} {P = P} steps next (suc n) old new =
     (between : Place S P) × ServesPdus steps next n old between × steps between new next Whole
 
 -- no whole PDU was read, for this reason; all else is as it was
-pub record IsLeftAlone {S P : Type 0} (old new : Place S P) (reason : ReceiveEnd) : Type 0 where
-  pub reads : ReadsNoPdu [] most_segment old.source new.source reason
+pub record IsLeftAlone {S P : Type 0} (digests : Digests) (old new : Place S P) (reason : ReceiveEnd) : Type 0 where
+  pub reads : ReadsNoSentPdu digests most_segment old.source new.source reason
   pub sink : new.sink ≡ old.sink
   pub spot : new.spot ≡ old.spot
   pub port : new.port ≡ old.port
 
 -- A whole PDU was read, and memory for its answer ran out: nothing was written. What the port may have done is `may`.
-pub record HasNoAnswer {S P : Type 0} (may : P → P → Type 0) (old new : Place S P) : Type 0 where
+pub record HasNoAnswer {S P : Type 0} (digests : Digests) (may : P → P → Type 0) (old new : Place S P) : Type 0 where
   pub header : List ℕ
   pub carried : List ℕ
   pub bytes : List ℕ
-  pub is_pdu : IsPdu header carried bytes
+  pub is_pdu : IsSentPdu digests header carried bytes
   pub read : Reading old.source new.source bytes false
   pub sink : new.sink ≡ old.sink
   pub port : may old.port new.port
@@ -78,13 +80,13 @@ pub record IsAnswerLost {S P E : Type 0} (steps : PhaseSteps S P E) (old new : P
 
 -- What a PDU did, once it was read: it did what a turn says, and was answered this far; or memory for the answer ran
 -- out, and nothing was written.
-pub data AnswersPdu {S P E : Type 0} (turns : Turns S P E) (may : P → P
+pub data AnswersPdu {S P E : Type 0} (digests : Digests) (turns : Turns S P E) (may : P → P
     → Type 0) (header carried : List ℕ) (sink : SinkState) (spot : S) (port : P)
     : Option (E × Sent) → SinkState → S → P → Type 0 where
   turned :
       (left : E) (sent : Sent) (out : List ℕ) (sink' : SinkState) (spot' : S) (port' : P)
       → turns header carried spot port out spot' port' left
-      → Sending sink sink' out sent
-      → AnswersPdu turns may header carried sink spot port (Some (left, sent)) sink' spot' port'
+      → Sending sink sink' (sent_by digests out) sent
+      → AnswersPdu digests turns may header carried sink spot port (Some (left, sent)) sink' spot' port'
   unanswered : (spot' : S) (port' : P) → may port port'
-      → AnswersPdu turns may header carried sink spot port None sink spot' port'
+      → AnswersPdu digests turns may header carried sink spot port None sink spot' port'

@@ -6,6 +6,7 @@ use Rattle.ar_target.specs.ResetPort.{UnitResets}
 use Rattle.ar_frames.specs.Stream.{SinkState, Reading, Sending}
 use Rattle.ar_frames.specs.declared.fill.Sent.{Sent}
 use Rattle.ar_frames.specs.declared.fill.Sent.TheVariants.{Whole, Part}
+use Rattle.ar_iscsi.specs.declared.digest.Digests.{Digests}
 use Rattle.ar_iscsi.specs.declared.flow.Flow.{Flow}
 use Rattle.ar_iscsi.specs.declared.negotiation.Limits.{Limits}
 use Rattle.ar_iscsi.specs.declared.receive.ReceiveEnd.{ReceiveEnd}
@@ -22,6 +23,7 @@ use Rattle.ar_iscsi.specs.declared.waiting_pdu.WaitingState.{WaitingState}
 use Rattle.ar_iscsi.specs.declared.waiting_pdu.WaitingState.TheVariants as state
 use Rattle.ar_iscsi.specs.declared.response.TargetPdu.TheVariants as pdu
 use Rattle.ar_iscsi.specs.Arrival.{FeatureSpot, ArrivalTurn, MayUse}
+use Rattle.ar_iscsi.specs.Digest.{sent_by}
 use Rattle.ar_iscsi.specs.Phase.{Place, ServesPdu, ServesPdus, IsLeftAlone, HasNoAnswer, IsAnswerLost, most_pdus}
 use Rattle.ar_iscsi.specs.Task.{MayGive}
 use Rattle.ar_iscsi.specs.Turn.{Spot, AnswersBy, FeatureTurn, Responds}
@@ -65,13 +67,13 @@ pub record ServesWaiting {P : Type 0} (commands : Commands P) (refuses : Command
       WaitingTurn commands refuses address limits pdu.state pdu.early pdu.header pdu.carried old.spot.session old.port
       out new.spot.session new.port left
   pub source : new.source ≡ old.source
-  pub sending : Sending old.sink new.sink out sent
+  pub sending : Sending old.sink new.sink (sent_by limits.digests out) sent
 
 -- none that waits is next, and a PDU was read, did what its turn says, and was answered
 pub record ServesArrival {P : Type 0} (commands : Commands P) (refuses : CommandRefusals P) (resets : UnitResets P)
     (address : List ℕ) (limits : Limits) (old new : Place FeatureSpot P) (left : TurnEnd) (sent : Sent) : Type 0 where
   pub none_next : is_next_waiting old.spot.session.flow old.spot.waiting ≡ false
-  pub serves : ServesPdu (ArrivalTurn commands refuses resets address limits) old new left sent
+  pub serves : ServesPdu limits.digests (ArrivalTurn commands refuses resets address limits) old new left sent
 
 -- The ping of a silent peer: a NOP-In that wants a NOP-Out with its tag. It has the next StatSN, and doesn't take it
 -- (RFC 7143, 11.19.2).
@@ -80,13 +82,13 @@ ping_of flow = target_pdu (pdu.Ping (ping_tag flow)) (numbers_of flow) []
 
 -- none that waits is next, a read faulted before the first byte of a PDU, and a ping was written, whole or up to a
 -- write fault; all else is as it was
-pub record PingsPeer {P : Type 0} (old new : Place FeatureSpot P) (left : TurnEnd) (sent : Sent) : Type 0 where
+pub record PingsPeer {P : Type 0} (digests : Digests) (old new : Place FeatureSpot P) (left : TurnEnd) (sent : Sent) : Type 0 where
   pub none_next : is_next_waiting old.spot.session.flow old.spot.waiting ≡ false
   pub read : Reading old.source new.source [] true
   pub spot : new.spot ≡ old.spot
   pub port : new.port ≡ old.port
   pub left_is : left ≡ Next
-  pub sending : Sending old.sink new.sink (ping_of old.spot.session.flow) sent
+  pub sending : Sending old.sink new.sink (sent_by digests (ping_of old.spot.session.flow)) sent
 
 -- a step of the phase
 pub data FeatureStep {P : Type 0} (commands : Commands P) (refuses : CommandRefusals P) (resets : UnitResets P)
@@ -95,21 +97,23 @@ pub data FeatureStep {P : Type 0} (commands : Commands P) (refuses : CommandRefu
       → FeatureStep commands refuses resets address limits old new left sent
   of_arrival : ServesArrival commands refuses resets address limits old new left sent
       → FeatureStep commands refuses resets address limits old new left sent
-  of_silence : PingsPeer old new left sent → FeatureStep commands refuses resets address limits old new left sent
+  of_silence : PingsPeer limits.digests old new left sent
+      → FeatureStep commands refuses resets address limits old new left sent
 
 -- memory for the answer to a PDU that was read, or waited, ran out: nothing was written, and the port was given at most
 -- one command, or units were reset
-pub data LacksAnswer {P : Type 0} (commands : Commands P) (resets : UnitResets P) (old new : Place FeatureSpot P)
-    : Type 0 where
-  read_lacks : HasNoAnswer (MayUse commands resets) old new → LacksAnswer commands resets old new
+pub data LacksAnswer {P : Type 0} (commands : Commands P) (resets : UnitResets P) (digests : Digests)
+    (old new : Place FeatureSpot P) : Type 0 where
+  read_lacks : HasNoAnswer digests (MayUse commands resets) old new → LacksAnswer commands resets digests old new
   waiting_lacks :
       new.source ≡ old.source → new.sink ≡ old.sink → MayGive commands old.port new.port
-      → LacksAnswer commands resets old new
+      → LacksAnswer commands resets digests old new
 
 -- when each end comes, after `count` PDUs and pings, from the last moment between two of them
 abbrev pub EndsFeature : {P : Type 0} → Commands P → CommandRefusals P → UnitResets P → List ℕ → Limits → ℕ
     → Place FeatureSpot P → FeatureEnd → Place FeatureSpot P → Type 0
-EndsFeature commands refuses resets address limits count old (end.Unread reason) new = IsLeftAlone old new reason
+EndsFeature commands refuses resets address limits count old (end.Unread reason) new =
+    IsLeftAlone limits.digests old new reason
 EndsFeature commands refuses resets address limits count old end.Write new =
     IsAnswerLost (FeatureStep commands refuses resets address limits) old new
 EndsFeature commands refuses resets address limits count old end.LoggedOut new =
@@ -119,7 +123,7 @@ EndsFeature commands refuses resets address limits count old end.BrokenData new 
 EndsFeature commands refuses resets address limits count old end.Rejected new =
     FeatureStep commands refuses resets address limits old new Rejected Whole
 EndsFeature commands refuses resets address limits count old end.NoMemory new =
-    LacksAnswer commands resets old new
+    LacksAnswer commands resets limits.digests old new
 EndsFeature commands refuses resets address limits count old end.Bound new = (count ≡ most_pdus) × (new ≡ old)
 
 -- one more PDU was served, or a ping sent, or the phase has ended, after however many of them
@@ -144,9 +148,10 @@ result_of_answer None = Ended end.NoMemory
 result_of_answer (Some answered) = result_of_turn answered.0 answered.1
 
 -- what was done where no PDU was read, for this reason: nothing, or a ping was written where that may be
-abbrev pub MayPing : Flow → ReceiveEnd → SinkState → Option Sent → SinkState → Type 0
-MayPing flow reason old None new = new ≡ old
-MayPing flow reason old (Some sent) new = (reason ≡ unread.Idle) × Sending old new (ping_of flow) sent
+abbrev pub MayPing : Digests → Flow → ReceiveEnd → SinkState → Option Sent → SinkState → Type 0
+MayPing digests flow reason old None new = new ≡ old
+MayPing digests flow reason old (Some sent) new =
+    (reason ≡ unread.Idle) × Sending old new (sent_by digests (ping_of flow)) sent
 
 -- what becomes of the session after that
 abbrev pub result_of_ping : ReceiveEnd → Option Sent → PduResult

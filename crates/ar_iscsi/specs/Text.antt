@@ -1,7 +1,7 @@
 -- Text of login and text PDUs: items of the form `Name=value`, each ended by a zero byte (RFC 7143, 6.1), and what a
 -- target answers to each key (RFC 7143, 13).
 use Rattle.std.specs.Prelude.{ℕ, ◌+◌, ◌-◌, ◌*◌, ◌==◌, nat_lt, nat_le, min, max, Bool, ◌&&◌, ◌||◌, if◌then◌else◌}
-use Rattle.std.specs.Prelude.{List, [], ◌∷◌, ◌++◌, length, take, drop, codes, bytes_eq, Option, Some, None}
+use Rattle.std.specs.Prelude.{List, [], ◌∷◌, ◌++◌, length, take, drop, codes, bytes_eq, Option, Some, None, unwrap_or}
 use Rattle.std.specs.List.{list_any, slice_split, before_first, after_first}
 use Rattle.std.specs.Char.{is_ascii_digit, is_ascii_hexdigit}
 use Rattle.std.specs.Fmt.{decimal}
@@ -99,6 +99,21 @@ only member answer offer = if has_member member offer then answer else says.Reje
 abbrev pub only_none : List ℕ → KeyAnswer
 only_none offer = only (codes "None") says.NoneOfThem offer
 
+-- a digest that is supported (RFC 7143, 13.1)
+abbrev pub digest_named : List ℕ → Option KeyAnswer
+digest_named name =
+    if bytes_eq name (codes "None") then Some says.NoneOfThem
+    else (if bytes_eq name (codes "CRC32C") then Some says.Crc32c else None)
+
+-- the first of some digests that is supported: the initiator's order decides (RFC 7143, 6.2.1)
+abbrev pub first_digest : List (List ℕ) → KeyAnswer
+first_digest [] = says.Reject
+first_digest (name ∷ names) = unwrap_or (digest_named name) (first_digest names)
+
+-- the same of an offered list
+abbrev pub digest_answer : List ℕ → KeyAnswer
+digest_answer offer = first_digest (slice_split (λ b. b == 44) offer)
+
 -- of the ways to end aborted tasks, only that of RFC 3720 is supported (RFC 7143, 13.23)
 abbrev pub task_reporting : List ℕ → KeyAnswer
 task_reporting offer = only (codes "RFC3720") says.Rfc3720 offer
@@ -144,8 +159,8 @@ key_answer key.SessionType burst offer = says.Silent
 key_answer key.TargetName burst offer = says.PortalGroup
 key_answer key.SendTargets burst offer = says.Reject
 key_answer key.AuthMethod burst offer = only_none offer
-key_answer key.HeaderDigest burst offer = only_none offer
-key_answer key.DataDigest burst offer = only_none offer
+key_answer key.HeaderDigest burst offer = digest_answer offer
+key_answer key.DataDigest burst offer = digest_answer offer
 key_answer key.TaskReporting burst offer = task_reporting offer
 -- Yes if either side says Yes: the target does for the order of data, and doesn't for R2T (RFC 7143, 13.10)
 key_answer key.InitialR2T burst offer = yes_or_no says.Yes says.No offer
@@ -169,6 +184,7 @@ answer_item name (says.Number n) = text_item name (decimal n)
 answer_item name says.Yes = text_item name (codes "Yes")
 answer_item name says.No = text_item name (codes "No")
 answer_item name says.NoneOfThem = text_item name (codes "None")
+answer_item name says.Crc32c = text_item name (codes "CRC32C")
 answer_item name says.Rfc3720 = text_item name (codes "RFC3720")
 answer_item name says.Reject = text_item name (codes "Reject")
 answer_item name says.NotUnderstood = text_item name (codes "NotUnderstood")

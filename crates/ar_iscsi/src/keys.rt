@@ -1,4 +1,4 @@
-// The keys that a target knows, and its answer to an offer of each. Own values: no digest, unsolicited data,
+// The keys that a target knows, and its answer to an offer of each. Own values: digests, unsolicited data,
 // one connection, one R2T at a time, no recovery, 256 KiB in a PDU or a burst, 64 KiB of them unsolicited.
 ghost use Rattle.std.specs.Prelude.{◌≡◌, ◌<◌, ◌+◌, IsTrue, Option, Some, None};
 ghost use Rattle.std.specs.Char.{is_ascii_hexdigit};
@@ -46,6 +46,8 @@ pub enum KeyAnswer {
     No,
     /// `None`, of a list of methods.
     NoneOfThem,
+    /// `CRC32C`, of a list of digests.
+    Crc32c,
     /// `RFC3720`, of a list of ways to end tasks that are aborted.
     Rfc3720,
     Reject,
@@ -134,7 +136,8 @@ pub fn key_answer(key: Key, burst: u32, offer: &[u8]) -> KeyAnswer
     match key {
         Key::InitiatorName | Key::InitiatorAlias | Key::SessionType => KeyAnswer::Silent,
         Key::TargetName => KeyAnswer::PortalGroup,
-        Key::AuthMethod | Key::HeaderDigest | Key::DataDigest => only_none(offer),
+        Key::AuthMethod => only_none(offer),
+        Key::HeaderDigest | Key::DataDigest => digest_answer(offer),
         Key::TaskReporting => task_reporting(offer),
         Key::SendTargets => KeyAnswer::Reject,
         Key::DataPDUInOrder | Key::DataSequenceInOrder => {
@@ -203,6 +206,35 @@ fn has_member(member: &[u8], offer: &[u8]) -> bool
         end = place_of(b',', rest);
     }
     rest == member
+}
+
+// The first of an offered list of digests that is supported.
+fn digest_answer(offer: &[u8]) -> KeyAnswer
+    ensures { result ≡ text.digest_answer offer.now }
+{
+    let mut rest = offer;
+    let mut end = place_of(b',', rest);
+    while end < rest.len() {
+        if let Some(answer) = digest_named(&rest[..end]) {
+            return answer;
+        }
+        rest = behind(rest, end);
+        end = place_of(b',', rest);
+    }
+    digest_named(rest).unwrap_or(KeyAnswer::Reject)
+}
+
+// A digest that is supported.
+fn digest_named(name: &[u8]) -> Option<KeyAnswer>
+    ensures { result ≡ text.digest_named name.now }
+{
+    if name == b"None".as_slice() {
+        Some(KeyAnswer::NoneOfThem)
+    } else if name == b"CRC32C".as_slice() {
+        Some(KeyAnswer::Crc32c)
+    } else {
+        None
+    }
 }
 
 // One of two answers, to Yes and to No.

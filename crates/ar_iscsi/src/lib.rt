@@ -5,6 +5,7 @@ ghost use Rattle.ar_iscsi.specs.Pdu.{NoPduBeginsAnother};
 ghost use Rattle.ar_iscsi.specs.Response.{ResponsesArePdus};
 
 mod arrival;
+mod digest;
 mod early;
 mod flow;
 mod initiator;
@@ -29,6 +30,7 @@ mod verdict;
 mod waiting;
 mod waiting_pdu;
 
+pub use digest::{CrcTable, Digests};
 pub use flow::{Collecting, Flow, WINDOW, lun_number};
 pub use keys::{Key, KeyAnswer, key_answer, key_named, numeral};
 pub use login::{LoginResult, LoginState, LoginWork, login_turn};

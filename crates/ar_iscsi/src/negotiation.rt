@@ -2,6 +2,7 @@
 ghost use Rattle.std.specs.Prelude.{◌≡◌, ◌<◌, ◌==◌};
 ghost use Rattle.ar_iscsi.specs.Negotiation as login;
 
+use crate::digest::Digests;
 use crate::keys::{Key, KeyAnswer, key_answer, key_named, numeral};
 use crate::text::{behind, item_name, item_value, place_of};
 
@@ -37,6 +38,8 @@ pub struct Limits {
     pub immediate_data: bool,
     /// All other data of a WRITE are asked for: no unsolicited Data-Out PDU follows it.
     pub initial_r2t: bool,
+    /// The digests of all PDUs of the full feature phase.
+    pub digests: Digests,
     /// The host whose target the session is with; None in a login, and in a session for discovery.
     pub host: Option<u8>,
 }
@@ -132,6 +135,10 @@ impl Negotiation {
                 first_burst: 65_536,
                 immediate_data: true,
                 initial_r2t: true,
+                digests: Digests {
+                    header: false,
+                    segment: false,
+                },
                 host: None,
             },
         }
@@ -263,6 +270,38 @@ fn limits_after(old: Limits, key: Key, offer: &[u8]) -> Limits
                 ..old
             }
         }
+        Key::HeaderDigest | Key::DataDigest => Limits {
+            digests: digests_after(old.digests, key, key_answer(key, old.max_burst, offer)),
+            ..old
+        },
+        _ => old,
+    }
+}
+
+// The digests after the answer to one of their keys.
+fn digests_after(old: Digests, key: Key, answer: KeyAnswer) -> Digests
+    ensures { result ≡ login.digests_after old key answer }
+{
+    match key {
+        Key::HeaderDigest => Digests {
+            header: digest_after(old.header, answer),
+            ..old
+        },
+        Key::DataDigest => Digests {
+            segment: digest_after(old.segment, answer),
+            ..old
+        },
+        _ => old,
+    }
+}
+
+// A digest after the answer to its key.
+fn digest_after(old: bool, answer: KeyAnswer) -> bool
+    ensures { result ≡ login.digest_after old answer }
+{
+    match answer {
+        KeyAnswer::Crc32c => true,
+        KeyAnswer::NoneOfThem => false,
         _ => old,
     }
 }

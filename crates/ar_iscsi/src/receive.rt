@@ -2,8 +2,10 @@
 // header segments are dropped: those that the RFC has are for commands of other kinds.
 ghost use Rattle.std.specs.Prelude.{◌≡◌, ◌≤◌, ◌++◌, ℕ, List, [], length, take};
 ghost use Rattle.ar_iscsi.specs.Pdu.{ahs_len, segment_len};
-ghost use Rattle.ar_iscsi.specs.Receive.{ReceivesPdu};
+ghost use Rattle.ar_iscsi.specs.Digest.{closed};
+ghost use Rattle.ar_iscsi.specs.Receive.{ReceivesDigested, ReceivesPdu, ReceivesSent};
 
+use crate::digest::{CrcTable, Digests, closes_data, digest_len};
 use crate::request::segment_len;
 use crate::transfer::{Came, fill, skip};
 use ar_frames::Source;
@@ -21,6 +23,8 @@ pub enum ReceiveEnd {
     Read,
     /// A PDU's data segment has this many bytes, more than the limit.
     TooLong(u32),
+    /// A digest of a header or of data is wrong.
+    WrongDigest,
 }
 
 /// What was received.
@@ -91,6 +95,118 @@ fn receive_padding<R: Source>(reader: &mut R, header: &[u8; 48], len: usize) -> 
 {
     match skip(reader, (4 - len % 4) % 4) {
         Came::All => Received::Pdu(*header),
+        Came::Ended(_) => Received::Nothing(ReceiveEnd::Cut),
+        Came::Failed(_) => Received::Nothing(ReceiveEnd::Read),
+    }
+}
+
+/// The same in a session with these digests. `table` is for them.
+pub(crate) fn receive_sent<R: Source>(
+    reader: &mut R,
+    buffer: &mut [u8],
+    digests: Digests,
+    table: &CrcTable,
+) -> Received
+    ensures { ReceivesSent digests (length buffer.new) (R.state reader.old) (R.state reader.new) buffer.new result }
+{
+    if digests.is_plain() {
+        receive_pdu(reader, buffer)
+    } else {
+        receive_digested(reader, buffer, digests, table)
+    }
+}
+
+// Reads a PDU with digests.
+fn receive_digested<R: Source>(
+    reader: &mut R,
+    buffer: &mut [u8],
+    digests: Digests,
+    table: &CrcTable,
+) -> Received
+    ensures { ReceivesDigested digests [] (length buffer.new) (R.state reader.old) (R.state reader.new) buffer.new
+        result }
+{
+    let mut header = [0; 48];
+    match fill(reader, &mut header) {
+        Came::All => receive_front(reader, buffer, digests, table, &header),
+        Came::Ended(0) => Received::Nothing(ReceiveEnd::End),
+        Came::Ended(_) => Received::Nothing(ReceiveEnd::Cut),
+        Came::Failed(0) => Received::Nothing(ReceiveEnd::Idle),
+        Came::Failed(_) => Received::Nothing(ReceiveEnd::Read),
+    }
+}
+
+// Reads the additional header segments and the header digest, and what follows them.
+fn receive_front<R: Source>(
+    reader: &mut R,
+    buffer: &mut [u8],
+    digests: Digests,
+    table: &CrcTable,
+    header: &[u8; 48],
+) -> Received
+    ensures { ReceivesDigested digests header.now (length buffer.new) (R.state reader.old) (R.state reader.new)
+        buffer.new result }
+{
+    let len = segment_len(header);
+    if len as usize > buffer.len() {
+        return Received::Nothing(ReceiveEnd::TooLong(len));
+    }
+    let additional = 4 * header[4] as usize;
+    let mut room = [0; 1024];
+    let front = &mut room[..additional + digest_len(digests.header)];
+    match fill(reader, front) {
+        Came::All if table.is_right(digests.header, header, front, additional) => {
+            receive_body(reader, buffer, digests, table, header, len as usize)
+        }
+        Came::All => Received::Nothing(ReceiveEnd::WrongDigest),
+        Came::Ended(_) => Received::Nothing(ReceiveEnd::Cut),
+        Came::Failed(_) => Received::Nothing(ReceiveEnd::Read),
+    }
+}
+
+// Reads the data segment, and what follows it.
+fn receive_body<R: Source>(
+    reader: &mut R,
+    buffer: &mut [u8],
+    digests: Digests,
+    table: &CrcTable,
+    header: &[u8; 48],
+    len: usize,
+) -> Received
+    requires len_is { len ≡ segment_len header.now }
+    requires within { len ≤ length buffer.old }
+    ensures { (ahs : List ℕ) → length ahs ≡ ahs_len header.now →
+        ReceivesDigested digests (closed digests.header (header.now ++ ahs)) (length buffer.new) (R.state reader.old)
+        (R.state reader.new) buffer.new result }
+{
+    match fill(reader, &mut buffer[..len]) {
+        Came::All => receive_tail(reader, digests, table, header, &buffer[..len]),
+        Came::Ended(_) => Received::Nothing(ReceiveEnd::Cut),
+        Came::Failed(_) => Received::Nothing(ReceiveEnd::Read),
+    }
+}
+
+// Reads the padding after a data segment, and the data digest.
+fn receive_tail<R: Source>(
+    reader: &mut R,
+    digests: Digests,
+    table: &CrcTable,
+    header: &[u8; 48],
+    payload: &[u8],
+) -> Received
+    requires { length payload.now ≡ segment_len header.now }
+    ensures { (buffer ahs : List ℕ) → payload.now ≡ take (length payload.now) buffer
+        → length payload.now ≤ length buffer → length ahs ≡ ahs_len header.now →
+        ReceivesDigested digests (closed digests.header (header.now ++ ahs) ++ payload.now) (length buffer)
+        (R.state reader.old) (R.state reader.new) buffer result }
+{
+    let is_wanted = closes_data(digests, payload);
+    let padding = (4 - payload.len() % 4) % 4;
+    let mut room = [0; 8];
+    let tail = &mut room[..padding + digest_len(is_wanted)];
+    match fill(reader, tail) {
+        Came::All if table.is_right(is_wanted, payload, tail, padding) => Received::Pdu(*header),
+        Came::All => Received::Nothing(ReceiveEnd::WrongDigest),
         Came::Ended(_) => Received::Nothing(ReceiveEnd::Cut),
         Came::Failed(_) => Received::Nothing(ReceiveEnd::Read),
     }

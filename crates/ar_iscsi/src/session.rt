@@ -1,6 +1,8 @@
 // The full feature phase of a session: PDUs are read, each does what its turn says, and its answer is written. A peer
 // that is silent between two of them is pinged.
-ghost use Rattle.std.specs.Prelude.{◌≡◌, false, true, [], IfOk, OnSome, length};
+ghost use Rattle.std.specs.Prelude.{◌≡◌, false, true, [], IfNone, IfOk, IfSome, OnSome, length};
+ghost use Rattle.ar_frames.specs.Stream.{Sending};
+ghost use Rattle.ar_iscsi.specs.Digest.{sent_by};
 ghost use Rattle.ar_iscsi.specs.Arrival.{ArrivalTurn, MayUse};
 ghost use Rattle.ar_iscsi.specs.Phase as phase;
 ghost use Rattle.ar_iscsi.specs.Session as session;
@@ -8,8 +10,9 @@ ghost use Rattle.ar_iscsi.specs.Task.{MayGive};
 ghost use Rattle.ar_iscsi.specs.Waiting.{is_next_waiting};
 
 use crate::arrival::take_arrival;
+use crate::digest::{CrcTable, Digests};
 use crate::flow::Flow;
-use crate::receive::{ReceiveEnd, Received, receive_pdu};
+use crate::receive::{ReceiveEnd, Received, receive_sent};
 use crate::request::{segment_len, word};
 use crate::response::{NO_LUN, NO_TAG, TargetPdu, ping_pdu, put_pdu};
 use crate::turn::{TurnEnd, Work, respond, take_turn};
@@ -192,7 +195,7 @@ fn serve_arrival<R: Source, W: Sink, P: ResetPort>(
     ensures emptied { result ≡ PduResult.Served → work.new.out.items ≡ [] }
 {
     await_request(reader);
-    match receive_pdu(reader, buffer) {
+    match receive_sent(reader, buffer, work.limits.digests, &work.table) {
         Received::Pdu(header) => {
             let len = segment_len(&header) as usize;
             let carried = &buffer[..len];
@@ -202,7 +205,7 @@ fn serve_arrival<R: Source, W: Sink, P: ResetPort>(
             result_of_answer(answered)
         }
         Received::Nothing(reason) => {
-            let pinged = ping_silent(reader, writer, &work.flow, reason);
+            let pinged = ping_silent(alloc, reader, writer, work, reason);
             result_of_ping(reason, pinged)
         }
     }
@@ -223,18 +226,44 @@ fn is_silent<R: Source>(reader: &R) -> bool {
     }
 }
 
-// Pings a peer that is silent between two PDUs. None: a read faulted for another reason.
+// Pings a peer that is silent between two PDUs. None: a read faulted for another reason, or memory ran out.
 fn ping_silent<R: Source, W: Sink>(
+    alloc: Global,
     reader: &R,
     writer: &mut W,
-    flow: &Flow,
+    work: &Work,
     reason: ReceiveEnd,
 ) -> Option<Sent>
-    ensures { session.MayPing flow.now reason (W.state writer.old) result (W.state writer.new) }
+    ensures { session.MayPing work.now.limits.digests work.now.flow reason (W.state writer.old) result
+        (W.state writer.new) }
 {
+    let ping = ping_pdu(work.flow.ping_tag(), work.flow.numbers());
     match (reason, is_silent(reader)) {
-        (ReceiveEnd::Idle, true) => Some(send(writer, &ping_pdu(flow.ping_tag(), flow.numbers()))),
+        (ReceiveEnd::Idle, true) => {
+            send_pdus(alloc, writer, &ping, work.limits.digests, &work.table)
+        }
         _ => None,
+    }
+}
+
+// Sends PDUs with the digests that were agreed on. None: memory for them ran out, and nothing was written.
+fn send_pdus<W: Sink>(
+    alloc: Global,
+    writer: &mut W,
+    pdus: &[u8],
+    digests: Digests,
+    table: &CrcTable,
+) -> Option<Sent>
+    ensures sent { IfSome result (λ sent. Sending (W.state writer.old) (W.state writer.new)
+        (sent_by digests pdus.now) sent) }
+    ensures same { IfNone result (W.state writer.new ≡ W.state writer.old) }
+{
+    if digests.is_plain() {
+        return Some(send(writer, pdus));
+    }
+    match table.digested(alloc, digests, pdus) {
+        Ok(all) => Some(send(writer, &all)),
+        Err(_) => None,
     }
 }
 
@@ -261,7 +290,8 @@ fn answer_arrival<W: Sink, P: ResetPort>(
 ) -> Option<(TurnEnd, Sent)>
     requires logged { P.has_login port.old ≡ true }
     requires empty { work.old.out.items ≡ [] }
-    ensures answers { phase.AnswersPdu (ArrivalTurn P.commands P.refuses P.resets address.now work.old.limits)
+    ensures answers { phase.AnswersPdu work.old.limits.digests
+        (ArrivalTurn P.commands P.refuses P.resets address.now work.old.limits)
         (MayUse P.commands P.resets)
         header.now carried.now (W.state writer.old)
         (record {
@@ -278,9 +308,10 @@ fn answer_arrival<W: Sink, P: ResetPort>(
     ensures limits { work.new.limits ≡ work.old.limits }
     ensures emptied { OnSome result (work.new.out.items ≡ []) }
 {
+    let digests = work.limits.digests;
     match take_arrival(work, waiting, alloc, port, address, header, carried) {
         Ok(turned) => {
-            let sent = send(writer, &work.out);
+            let sent = send_pdus(alloc, writer, &work.out, digests, &work.table)?;
             work.out.clear();
             Some((turned, sent))
         }
@@ -299,7 +330,7 @@ fn answer_waiting<W: Sink, P: Port>(
 ) -> Option<(TurnEnd, Sent)>
     requires logged { P.has_login port.old ≡ true }
     requires empty { work.old.out.items ≡ [] }
-    ensures answers { phase.AnswersPdu (session.WaitingTurn P.commands P.refuses address.now work.old.limits
+    ensures answers { phase.AnswersPdu work.old.limits.digests (session.WaitingTurn P.commands P.refuses address.now work.old.limits
         pdu.now.state pdu.now.early)
         (MayGive P.commands) pdu.now.header pdu.now.carried
         (W.state writer.old) (record { flow = work.old.flow; bytes = work.old.collected.items }) port.old result
@@ -308,9 +339,10 @@ fn answer_waiting<W: Sink, P: Port>(
     ensures limits { work.new.limits ≡ work.old.limits }
     ensures emptied { OnSome result (work.new.out.items ≡ []) }
 {
+    let digests = work.limits.digests;
     match turn_waiting(work, alloc, port, address, pdu) {
         Ok(turned) => {
-            let sent = send(writer, &work.out);
+            let sent = send_pdus(alloc, writer, &work.out, digests, &work.table)?;
             work.out.clear();
             Some((turned, sent))
         }

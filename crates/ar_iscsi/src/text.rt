@@ -84,6 +84,7 @@ fn put_answer(out: &mut Vec<u8>, name: &[u8], answer: KeyAnswer) -> Result<(), A
         KeyAnswer::Yes => put_item(out, name, b"Yes"),
         KeyAnswer::No => put_item(out, name, b"No"),
         KeyAnswer::NoneOfThem => put_item(out, name, b"None"),
+        KeyAnswer::Crc32c => put_item(out, name, b"CRC32C"),
         KeyAnswer::Rfc3720 => put_item(out, name, b"RFC3720"),
         KeyAnswer::Reject => put_item(out, name, b"Reject"),
         KeyAnswer::NotUnderstood => put_item(out, name, b"NotUnderstood"),

@@ -7,6 +7,7 @@ ghost use Rattle.ar_iscsi.specs.Flow.{received, reopened};
 ghost use Rattle.ar_iscsi.specs.Task.{AsksFrom, Completes, GetsBusy, MayGive, SuitsData, most_in};
 ghost use Rattle.ar_iscsi.specs.Targets.{targets_answer};
 
+use crate::digest::CrcTable;
 use crate::flow::{Collecting, Flow};
 use crate::negotiation::Limits;
 use crate::reaction::{
@@ -44,6 +45,8 @@ pub struct Work {
     pub collected: Vec<u8>,
     /// The answer to the PDU at hand.
     pub out: Vec<u8>,
+    /// For digests.
+    pub table: CrcTable,
 }
 
 /// Does what a PDU with this header and this data segment asks for, and puts the answer into `out`, which is empty

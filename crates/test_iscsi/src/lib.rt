@@ -5,6 +5,8 @@
 #[cfg(test)]
 mod cuts;
 #[cfg(test)]
+mod digests;
+#[cfg(test)]
 mod fake;
 #[cfg(test)]
 mod fields;

@@ -1,0 +1,79 @@
+// Sessions with digests (RFC 7143, 13.1), byte for byte, and the examples of CRC32C of RFC 7143, B.4.
+use crate::sessions::{ENDED, joined, plays};
+use ar_iscsi::{CrcTable, FeatureEnd, IscsiEnd, ReceiveEnd};
+use std::process::Abort;
+
+const LOGIN: &[u8] = b"\
+    \x43\x87\x00\x00\x00\x00\x00\x72\x40\x00\x01\x37\x00\x00\x00\x00\
+    \x00\x00\x00\x01\x00\x00\x00\x00\x00\x00\x00\x10\x00\x00\x00\x00\
+    \x00\x00\x00\x00\x00\x00\x00\x00\x00\x00\x00\x00\x00\x00\x00\x00\
+    InitiatorName=iqn.x\x00\
+    TargetName=iqn.2026-11.example.autoraid:host1\x00\
+    HeaderDigest=CRC32C,None\x00\
+    DataDigest=CRC32C,None\x00\
+    \x00\x00";
+
+const LOGGED_IN: &[u8] = b"\
+    \x23\x87\x00\x00\x00\x00\x00\x3D\x40\x00\x01\x37\x00\x00\x00\x01\
+    \x00\x00\x00\x01\x00\x00\x00\x00\x00\x00\x00\x00\x00\x00\x00\x10\
+    \x00\x00\x00\x1F\x00\x00\x00\x00\x00\x00\x00\x00\x00\x00\x00\x00\
+    TargetPortalGroupTag=1\x00\
+    HeaderDigest=CRC32C\x00\
+    DataDigest=CRC32C\x00\
+    \x00\x00\x00";
+
+// A NOP-Out with its digest.
+const PING: &[u8] = b"\
+    \x40\x80\x00\x00\x00\x00\x00\x05\x00\x00\x00\x00\x00\x00\x00\x00\
+    \x00\x00\x00\x05\xFF\xFF\xFF\xFF\x00\x00\x00\x10\x00\x00\x00\x01\
+    \x00\x00\x00\x00\x00\x00\x00\x00\x00\x00\x00\x00\x00\x00\x00\x00\
+    \xF0\xD2\x25\xEF";
+
+// Its data with their padding and digest.
+const PING_DATA: &[u8] = b"\
+    \x70\x69\x6E\x67\x21\x00\x00\x00\x8A\xED\xFC\x72";
+
+const PONG: &[u8] = b"\
+    \x20\x80\x00\x00\x00\x00\x00\x05\x00\x00\x00\x00\x00\x00\x00\x00\
+    \x00\x00\x00\x05\xFF\xFF\xFF\xFF\x00\x00\x00\x01\x00\x00\x00\x10\
+    \x00\x00\x00\x1F\x00\x00\x00\x00\x00\x00\x00\x00\x00\x00\x00\x00\
+    \xB2\xFE\xFD\x0B";
+
+const WRONG: IscsiEnd = IscsiEnd::Feature(FeatureEnd::Unread(ReceiveEnd::WrongDigest));
+
+#[test]
+fn a_session_with_digests(rt: HostRuntime) {
+    let alloc = rt.alloc();
+    let input = [LOGIN, PING, PING_DATA];
+    let output = [LOGGED_IN, PONG, PING_DATA];
+    plays(&rt, alloc, &input, ENDED, &output);
+}
+
+// A bit of a header or of data is another one.
+#[test]
+fn wrong_digests_end_the_session(rt: HostRuntime) {
+    let alloc = rt.alloc();
+    let mut ping = joined(&rt, alloc, &[PING]);
+    ping[47] ^= 1;
+    plays(&rt, alloc, &[LOGIN, &ping], WRONG, &[LOGGED_IN]);
+    let mut data = joined(&rt, alloc, &[PING_DATA]);
+    data[0] ^= 1;
+    plays(&rt, alloc, &[LOGIN, PING, &data], WRONG, &[LOGGED_IN]);
+}
+
+fn has_digest(rt: &impl Abort, bytes: &[u8], digest: [u8; 4]) {
+    let found = CrcTable::new().digest(bytes, &[]);
+    assert!(rt; found == digest, "{found:?} in place of {digest:?}");
+}
+
+const READ: &[u8] = b"\
+    \x01\xC0\x00\x00\x00\x00\x00\x00\x00\x00\x00\x00\x00\x00\x00\x00\
+    \x14\x00\x00\x00\x00\x00\x04\x00\x00\x00\x00\x14\x00\x00\x00\x18\
+    \x28\x00\x00\x00\x00\x00\x00\x00\x02\x00\x00\x00\x00\x00\x00\x00";
+
+#[test]
+fn examples(rt: HostRuntime) {
+    has_digest(&rt, &[0x00; 32], [0xAA, 0x36, 0x91, 0x8A]);
+    has_digest(&rt, &[0xFF; 32], [0x43, 0xAB, 0xA8, 0x62]);
+    has_digest(&rt, READ, [0x56, 0x3A, 0x96, 0xD9]);
+}
