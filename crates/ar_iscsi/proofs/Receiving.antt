@@ -1,6 +1,6 @@
 -- How the parts of a PDU that were read one after the other join, and how reading stops inside one.
-use Rattle.std.proofs.Common.{◌≡◌, ◌∙◌, ℕ, ◌+◌, ◌<◌, ◌≤◌, true, false, List, [], ◌∷◌, ◌++◌, subst, sym, append_assoc, length}
-use Rattle.std.proofs.Common.{ap, refl, length-take-le}
+use Rattle.std.proofs.Common.{◌≡◌, ◌∙◌, ℕ, ◌+◌, ◌<◌, ◌≤◌, true, false, List, [], ◌∷◌, ◌++◌, subst, sym, length}
+use Rattle.std.proofs.Common.{append_assoc, ap, refl, length-take-le}
 use Rattle.std.proofs.Common.{length-append, arith}
 use Rattle.std.proofs.lemmas.Bool.{ne_eqb}
 use Rattle.ar_frames.specs.Stream.{SourceState, Reading}

@@ -1,6 +1,6 @@
--- The remainder after a byte by a table: reduction by the polynomial respects XOR, and takes the high bytes only further
--- down.
-use Rattle.std.proofs.Common.{◌≡◌, ◌∙◌, ℕ, zero, suc, ◌+◌, ◌*◌, ◌/◌, ◌%◌, ◌^◌, ◌<◌, Bool, true, false, ltb, List, [], ◌∷◌, ◌++◌, length, refl, sym, ap, arith}
+-- The remainder after a byte by a table: reduction by the polynomial respects XOR, and only moves the high bytes down.
+use Rattle.std.proofs.Common.{◌≡◌, ◌∙◌, ℕ, zero, suc, ◌+◌, ◌*◌, ◌/◌, ◌%◌, ◌^◌, ◌<◌, Bool, true, false, ltb}
+use Rattle.std.proofs.Common.{List, [], ◌∷◌, ◌++◌, length, refl, sym, ap, arith}
 use Rattle.std.specs.Prelude.{slice_index, slice_set}
 use Rattle.std.proofs.lemmas.Bool.{ltb-true, ltb-false}
 use Rattle.std.proofs.lemmas.List.{get_or-set_other}
@@ -70,7 +70,8 @@ table_step x byte small =
     ∙ sym (linear_bits 8 (y / 256 * 256) (y % 256)) ∙ ap (after_bits 8) split
 
 -- bytes in two pieces
-pub after_both : (x : ℕ) (first second : List ℕ) → after_bytes (after_bytes x first) second ≡ after_bytes x (first ++ second)
+pub after_both : (x : ℕ) (first second : List ℕ)
+    → after_bytes (after_bytes x first) second ≡ after_bytes x (first ++ second)
 after_both x [] second = refl
 after_both x (byte ∷ first) second = after_both (after_byte x byte) first second
 

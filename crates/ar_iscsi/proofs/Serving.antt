@@ -71,15 +71,16 @@ handled digests turns may source source' sink sink' spot spot' port port' header
       turn = turn;
       sending = sending;
     }
-handled digests turns may source source' sink sink' spot spot' port port' header buffer _ reads (unanswered _ _ done) = record {
-  header = header;
-  carried = take (segment_len header) buffer;
-  bytes = reads.bytes;
-  is_pdu = reads.is_pdu;
-  read = reads.read;
-  sink = refl;
-  port = done;
-}
+handled digests turns may source source' sink sink' spot spot' port port' header buffer _ reads
+    (unanswered _ _ done) = record {
+      header = header;
+      carried = take (segment_len header) buffer;
+      bytes = reads.bytes;
+      is_pdu = reads.is_pdu;
+      read = reads.read;
+      sink = refl;
+      port = done;
+    }
 
 -- nothing was written
 pub unsent :
@@ -120,7 +121,8 @@ module _ {P : Type 0} (commands : Commands P) (refuses : CommandRefusals P) (res
   pub arrival_served :
       (old new : Place FeatureSpot P) (answered : Option (TurnEnd × Sent))
       → is_next_waiting old.spot.session.flow old.spot.waiting ≡ false
-      → IsHandled limits.digests (ArrivalTurn commands refuses resets address limits) (MayUse commands resets) old new answered
+      → IsHandled limits.digests (ArrivalTurn commands refuses resets address limits) (MayUse commands resets) old new
+      answered
       → NextIsServed commands refuses resets address limits old (result_of_answer answered) new
   arrival_served old new (Some (left, sent)) none_next serves =
       by_step old new left sent (of_arrival (record { none_next = none_next; serves = serves }))
@@ -156,8 +158,8 @@ module _ {P : Type 0} (commands : Commands P) (refuses : CommandRefusals P) (res
       (source : SourceState) (sink sink' : SinkState) (spot spot' : Spot) (waiting waiting' : List WaitingPdu)
       (port port' : P) (pdu : WaitingPdu) (answered : Option (TurnEnd × Sent))
       → TakesWaiting spot.flow waiting (Some pdu) waiting'
-      → AnswersPdu limits.digests (WaitingTurn commands refuses address limits pdu.state pdu.early) (MayGive commands) pdu.header
-      pdu.carried
+      → AnswersPdu limits.digests (WaitingTurn commands refuses address limits pdu.state pdu.early)
+      (MayGive commands) pdu.header pdu.carried
       sink spot port answered sink' spot' port'
       → NextIsServed commands refuses resets address limits
       (record { source = source; sink = sink; spot = record { session = spot; waiting = waiting }; port = port })

@@ -1,7 +1,7 @@
 -- Digests of headers and data (RFC 7143, 13.1), by CRC32C. Numbers stand for polynomials over two elements, the lowest
 -- bit for the highest power.
-use Rattle.std.specs.Prelude.{◌≡◌, ◌≢◌, ℕ, zero, suc, ◌+◌, ◌*◌, ◌/◌, ◌%◌, ◌^◌, ◌==◌, nat_lt, min, Bool, true, false, not}
-use Rattle.std.specs.Prelude.{◌&&◌, if◌then◌else◌, MatchBool, List, [], ◌∷◌, ◌++◌, length, take, drop, bit_xor}
+use Rattle.std.specs.Prelude.{◌≡◌, ◌≢◌, ℕ, zero, suc, ◌+◌, ◌*◌, ◌/◌, ◌%◌, ◌^◌, ◌==◌, nat_lt, min, Bool, true, false}
+use Rattle.std.specs.Prelude.{not, ◌&&◌, if◌then◌else◌, MatchBool, List, [], ◌∷◌, ◌++◌, length, take, drop, bit_xor}
 use Rattle.std.specs.Int.{w32, to_le_bytes}
 use Rattle.ar_iscsi.specs.declared.digest.Digests.{Digests}
 use Rattle.ar_iscsi.specs.Pdu.{IsPdu, ahs_len, segment_len, padding_len}

@@ -100,8 +100,8 @@ abbrev pub ReceivesPdu : List ℕ → ℕ → SourceState → SourceState → Li
 ReceivesPdu base limit old new buffer (Pdu header) = ReadsPdu base limit old new header buffer
 ReceivesPdu base limit old new buffer (Nothing reason) = ReadsNoPdu base limit old new reason
 
--- When each end comes in a session with digests, by the bytes that were read since the last PDU. Inside a PDU which part
--- is lacking isn't specified.
+-- When each end comes in a session with digests, by the bytes that were read since the last PDU. Which part of a PDU is
+-- lacking isn't specified.
 abbrev pub StopsDigested : Digests → ReceiveEnd → ℕ → List ℕ → Type 0
 StopsDigested digests end.End limit bytes = bytes ≡ []
 StopsDigested digests end.Cut limit bytes = 0 < length bytes

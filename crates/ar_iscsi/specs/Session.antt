@@ -82,7 +82,8 @@ ping_of flow = target_pdu (pdu.Ping (ping_tag flow)) (numbers_of flow) []
 
 -- none that waits is next, a read faulted before the first byte of a PDU, and a ping was written, whole or up to a
 -- write fault; all else is as it was
-pub record PingsPeer {P : Type 0} (digests : Digests) (old new : Place FeatureSpot P) (left : TurnEnd) (sent : Sent) : Type 0 where
+pub record PingsPeer {P : Type 0} (digests : Digests) (old new : Place FeatureSpot P) (left : TurnEnd) (sent : Sent)
+    : Type 0 where
   pub none_next : is_next_waiting old.spot.session.flow old.spot.waiting ≡ false
   pub read : Reading old.source new.source [] true
   pub spot : new.spot ≡ old.spot

@@ -330,8 +330,8 @@ fn answer_waiting<W: Sink, P: Port>(
 ) -> Option<(TurnEnd, Sent)>
     requires logged { P.has_login port.old ≡ true }
     requires empty { work.old.out.items ≡ [] }
-    ensures answers { phase.AnswersPdu work.old.limits.digests (session.WaitingTurn P.commands P.refuses address.now work.old.limits
-        pdu.now.state pdu.now.early)
+    ensures answers { phase.AnswersPdu work.old.limits.digests (session.WaitingTurn P.commands P.refuses address.now
+        work.old.limits pdu.now.state pdu.now.early)
         (MayGive P.commands) pdu.now.header pdu.now.carried
         (W.state writer.old) (record { flow = work.old.flow; bytes = work.old.collected.items }) port.old result
         (W.state writer.new) (record { flow = work.new.flow; bytes = work.new.collected.items }) port.new }

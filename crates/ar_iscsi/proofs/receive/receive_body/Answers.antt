@@ -1,5 +1,5 @@
-use Rattle.std.proofs.Common.{◌≡◌, ◌≤◌, ◌++◌, ◌∙◌, ℕ, false, length, length-append, sym, ap, length-take-le, take, take_all}
-use Rattle.std.proofs.Common.{drop, arith}
+use Rattle.std.proofs.Common.{◌≡◌, ◌≤◌, ◌++◌, ◌∙◌, ℕ, false, length, length-append, sym, ap, take, take_all}
+use Rattle.std.proofs.Common.{drop, length-take-le, arith}
 use Rattle.std.proofs.lemmas.List.{take-append-le}
 use Rattle.ar_frames.proofs.Streams.{Reading-same}
 use Rattle.ar_iscsi.specs.Digest.{closed}

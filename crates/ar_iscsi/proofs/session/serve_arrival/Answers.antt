@@ -11,8 +11,8 @@ pub returns-in-Pdu-clause-next : goal.returns-in-Pdu-clause-next
 returns-in-Pdu-clause-next g c =
     let room : length c.receive_sent.new.buffer ≡ 262144 = c.receive_sent.auto.buffer ∙ c.requires.room in
     let reads =
-    subst (λ (n : ℕ). ReadsSentPdu c.args.work.now.limits.digests n (g.R.Source.state c.args.reader.now) (g.R.Source.state c.receive_sent.new.reader)
-    c.in-Pdu.header c.receive_sent.new.buffer) room c.in-Pdu.ensures in
+    subst (λ (n : ℕ). ReadsSentPdu c.args.work.now.limits.digests n (g.R.Source.state c.args.reader.now)
+    (g.R.Source.state c.receive_sent.new.reader) c.in-Pdu.header c.receive_sent.new.buffer) room c.in-Pdu.ensures in
     let answers =
     subst (λ (n : ℕ). AnswersPdu c.args.work.now.limits.digests
     (ArrivalTurn g.P.Port.commands g.P.Port.refuses g.P.ResetPort.resets c.args.address.now c.args.work.now.limits)
@@ -58,7 +58,8 @@ returns-in-Pdu-clause-next g c =
     (arrival_served g.P.Port.commands g.P.Port.refuses g.P.ResetPort.resets c.args.address.now c.args.work.now.limits _
     _ c.answer_arrival-answered.result
     c.requires.none_next
-    (handled c.args.work.now.limits.digests (ArrivalTurn g.P.Port.commands g.P.Port.refuses g.P.ResetPort.resets c.args.address.now
+    (handled c.args.work.now.limits.digests
+    (ArrivalTurn g.P.Port.commands g.P.Port.refuses g.P.ResetPort.resets c.args.address.now
     c.args.work.now.limits)
     (MayUse g.P.Port.commands g.P.ResetPort.resets) _ _ _
     _
@@ -68,8 +69,8 @@ pub returns-in-Nothing-clause-next : goal.returns-in-Nothing-clause-next
 returns-in-Nothing-clause-next g c =
     let room : length c.receive_sent.new.buffer ≡ 262144 = c.receive_sent.auto.buffer ∙ c.requires.room in
     let reads =
-    subst (λ (n : ℕ). ReadsNoSentPdu c.args.work.now.limits.digests n (g.R.Source.state c.args.reader.now) (g.R.Source.state c.receive_sent.new.reader)
-    c.in-Nothing.reason) room c.in-Nothing.ensures in
+    subst (λ (n : ℕ). ReadsNoSentPdu c.args.work.now.limits.digests n (g.R.Source.state c.args.reader.now)
+    (g.R.Source.state c.receive_sent.new.reader) c.in-Nothing.reason) room c.in-Nothing.ensures in
     subst (λ (r : PduResult). NextIsServed g.P.Port.commands g.P.Port.refuses g.P.ResetPort.resets c.args.address.now
     c.args.work.now.limits
     (record {
