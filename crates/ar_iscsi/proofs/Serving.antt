@@ -15,7 +15,7 @@ use Rattle.ar_iscsi.specs.declared.turn.TurnEnd.{TurnEnd}
 use Rattle.ar_iscsi.specs.declared.turn.TurnEnd.TheVariants.{Next, LoggedOut, BrokenData, Rejected}
 use Rattle.ar_iscsi.specs.Pdu.{segment_len}
 use Rattle.ar_iscsi.specs.declared.digest.Digests.{Digests}
-use Rattle.ar_iscsi.specs.Digest.{plain, is_plain}
+use Rattle.ar_iscsi.specs.Digest.{no_digests, is_plain}
 use Rattle.ar_iscsi.specs.Receive.{ReadsPdu, ReadsNoPdu, ReadsSentPdu, ReadsNoSentPdu}
 use Rattle.std.specs.Prelude.{Bool, MatchBool}
 use Rattle.ar_iscsi.specs.Task.{MayGive}
@@ -32,12 +32,12 @@ use Rattle.ar_iscsi.specs.Session.{read_lacks, waiting_lacks, result_of_turn, re
 
 -- what was read without digests
 pub plain_reads : (limit : ℕ) (source source' : SourceState) (header buffer : List ℕ)
-    → ReadsPdu [] limit source source' header buffer → ReadsSentPdu plain limit source source' header buffer
+    → ReadsPdu [] limit source source' header buffer → ReadsSentPdu no_digests limit source source' header buffer
 plain_reads limit source source' header buffer reads =
     record { bytes = reads.rest; is_pdu = reads.is_pdu; within = reads.within; read = reads.read }
 
 pub plain_stops : (limit : ℕ) (source source' : SourceState) (reason : ReceiveEnd)
-    → ReadsNoPdu [] limit source source' reason → ReadsNoSentPdu plain limit source source' reason
+    → ReadsNoPdu [] limit source source' reason → ReadsNoSentPdu no_digests limit source source' reason
 plain_stops limit source source' reason reads =
     record { bytes = reads.rest; stops = reads.stops; read = reads.read; ended = reads.ended }
 

@@ -41,8 +41,8 @@ abbrev pub is_plain : Digests → Bool
 is_plain digests = not digests.header && not digests.segment
 
 -- the same
-abbrev pub plain : Digests
-plain = record { header = false; segment = false }
+abbrev pub no_digests : Digests
+no_digests = record { header = false; segment = false }
 
 -- the length of the data segment of the first of a target's PDUs, with its padding
 abbrev pub body_len : List ℕ → ℕ

@@ -17,7 +17,7 @@ use Rattle.ar_iscsi.specs.declared.negotiation.TargetChoice.TheVariants.{Unnamed
 use Rattle.ar_iscsi.specs.declared.negotiation.Limits.{Limits}
 use Rattle.ar_iscsi.specs.declared.negotiation.KeysSeen.{KeysSeen}
 use Rattle.ar_iscsi.specs.declared.negotiation.Negotiation.{Negotiation}
-use Rattle.ar_iscsi.specs.Digest.{plain}
+use Rattle.ar_iscsi.specs.Digest.{no_digests}
 use Rattle.ar_iscsi.specs.Text.{item_name, item_value, key_named, key_answer, numeral}
 
 -- before any text: the default values (RFC 7143, 13)
@@ -34,7 +34,7 @@ at_first = record {
     first_burst = 65536;
     immediate_data = true;
     initial_r2t = true;
-    digests = plain;
+    digests = no_digests;
     host = None;
   };
 }

@@ -1,7 +1,7 @@
 // The login phase of a session: login requests are read, each does what its turn says, and its answer is written.
 ghost use Rattle.std.specs.Prelude.{◌≡◌, false, true, [], IfSome, IsSome, OnSome, length};
 ghost use Rattle.ar_iscsi.specs.LoginPhase as session;
-ghost use Rattle.ar_iscsi.specs.Digest.{plain};
+ghost use Rattle.ar_iscsi.specs.Digest.{no_digests};
 ghost use Rattle.ar_iscsi.specs.LoginTurn.{LoginTurn, MayLogIn};
 ghost use Rattle.ar_iscsi.specs.Phase as phase;
 
@@ -131,7 +131,7 @@ fn answer_request<W: Sink, P: Port + LoginObserver>(
 ) -> Option<(LoginResult, Sent)>
     requires unlogged { P.has_login port.old ≡ false }
     requires empty { work.old.out.items ≡ [] }
-    ensures answers { phase.AnswersPdu plain (LoginTurn P.logins) (MayLogIn P.logins) header.now carried.now
+    ensures answers { phase.AnswersPdu no_digests (LoginTurn P.logins) (MayLogIn P.logins) header.now carried.now
         (W.state writer.old) (record { state = work.old.state; text = work.old.text.items }) port.old result
         (W.state writer.new) (record { state = work.new.state; text = work.new.text.items }) port.new }
     ensures unlogged { IfSome result (λ answered. answered.0 ≡ LoginResult.Next → P.has_login port.new ≡ false) }

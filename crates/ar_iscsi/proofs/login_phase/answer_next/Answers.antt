@@ -4,7 +4,7 @@ use Rattle.ar_iscsi.specs.Receive.{ReadsPdu, ReadsNoPdu}
 use Rattle.ar_iscsi.specs.Phase.{AnswersPdu}
 use Rattle.ar_iscsi.specs.LoginTurn.{LoginTurn, MayLogIn}
 use Rattle.ar_iscsi.specs.LoginPhase.{NextRequest}
-use Rattle.ar_iscsi.specs.Digest.{plain}
+use Rattle.ar_iscsi.specs.Digest.{no_digests}
 use Rattle.ar_iscsi.proofs.Serving.{handled, plain_reads, plain_stops}
 use Rattle.ar_iscsi.proofs.LoggingIn.{next_request}
 use Rattle.ar_iscsi.proofs.login_phase.answer_next.Goals as goal
@@ -16,7 +16,7 @@ returns-in-Pdu-clause-next g c =
     subst (λ (n : ℕ). ReadsPdu [] n (g.R.Source.state c.args.reader.now) (g.R.Source.state c.receive_pdu.new.reader)
     c.in-Pdu.header c.receive_pdu.new.buffer) room c.in-Pdu.ensures in
     let answers =
-    subst (λ (n : ℕ). AnswersPdu plain (LoginTurn g.P.Port.logins) (MayLogIn g.P.Port.logins) c.in-Pdu.header
+    subst (λ (n : ℕ). AnswersPdu no_digests (LoginTurn g.P.Port.logins) (MayLogIn g.P.Port.logins) c.in-Pdu.header
     (take n c.receive_pdu.new.buffer)
     (g.W.Sink.state c.args.writer.now) (record { state = c.args.work.now.state; text = c.args.work.now.text.items })
     c.args.port.now c.answer_request-answered.result
@@ -44,7 +44,7 @@ returns-in-Pdu-clause-next g c =
       port = c.answer_request-answered.new.port;
     })) (sym c.result_of_request.ensures.is)
     (next_request g.P.Port.logins _ _ c.answer_request-answered.result
-    (handled plain (LoginTurn g.P.Port.logins) (MayLogIn g.P.Port.logins) _ _ _ _ _ _ _ _ c.in-Pdu.header
+    (handled no_digests (LoginTurn g.P.Port.logins) (MayLogIn g.P.Port.logins) _ _ _ _ _ _ _ _ c.in-Pdu.header
     c.receive_pdu.new.buffer c.answer_request-answered.result (plain_reads _ _ _ _ _ reads) answers))
 
 pub returns-in-Nothing-clause-next : goal.returns-in-Nothing-clause-next

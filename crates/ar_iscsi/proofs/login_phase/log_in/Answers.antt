@@ -2,7 +2,7 @@ use Rattle.std.proofs.Common.{refl, ◌∙◌, arith, ap}
 use Rattle.ar_iscsi.specs.declared.login.LoginResult.TheVariants.{Next}
 use Rattle.ar_iscsi.specs.declared.login_phase.RequestResult.TheVariants.{Ended}
 use Rattle.ar_iscsi.specs.LoginTurn.{LoginTurn}
-use Rattle.ar_iscsi.specs.Digest.{plain}
+use Rattle.ar_iscsi.specs.Digest.{no_digests}
 use Rattle.ar_iscsi.specs.Phase.{ServesPdu}
 use Rattle.ar_iscsi.proofs.Serving.{served_more}
 use Rattle.ar_iscsi.proofs.LoggingIn.{login_ended}
@@ -17,7 +17,7 @@ returns-in-Ended g c = record {
 
 pub loop-preserved : goal.loop-preserved
 loop-preserved g c = record {
-  served = served_more (ServesPdu plain (LoginTurn g.P.Port.logins)) Next c.loop.counter _ _ _ c.loop.invariant.served
+  served = served_more (ServesPdu no_digests (LoginTurn g.P.Port.logins)) Next c.loop.counter _ _ _ c.loop.invariant.served
       c.in-Answered.ensures.next;
   room = c.answer_next.auto.buffer ∙ c.loop.invariant.room;
   empty = c.in-Answered.ensures.emptied refl;

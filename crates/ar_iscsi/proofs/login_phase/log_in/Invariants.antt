@@ -1,14 +1,14 @@
 -- this many requests were answered
 use Rattle.std.proofs.Common.{◌≡◌, false, [], length}
 use Rattle.ar_iscsi.specs.declared.login.LoginResult.TheVariants.{Next}
-use Rattle.ar_iscsi.specs.Digest.{plain}
+use Rattle.ar_iscsi.specs.Digest.{no_digests}
 use Rattle.ar_iscsi.specs.Phase.{ServesPdu, ServesPdus, most_segment}
 use Rattle.ar_iscsi.specs.LoginTurn.{LoginTurn}
 use Rattle.ar_iscsi.proofs.login_phase.log_in.Given as goal
 
 abbrev pub invariant-loop : goal.invariant-loop
 invariant-loop g l = record {
-  served : ServesPdus (ServesPdu plain (LoginTurn g.P.Port.logins)) Next l.counter
+  served : ServesPdus (ServesPdu no_digests (LoginTurn g.P.Port.logins)) Next l.counter
       (record {
         source = g.R.Source.state l.initial.reader;
         sink = g.W.Sink.state l.initial.writer;
