@@ -395,12 +395,19 @@ class Refused(Stored):
         self.wants(self.checks().status, 0, "a check afterwards")
         self.wants(sorted(os.listdir(self.store)), before, "the files of the folder")
 
+    def is_opened_by(self, pid):
+        """Whether a process has a file of the store open."""
+        folder = f"/proc/{pid}/fd"
+        return any(os.path.realpath(os.path.join(folder, name)).startswith(self.store) for name in os.listdir(folder))
+
     def test_a_server_beside_an_import(self):
         self.creates()
         line = [program("autoraid"), "import", "--store", self.store, "0:0"]
         running = self.starts(*line, stdin=subprocess.PIPE)
+        # (a check that comes first would have the import refused)
+        self.wants(waited(lambda: self.is_opened_by(running.pid), True), True, "a store that the import has opened")
         wanted = f"store {self.store}: in use by process {running.pid}\n"
-        self.wants(waited(lambda: self.checks().error, wanted), wanted, "a check beside an import")
+        self.wants(self.checks().error, wanted, "a check beside an import")
         running.process.stdin.write("s" * SECTOR)
         running.process.stdin.close()
         self.wants(running.ended(), (0, "", ""), "the import")
@@ -642,8 +649,10 @@ class Full(Stored):
         self.wants(self.writes(host, written).status, GOOD, "a WRITE once there is room")
         self.leaves_room(512 << 10)
         lasting = self.writes_until_full(host, written, "again")
+        # (a kill would cut off what the log's thread has yet to write)
+        said = server.outputs[1].line(20)
+        self.holds("the store can't be written: " in said, "an ERROR line", said)
         server.kill()
-        self.holds("the store can't be written: " in server.ended().error, "an ERROR line", "none")
         os.remove(self.ballast)
         server = self.takes_up(unit)
         host = self.looks(server, written, lasting, "after a kill")

@@ -10,7 +10,7 @@ GOOD = (0x21, 0, 0)
 class UnsolicitedData(Case):
     def setUp(self):
         super().setUp()
-        self.server = self.serve("--extents", "16", "0:0:24", doors=("operator", "iscsi"))
+        self.server = self.serve("--extents", "16", "0:0:32", doors=("operator", "iscsi"))
         self.initiator = self.kept(Initiator(self.server.iscsi_port))
         keys = "InitialR2T=No", f"FirstBurstLength={FIRST_BURST}"
         said = self.initiator.log_in("InitiatorName=iqn.x", f"TargetName={TARGET}0", *keys)

@@ -253,9 +253,8 @@ static IMPORT_EXAMPLE: &str =
     Example:\n  autoraid import --store /srv/array 0:0 < image";
 
 static SERVE_EXAMPLE: &str =
-    "Ports are those of 127.0.0.1; a Unix socket has mode 600. --sessions or --operator is required,\n\
-    since nothing else ends a service. --audit is full with --sessions, but with neither --iscsi nor\n\
-    --store; else off. A store has its own name, geometry, disks and extents.\n\n\
+    "Ports are those of 127.0.0.1. --sessions or --operator is required: nothing else ends a service.\n\
+    --audit is full with --sessions but no --iscsi or --store. A store has its own name and shape.\n\n\
     Example:\n  \
     autoraid serve --port 7117 --operator 7118 --http 7119 --geometry paper --extents 40 0:0:32M";
 
