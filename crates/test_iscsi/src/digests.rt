@@ -1,6 +1,7 @@
 // Sessions with digests (RFC 7143, 13.1), byte for byte, and the examples of CRC32C of RFC 7143, B.4.
 use crate::sessions::{ENDED, joined, plays};
 use ar_iscsi::{CrcTable, FeatureEnd, IscsiEnd, ReceiveEnd};
+use std::alloc::Global;
 use std::process::Abort;
 
 const LOGIN: &[u8] = b"\
@@ -49,15 +50,23 @@ fn a_session_with_digests(rt: HostRuntime) {
     plays(&rt, alloc, &input, ENDED, &output);
 }
 
+// These bytes, of which a bit of one is another.
+fn changed(rt: &impl Abort, alloc: Global, bytes: &[u8], place: usize) -> Vec<u8> {
+    let mut changed = joined(rt, alloc, &[bytes]);
+    match changed.get_mut(place) {
+        Some(byte) => *byte ^= 1,
+        None => panic!(rt; "no byte {place}"),
+    }
+    changed
+}
+
 // A bit of a header or of data is another one.
 #[test]
 fn wrong_digests_end_the_session(rt: HostRuntime) {
     let alloc = rt.alloc();
-    let mut ping = joined(&rt, alloc, &[PING]);
-    ping[47] ^= 1;
+    let ping = changed(&rt, alloc, PING, 47);
     plays(&rt, alloc, &[LOGIN, &ping], WRONG, &[LOGGED_IN]);
-    let mut data = joined(&rt, alloc, &[PING_DATA]);
-    data[0] ^= 1;
+    let data = changed(&rt, alloc, PING_DATA, 0);
     plays(&rt, alloc, &[LOGIN, PING, &data], WRONG, &[LOGGED_IN]);
 }
 
