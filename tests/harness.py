@@ -407,21 +407,33 @@ class Initiator:
     def __init__(self, port):
         self.link = connected(port)
         self.cmd_sn, self.exp_stat_sn = 1, 0
+        # What gives headers and padded data their digests: none.
+        self.digests = [lambda covered: b""] * 2
 
-    def send(self, opcode, flags=0, words=(), data=b"", lun=0, tag=0, size=None, place=None):
+    def send(self, opcode, flags=0, words=(), data=b"", lun=0, tag=0, size=None, place=None, ahs=b""):
         """A PDU: `words` are those from byte 20 on, `place` is bytes 8 to 15, `size` what is said of the data."""
         size, place = len(data) if size is None else size, lun << 48 if place is None else place
-        header = struct.pack(">BBHIQI", opcode, flags, 0, size, place, tag)
-        header += struct.pack(">7I", *words, *[0] * (7 - len(words)))
-        self.link.sendall(header + data + bytes(-len(data) % 4))
+        header = struct.pack(">BBHIQI", opcode, flags, 0, len(ahs) // 4 << 24 | size, place, tag)
+        header += struct.pack(">7I", *words, *[0] * (7 - len(words))) + ahs
+        data += bytes(-len(data) % 4)
+        self.link.sendall(header + self.digests[0](header) + data + self.digests[1](data))
+
+    def takes(self, count, digest):
+        """A header or padded data of this many bytes, which the digest follows that it has to have."""
+        covered = exactly(self.link, count)
+        wanted = digest(covered)
+        found = exactly(self.link, len(wanted))
+        if len(covered) == count and found != wanted:
+            raise ConnectionError(f"the digest {found.hex()} in place of {wanted.hex()}, of {shown(covered)}")
+        return covered
 
     def receive(self):
         """The next PDU, or None where the connection has ended."""
-        header = exactly(self.link, 48)
+        header = self.takes(48, self.digests[0])
         if len(header) < 48:
             return None
         size = int.from_bytes(header[5:8], "big")
-        said = Pdu(header, exactly(self.link, size + -size % 4)[:size])
+        said = Pdu(header, self.takes(size + -size % 4, self.digests[1])[:size])
         # (Data-In has a StatSN only with a status, and R2T and a NOP-In that answers nothing none of their own)
         has_status = said.flags & 1 if said.opcode == 0x25 else said.opcode != 0x31
         if has_status and (said.opcode, said.tag) != (0x20, 0xFFFFFFFF):
