@@ -254,7 +254,7 @@ static IMPORT_EXAMPLE: &str =
 
 static SERVE_EXAMPLE: &str =
     "Ports are those of 127.0.0.1. --sessions or --operator is required: nothing else ends a service.\n\
-    --audit is full with --sessions but no --iscsi or --store. A store has its own name and shape.\n\n\
+    --audit is full with --sessions but no --iscsi or --store, else off. A store has its name and shape.\n\n\
     Example:\n  \
     autoraid serve --port 7117 --operator 7118 --http 7119 --geometry paper --extents 40 0:0:32M";
 

@@ -61,8 +61,9 @@ enum Failure {
 /// The most pieces of a checkpoint in a row.
 const MOST_PIECES: u32 = 64;
 
-/// Bytes that wait at most before a WRITE commits them.
-const MOST_BYTES: usize = 16 << 20;
+/// Bytes that wait at most before a WRITE commits them. With 16 MiB hosts wait up to three times as long for such a
+/// commit, and no more are written a second.
+const MOST_BYTES: usize = 2 << 20;
 
 /// Milliseconds for which pieces of a checkpoint are made in a row, and after how many such turns it is one more: so a
 /// checkpoint ends, however much hosts commit meanwhile.
