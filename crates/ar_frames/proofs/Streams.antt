@@ -104,23 +104,31 @@ take-sent at n xs within =
     let rest = take_all (length xs - at) (drop at xs) (omega (arith, length-drop at xs)) in
     ap (λ l. take at xs ++ take n l) rest ∙ sym (take-add at n xs)
 
--- what is left of two pieces, one after the other
-pub rest_of_pair : (at front : ℕ) (xs ys : List ℕ) → front ≡ min at (length xs)
-    → take (length xs - front) (drop front xs) ++ take (length ys - (at - front)) (drop (at - front) ys)
-    ≡ drop at (xs ++ ys)
-rest_of_pair at front xs ys is =
-    ap (λ l. l ++ take (length ys - (at - front)) (drop (at - front) ys))
-    (take_all (length xs - front) (drop front xs) (omega (arith, length-drop front xs)))
-    ∙ ap (λ l. drop front xs ++ l)
-    (take_all (length ys - (at - front)) (drop (at - front) ys) (omega (arith, length-drop (at - front) ys)))
-    ∙ ap (λ n. drop n xs ++ drop (at - n) ys) is
-    ∙ sym (drop-append_min xs ys at)
+-- what is left of a part
+rest_of : (at : ℕ) (xs : List ℕ) → take (length xs - at) (drop at xs) ≡ drop at xs
+rest_of at xs = take_all (length xs - at) (drop at xs) (omega (arith, length-drop at xs))
 
--- the bytes before what is left of two pieces, and those that were taken of it
-pub take-sent_pair : (at n : ℕ) (xs ys rest : List ℕ) → rest ≡ drop at (xs ++ ys)
-    → take at (xs ++ ys) ++ take n rest ≡ take (at + n) (xs ++ ys)
-take-sent_pair at n xs ys rest is =
-    ap (λ l. take at (xs ++ ys) ++ take n l) is ∙ sym (take-add at n (xs ++ ys))
+-- what is left of three parts, one after the other
+pub rest_of_parts : (at front middle : ℕ) (xs ys zs : List ℕ) → front ≡ min at (length xs)
+    → middle ≡ min (at - front) (length ys)
+    → take (length xs - front) (drop front xs) ++ (take (length ys - middle) (drop middle ys)
+    ++ take (length zs - (at - front - middle)) (drop (at - front - middle) zs))
+    ≡ drop at (xs ++ (ys ++ zs))
+rest_of_parts at front middle xs ys zs first second =
+    ap (λ l. l ++ (take (length ys - middle) (drop middle ys)
+    ++ take (length zs - (at - front - middle)) (drop (at - front - middle) zs))) (rest_of front xs)
+    ∙ ap (λ l. drop front xs ++ (l ++ take (length zs - (at - front - middle)) (drop (at - front - middle) zs)))
+    (rest_of middle ys)
+    ∙ ap (λ l. drop front xs ++ (drop middle ys ++ l)) (rest_of (at - front - middle) zs)
+    ∙ ap (λ n. drop front xs ++ (drop n ys ++ drop (at - front - n) zs)) second
+    ∙ ap (λ l. drop front xs ++ l) (sym (drop-append_min ys zs (at - front)))
+    ∙ ap (λ n. drop n xs ++ drop (at - n) (ys ++ zs)) first
+    ∙ sym (drop-append_min xs (ys ++ zs) at)
+
+-- the bytes before what is left of others, and those that were taken of it
+pub take-sent_rest : (at n : ℕ) (xs rest : List ℕ) → rest ≡ drop at xs
+    → take at xs ++ take n rest ≡ take (at + n) xs
+take-sent_rest at n xs rest is = ap (λ l. take at xs ++ take n l) is ∙ sym (take-add at n xs)
 
 -- some bytes came, and then these
 pub came_more : (a b c : SourceState) (xs : List ℕ) (count wanted : ℕ) → CameAll a b count → Reading b c xs false

@@ -8,7 +8,7 @@ ghost use Rattle.ar_frames.specs.Session.{login_bytes};
 ghost use Rattle.ar_frames.specs.FrameStep.{SendsRequest};
 ghost use Rattle.ar_frames.specs.Client.{Greets, Means, ReadsGreeting, Asks, ReadsReply, Judges, Parses};
 
-use crate::fill::{FillResult, Sent, fill, send, send_pair};
+use crate::fill::{FillResult, Sent, fill, send, send_parts};
 use crate::frame::{MOST_DATA, request_head};
 use crate::hold::{BufferResult, hold};
 use crate::stream::{Sink, Source};
@@ -96,7 +96,7 @@ fn send_request<W: Sink>(writer: &mut W, tag: u64, lun: u8, cdb: &[u8; 16], payl
         (record { tag = tag; lun = lun; cdb = cdb.now; payload = payload.now }) result }
 {
     let head = request_head(tag, lun, cdb, payload.len() as u32);
-    send_pair(writer, &head, payload)
+    send_parts(writer, &head, payload, &[])
 }
 
 // Reads the reply to `tag`. After an N that no reply has, nothing is read.

@@ -1,6 +1,6 @@
 // Transfers of whole buffers, in as many calls as the stream takes. A transfer stops early only at a fault or at the
 // end of input.
-ghost use Rattle.std.specs.Prelude.{◌≡◌, ◌++◌, length};
+ghost use Rattle.std.specs.Prelude.{◌≡◌, ◌<◌, ◌++◌, ◌^◌, length};
 ghost use Rattle.ar_frames.specs.Stream.{Filling, Sending};
 
 use crate::stream::{Sink, Source};
@@ -52,15 +52,18 @@ pub fn send<W: Sink>(writer: &mut W, from: &[u8]) -> Sent
     Sent::Whole
 }
 
-// Writes all of `front` and then all of `rest`, by one call if the stream takes both at once.
-pub(crate) fn send_pair<W: Sink>(writer: &mut W, front: &[u8], rest: &[u8]) -> Sent
-    ensures { Sending (W.state writer.old) (W.state writer.new) (front.now ++ rest.now) result }
+/// Writes all of three parts, one after the other, by one call if the stream takes all at once.
+pub fn send_parts<W: Sink>(writer: &mut W, front: &[u8], middle: &[u8], rest: &[u8]) -> Sent
+    requires { length (front.now ++ (middle.now ++ rest.now)) < 2 ^ 64 }
+    ensures { Sending (W.state writer.old) (W.state writer.new) (front.now ++ (middle.now ++ rest.now)) result }
 {
-    let len = front.len() + rest.len();
+    let len = front.len() + middle.len() + rest.len();
     let mut at = 0;
     while at < len {
         let front_at = at.min(front.len());
-        match writer.write_pair(&front[front_at..], &rest[at - front_at..]) {
+        let middle_at = (at - front_at).min(middle.len());
+        let rest_at = at - front_at - middle_at;
+        match writer.write_parts(&front[front_at..], &middle[middle_at..], &rest[rest_at..]) {
             None => return Sent::Part(at),
             Some(n) => at += n,
         }

@@ -24,9 +24,9 @@ mod stream;
 
 pub use client::{AskFault, ask, hello};
 pub use end::{EndReason, SessionEnd};
-pub use fill::{Sent, send};
+pub use fill::{Sent, send, send_parts};
 pub use frame::{MOST_DATA, Request};
-pub use linked::{Linked, PairWrite};
+pub use linked::{Linked, PartsWrite};
 pub use login::LOGIN_NAME;
 pub use memory::{MemSink, MemSource};
 pub use observer::{Gate, NoGate, Observer};

@@ -11,25 +11,36 @@ use std::io::{self, ErrorKind, IoSlice, Read, Write};
 use std::net::TcpStream;
 use std::sync::Arc;
 
-/// A std writer that takes two pieces by one call.
-pub trait PairWrite: Write {
-    /// Writes some bytes from the front of two pieces, one after the other, as `write` does of one.
-    fn write_pair(&mut self, front: &[u8], rest: &[u8]) -> io::Result<usize>
-        ensures bound { WritesAtMost result (front.now ++ rest.now) }
-        ensures bytes { WriteAppends (Self.contents self.old) (Self.contents self.new) result (front.now ++ rest.now) };
+/// A std writer that takes three parts by one call.
+pub trait PartsWrite: Write {
+    /// Writes some bytes from the front of three parts, one after the other, as `write` does of one.
+    fn write_parts(&mut self, front: &[u8], middle: &[u8], rest: &[u8]) -> io::Result<usize>
+        ensures bound { WritesAtMost result (front.now ++ (middle.now ++ rest.now)) }
+        ensures bytes { WriteAppends (Self.contents self.old) (Self.contents self.new) result
+            (front.now ++ (middle.now ++ rest.now)) };
 }
 
-impl PairWrite for TcpStream {
+impl PartsWrite for TcpStream {
     // One system call.
-    fn write_pair(&mut self, front: &[u8], rest: &[u8]) -> io::Result<usize> {
-        TcpStream::write_vectored(self, &[IoSlice::new(front), IoSlice::new(rest)])
+    fn write_parts(&mut self, front: &[u8], middle: &[u8], rest: &[u8]) -> io::Result<usize> {
+        let parts = [
+            IoSlice::new(front),
+            IoSlice::new(middle),
+            IoSlice::new(rest),
+        ];
+        TcpStream::write_vectored(self, &parts)
     }
 }
 
-impl PairWrite for &TcpStream {
+impl PartsWrite for &TcpStream {
     // One system call.
-    fn write_pair(&mut self, front: &[u8], rest: &[u8]) -> io::Result<usize> {
-        TcpStream::write_vectored(self, &[IoSlice::new(front), IoSlice::new(rest)])
+    fn write_parts(&mut self, front: &[u8], middle: &[u8], rest: &[u8]) -> io::Result<usize> {
+        let parts = [
+            IoSlice::new(front),
+            IoSlice::new(middle),
+            IoSlice::new(rest),
+        ];
+        TcpStream::write_vectored(self, &parts)
     }
 }
 
@@ -181,7 +192,7 @@ impl<R: Read> Source for Linked<R> {
     }
 }
 
-impl<W: PairWrite> Sink for Linked<W> {
+impl<W: PartsWrite> Sink for Linked<W> {
     ghost state = { λ linked. record { taken = W.contents linked.stream; faults = linked.write_faults } };
 
     fn write(&mut self, from: &[u8]) -> Option<usize>
@@ -204,18 +215,20 @@ impl<W: PairWrite> Sink for Linked<W> {
         self.write_fault()
     }
 
-    fn write_pair(&mut self, front: &[u8], rest: &[u8]) -> Option<usize>
-        ensures bound { IfSome result (λ n. n ≤ length (front.now ++ rest.now)) }
-        ensures some { IfSome result (λ n. 0 < length (front.now ++ rest.now) → 0 < n) }
+    fn write_parts(&mut self, front: &[u8], middle: &[u8], rest: &[u8]) -> Option<usize>
+        ensures bound { IfSome result (λ n. n ≤ length (front.now ++ (middle.now ++ rest.now))) }
+        ensures some { IfSome result (λ n. 0 < length (front.now ++ (middle.now ++ rest.now)) → 0 < n) }
         ensures written { Writing (record { taken = W.contents self.old.stream; faults = self.old.write_faults })
             (record { taken = W.contents self.new.stream; faults = self.new.write_faults })
-            (moved result (front.now ++ rest.now)) (is_none result) }
+            (moved result (front.now ++ (middle.now ++ rest.now))) (is_none result) }
         // The read faults stay.
         ensures apart { self.new.read_faults ≡ self.old.read_faults }
     {
         for _ in 0..=INTERRUPTIONS {
-            match self.stream.write_pair(front, rest) {
-                Ok(0) if front.len() + rest.len() > 0 => return self.write_fault(),
+            match self.stream.write_parts(front, middle, rest) {
+                Ok(0) if !(front.is_empty() && middle.is_empty() && rest.is_empty()) => {
+                    return self.write_fault();
+                }
                 Ok(n) => return Some(n),
                 Err(error) if error.kind() == ErrorKind::Interrupted => {}
                 Err(_) => return self.write_fault(),

@@ -4,7 +4,7 @@ ghost use Rattle.std.specs.Prelude.{◌≡◌};
 ghost use Rattle.ar_frames.specs.Frame.{IsReply};
 ghost use Rattle.ar_frames.specs.FrameStep.{SendsReply};
 
-use crate::fill::{Sent, send, send_pair};
+use crate::fill::{Sent, send, send_parts};
 use crate::frame::{plain_head, sense_frame};
 use crate::stream::Sink;
 use ar_scsi::Reply;
@@ -19,7 +19,7 @@ pub(crate) fn send_reply<W: Sink>(writer: &mut W, tag: u64, reply: &Reply) -> Se
         None => {
             let payload = reply.payload.as_slice();
             let head = plain_head(tag, reply.status, payload.len() as u32);
-            send_pair(writer, &head, payload)
+            send_parts(writer, &head, payload, &[])
         }
     }
 }

@@ -50,18 +50,20 @@ pub trait Sink {
         ensures some { IfSome result (λ n. 0 < length from.now → 0 < n) }
         ensures written { Writing (state self.old) (state self.new) (moved result from.now) (is_none result) };
 
-    /// Writes some bytes from the front of two pieces, one after the other, as `write` does of one. A stream that can
-    /// takes bytes of both by one call, since what it sends it may send piece by piece.
-    fn write_pair(&mut self, front: &[u8], rest: &[u8]) -> Option<usize>
-        ensures bound { IfSome result (λ n. n ≤ length (front.now ++ rest.now)) }
-        ensures some { IfSome result (λ n. 0 < length (front.now ++ rest.now) → 0 < n) }
-        ensures written { Writing (state self.old) (state self.new) (moved result (front.now ++ rest.now))
-            (is_none result) }
+    /// Writes some bytes from the front of three parts, one after the other, as `write` does of one. A stream that can
+    /// takes bytes of all by one call, since it may send what each call writes by itself.
+    fn write_parts(&mut self, front: &[u8], middle: &[u8], rest: &[u8]) -> Option<usize>
+        ensures bound { IfSome result (λ n. n ≤ length (front.now ++ (middle.now ++ rest.now))) }
+        ensures some { IfSome result (λ n. 0 < length (front.now ++ (middle.now ++ rest.now)) → 0 < n) }
+        ensures written { Writing (state self.old) (state self.new)
+            (moved result (front.now ++ (middle.now ++ rest.now))) (is_none result) }
     {
-        if front.is_empty() {
-            self.write(rest)
-        } else {
+        if !front.is_empty() {
             self.write(front)
+        } else if !middle.is_empty() {
+            self.write(middle)
+        } else {
+            self.write(rest)
         }
     }
 

@@ -11,7 +11,7 @@ use crate::spares::Spares;
 use crate::tallies::Tallies;
 use crate::watching::Watch;
 use ar_disks::Host;
-use ar_frames::{Linked, PairWrite, Sink, Source};
+use ar_frames::{Linked, PartsWrite, Sink, Source};
 use ar_iscsi::IscsiEnd;
 use ar_latency::CommandLatencies;
 use ar_operator::{Fuse, OperatorEnd, UnitNames, disk_totals, lost_disks};
@@ -238,7 +238,7 @@ pub fn run_operated<
     H: Door + Drop + Send,
     O: Door<Reader = Linked<S>, Writer = Linked<W>> + Drop + Send,
     S: Read + Send + Drop,
-    W: PairWrite + Send + Drop,
+    W: PartsWrite + Send + Drop,
     B: Starter + Sync,
 >(
     array: &OperatedArray<'_, R, A, L, M>,

@@ -3,7 +3,7 @@
 // fault of the stream.
 use crate::limits::{Greeting, SilenceStep, greeting_after, session_limit, silence_step};
 use crate::tcp::{Protocol, Timeouts};
-use ar_frames::{PairWrite, Progress};
+use ar_frames::{PartsWrite, Progress};
 use std::alloc::Global;
 use std::io::{self, ErrorKind, IoSlice, Read, Write};
 use std::net::{Shutdown, TcpStream};
@@ -234,7 +234,7 @@ impl<R: Clock> SocketWriter<'_, R> {
 
 impl<R: Clock> Write for SocketWriter<'_, R> {
     fn write(&mut self, buf: &[u8]) -> io::Result<usize> {
-        self.write_pair(buf, &[])
+        self.write_parts(buf, &[], &[])
     }
 
     fn flush(&mut self) -> io::Result<()> {
@@ -242,18 +242,20 @@ impl<R: Clock> Write for SocketWriter<'_, R> {
     }
 }
 
-impl<R: Clock> PairWrite for SocketWriter<'_, R> {
+impl<R: Clock> PartsWrite for SocketWriter<'_, R> {
     // One system call, unless the peer takes nothing for a slice.
-    fn write_pair(&mut self, front: &[u8], rest: &[u8]) -> io::Result<usize> {
+    fn write_parts(&mut self, front: &[u8], middle: &[u8], rest: &[u8]) -> io::Result<usize> {
+        let parts = [
+            IoSlice::new(front),
+            IoSlice::new(middle),
+            IoSlice::new(rest),
+        ];
         let mut silent: u64 = 0;
         for _ in 0..u64::MAX {
             if self.is_over(silent) {
                 break;
             }
-            match self
-                .socket
-                .write_vectored(&[IoSlice::new(front), IoSlice::new(rest)])
-            {
+            match self.socket.write_vectored(&parts) {
                 Err(error) if error.kind() == ErrorKind::WouldBlock => {
                     silent = silent.saturating_add(SLICE);
                 }

@@ -173,14 +173,14 @@ impl Sink for Counter {
     ghost state = { λ sink. record { taken = None; faults = 0 } };
 
     fn write(&mut self, from: &[u8]) -> Option<usize> {
-        self.write_pair(from, &[])
+        self.write_parts(from, &[], &[])
     }
 
-    fn write_pair(&mut self, front: &[u8], rest: &[u8]) -> Option<usize> {
-        let both = front.len() + rest.len();
-        self.bytes = self.bytes.saturating_add(both as u64);
+    fn write_parts(&mut self, front: &[u8], middle: &[u8], rest: &[u8]) -> Option<usize> {
+        let all = (front.len() + middle.len()).saturating_add(rest.len());
+        self.bytes = self.bytes.saturating_add(all as u64);
         self.calls = self.calls.saturating_add(1);
-        Some(both)
+        Some(all)
     }
 
     fn faults(&self) -> u64 {

@@ -1,6 +1,6 @@
 // Streams of std: interruptions, other errors, and a write that takes no byte.
 use crate::fakes::Fake;
-use ar_frames::{EndReason, Linked, PairWrite, Progress, Sink, Source, serve_session};
+use ar_frames::{EndReason, Linked, PartsWrite, Progress, Sink, Source, serve_session};
 use std::alloc::Global;
 use std::io::{self, ErrorKind, Read, Write};
 use std::process::Abort;
@@ -51,11 +51,11 @@ impl Write for Noisy<'_> {
     }
 }
 
-impl PairWrite for Noisy<'_> {
-    fn write_pair(&mut self, front: &[u8], rest: &[u8]) -> io::Result<usize> {
+impl PartsWrite for Noisy<'_> {
+    fn write_parts(&mut self, front: &[u8], middle: &[u8], rest: &[u8]) -> io::Result<usize> {
         self.error()?;
-        let both = front.len() + rest.len();
-        Ok(both.min(self.most))
+        let all = (front.len() + middle.len()).saturating_add(rest.len());
+        Ok(all.min(self.most))
     }
 }
 

@@ -1,4 +1,5 @@
-use Rattle.std.proofs.Common.{◌++◌}
+use Rattle.std.proofs.Common.{◌++◌, ℕ, List, append-nil, subst}
+use Rattle.ar_frames.specs.Stream.{Sending}
 use Rattle.ar_frames.proofs.Frames.{request_sent}
 use Rattle.ar_frames.proofs.client.send_request.Goals as goal
 
@@ -9,5 +10,6 @@ returns g c = record {
       (record { tag = c.args.tag; lun = c.args.lun; cdb = c.args.cdb.now; payload = c.args.payload.now })
       c.request_head-head.result
       c.requires c.ranges.tag.fits c.told-cdb c.request_head-head.ensures;
-  sending = c.send_pair.ensures;
+  sending = subst (λ (l : List ℕ). Sending (g.W.Sink.state c.args.writer.now) (g.W.Sink.state c.send_parts.new.writer)
+      (c.request_head-head.result ++ l) c.send_parts.result) (append-nil c.args.payload.now) c.send_parts.ensures;
 }

@@ -1,4 +1,5 @@
-use Rattle.std.proofs.Common.{◌++◌, ℕ, List, sym, subst}
+use Rattle.std.proofs.Common.{◌++◌, ℕ, List, sym, append-nil, subst}
+use Rattle.ar_frames.specs.Stream.{Sending}
 use Rattle.ar_frames.specs.Frame.{IsReplyFrame}
 use Rattle.ar_frames.proofs.Frames.{plain_sent, sense_written}
 use Rattle.ar_frames.proofs.reply.send_reply.Goals as goal
@@ -17,5 +18,7 @@ returns-in-None g c = record {
   is_frame = plain_sent c.args.tag c.args.reply.now c.plain_head-head.result c.as_slice-payload.result.now
       c.ranges.tag.fits c.requires c.in-None.is
       c.as_slice-payload.ensures c.plain_head-head.ensures;
-  sending = c.send_pair.ensures;
+  sending = subst (λ (l : List ℕ). Sending (g.W.Sink.state c.args.writer.now) (g.W.Sink.state c.send_parts.new.writer)
+      (c.plain_head-head.result ++ l) c.send_parts.result) (append-nil c.as_slice-payload.result.now)
+      c.send_parts.ensures;
 }

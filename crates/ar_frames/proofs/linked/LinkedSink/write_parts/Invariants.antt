@@ -1,7 +1,7 @@
 -- interruptions moved no byte and are no faults
 use Rattle.std.proofs.Common.{◌≡◌}
 use Rattle.std.specs.Io.KnownBytes.{Keeps}
-use Rattle.ar_frames.proofs.linked.LinkedSink.write_pair.Given as goal
+use Rattle.ar_frames.proofs.linked.LinkedSink.write_parts.Given as goal
 
 abbrev pub invariant-loop : goal.invariant-loop
 invariant-loop g l = record {
