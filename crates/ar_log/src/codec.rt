@@ -44,7 +44,7 @@ pub fn batch_digest(number: u64, payload: &[u8]) -> u64
 pub fn encode(alloc: Global, records: &[Vec<u8>]) -> Result<Vec<u8>, AllocError>
     ensures { IfOk result (λ bytes. bytes.items ≡ encoded (items_of records.now)) }
 {
-    let mut bytes = Vec::new(alloc);
+    let mut bytes = Vec::with_capacity(alloc, room_for(records))?;
     for one in records {
         bytes.extend_from_slice(&number_bytes(one.len() as u64))?;
         bytes.extend_from_slice(one)?;
@@ -52,11 +52,20 @@ pub fn encode(alloc: Global, records: &[Vec<u8>]) -> Result<Vec<u8>, AllocError>
     Ok(bytes)
 }
 
+// How many bytes the payload of a batch of records has.
+fn room_for(records: &[Vec<u8>]) -> usize {
+    let mut room: usize = 0;
+    for one in records {
+        room = room.saturating_add(one.len()).saturating_add(8);
+    }
+    room
+}
+
 /// A batch of this payload, and the closed gate after it.
 pub fn seal(alloc: Global, number: u64, payload: &[u8]) -> Result<Vec<u8>, AllocError>
     ensures { IfOk result (λ bytes. bytes.items ≡ sealed number payload.now ++ 0 ∷ 0 ∷ []) }
 {
-    let mut bytes = Vec::new(alloc);
+    let mut bytes = Vec::with_capacity(alloc, payload.len().saturating_add(18))?;
     bytes.extend_from_slice(&number_bytes(payload.len() as u64))?;
     bytes.extend_from_slice(&number_bytes(batch_digest(number, payload)))?;
     bytes.extend_from_slice(payload)?;
