@@ -1,6 +1,7 @@
 -- What stands on a disk behind a fuse.
-use Rattle.std.proofs.Common.{◌≡◌, ℕ, Bool, true, false, IsTrue, List, refl, sym, ◌∙◌}
-use Rattle.ar_disks.specs.Disk.{DiskState, AccessesDisk, Reads, Writes, block_at}
+use Rattle.std.proofs.Common.{◌≡◌, ℕ, Bool, true, false, IsTrue, List, length, refl, ap, sym, ◌∙◌}
+use Rattle.ar_disks.specs.Block.{part_at}
+use Rattle.ar_disks.specs.Disk.{DiskState, AccessesDisk, Reads, ReadsPart, Writes, block_at}
 use Rattle.ar_disks.specs.Fuse.{FuseState, blown}
 
 -- the disk with its own word on whether it is gone, and its own count of faults
@@ -29,6 +30,15 @@ blown_reads old false e r into h = record {
   content = λ done. absurd (cc);
 }
 blown_reads old true e r into h = absurd (cc)
+
+-- a read of a part that it doesn't pass
+pub blown_reads_part : (old : FuseState) (answer : Bool) (e r first : ℕ) (into : List ℕ) → answer ≡ false
+    → ReadsPart old.disk (blown old).disk e r first answer into
+blown_reads_part old false e r first into h = record {
+  block = blown_reads old false e r (block_at old.disk e r) h;
+  part = λ done. absurd (cc);
+}
+blown_reads_part old true e r first into h = absurd (cc)
 
 -- a write that the fuse doesn't pass
 pub blown_writes : (old : FuseState) (answer : Bool) (e r : ℕ) (from : List ℕ) → answer ≡ false
@@ -64,6 +74,21 @@ passed_reads old new false faults e r true into there done reads = record {
 }
 passed_reads old new true faults e r answer into there done reads = absurd (cc)
 passed_reads old new gone faults e r false into there done reads = absurd (cc)
+
+-- a read of a part that it passes
+pub passed_reads_part : (old new : DiskState) (gone : Bool) (faults e r first : ℕ) (answer : Bool) (into : List ℕ)
+    → gone ≡ false → IsTrue answer → ReadsPart old new e r first answer into
+    → ReadsPart (fused old gone faults) (fused new gone faults) e r first answer into
+passed_reads_part old new gone faults e r first answer into there done reads = record {
+  block = passed_reads old new gone faults e r answer (block_at (fused old gone faults) e r) there done (record {
+    answers = reads.block.answers;
+    blocks = reads.block.blocks;
+    content = λ _. block_at-fused old gone faults e r;
+  });
+  part = λ _.
+      reads.part done
+      ∙ ap (λ block. part_at block first (length into)) (sym (block_at-fused old gone faults e r));
+}
 
 -- a write that the fuse passes
 pub passed_writes : (old new : DiskState) (gone : Bool) (faults e r : ℕ) (answer : Bool) (from : List ℕ)

@@ -7,14 +7,14 @@ use Rattle.std.proofs.lemmas.List.{length-take-le, length-drop}
 use Rattle.ar_disks.specs.declared.geometry.Geometry.{Geometry}
 use Rattle.ar_disks.specs.declared.geometry.Geometry.TheVariants.{Paper, Small}
 use Rattle.ar_disks.specs.Geometry.{sectors_of, block_len_of}
-use Rattle.ar_disks.specs.Block.{sectors_at, with_sectors}
+use Rattle.ar_disks.specs.Block.{part_at, sectors_at, with_sectors}
 use Rattle.ar_disks.proofs.Places.{between-overwritten_apart}
 
 pub block_len-sectors : (g : Geometry) → block_len_of g ≡ 512 * sectors_of g
 block_len-sectors Paper = refl
 block_len-sectors Small = refl
 
-take_split : {X : Type 0} (n m : ℕ) (xs : List X) → take (n + m) xs ≡ take n xs ++ take m (drop n xs)
+pub take_split : {X : Type 0} (n m : ℕ) (xs : List X) → take (n + m) xs ≡ take n xs ++ take m (drop n xs)
 take_split n m xs =
     sym (take-append-drop n (take (n + m) xs))
     ∙ ap (λ l. l ++ drop n (take (n + m) xs)) (take-take n (n + m) xs (omega arith))
@@ -27,6 +27,14 @@ unfolding sectors_at
 sectors_at_is block first count =
     let n : 512 * (first + count) - 512 * first ≡ 512 * count = omega arith in
     ap (λ k. take k (drop (512 * first) block)) n
+
+-- a part of whole sectors
+pub part_at_sectors : (block : List ℕ) (first count : ℕ)
+    → part_at block first (512 * count) ≡ sectors_at block first count
+unfolding part_at
+part_at_sectors block first count =
+    let n : 512 * first + 512 * count - 512 * first ≡ 512 * count = omega arith in
+    ap (λ k. take k (drop (512 * first) block)) n ∙ sym (sectors_at_is block first count)
 
 pub sectors_at-none : (block : List ℕ) (first : ℕ) → sectors_at block first 0 ≡ []
 sectors_at-none block first = sectors_at_is block first 0

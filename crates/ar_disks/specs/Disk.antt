@@ -1,7 +1,8 @@
 -- A disk: its contents, whether it has failed, and what an access changes.
 use Rattle.std.specs.Prelude.{◌≡◌, ◌≢◌, ℕ, ◌+◌, ◌*◌, ◌<◌, ◌^◌, ◌-◌, min, nat_lt, Bool, not, IsTrue, if◌then◌else◌, List}
-use Rattle.std.specs.Prelude.{[], slice_range}
+use Rattle.std.specs.Prelude.{[], length, slice_range}
 use Rattle.ar_disks.specs.declared.geometry.Geometry.{Geometry}
+use Rattle.ar_disks.specs.Block.{part_at}
 use Rattle.ar_disks.specs.Geometry.{rows_of, block_len_of}
 
 -- the disk's contents, extent by extent and row by row in each; whether it has failed (`gone`); its fault count; and
@@ -50,6 +51,11 @@ pub record Reads (old new : DiskState) (extent row : ℕ) (answer : Bool) (into 
   pub answers : AccessesDisk old new answer
   pub blocks : (e r : ℕ) → block_at new e r ≡ block_at old e r
   pub content : IsTrue answer → into ≡ block_at old extent row
+
+-- a read of a part: that of the block, of which `into` has the bytes from sector `first` on where it returns true
+pub record ReadsPart (old new : DiskState) (extent row first : ℕ) (answer : Bool) (into : List ℕ) : Type 0 where
+  pub block : Reads old new extent row answer (block_at old extent row)
+  pub part : IsTrue answer → into ≡ part_at (block_at old extent row) first (length into)
 
 -- a write: where it returns true the place stores the block; whatever it returns, no other place changes
 pub record Writes (old new : DiskState) (extent row : ℕ) (answer : Bool) (from : List ℕ) : Type 0 where

@@ -1,8 +1,9 @@
 // The interface of a disk. A write changes its own place alone and a read changes none, whatever they return, and each
 // is one access.
-ghost use Rattle.std.specs.Prelude.{◌≡◌, length};
+ghost use Rattle.std.specs.Prelude.{◌≡◌, ◌+◌, ◌*◌, ◌≤◌, length};
 ghost use Rattle.ar_disks.specs.Geometry.{block_len_of};
-ghost use Rattle.ar_disks.specs.Disk.{DiskState, HasPlace, Reads, Writes};
+ghost use Rattle.ar_disks.specs.Block.{with_sectors};
+ghost use Rattle.ar_disks.specs.Disk.{DiskState, HasPlace, Reads, ReadsPart, Writes, block_at};
 
 use crate::Geometry;
 
@@ -35,6 +36,22 @@ pub trait Disk {
         requires place { HasPlace (state self.old) ext row }
         requires whole { length from.now ≡ block_len_of (state self.old).geometry }
         ensures written { Writes (state self.old) (state self.new) ext row result from.now };
+
+    /// Reads a part of the block at row `row` of extent `ext`, from sector `first` on, into `into`. Callers pass whole
+    /// sectors. It is one access, and returns false as `read` does.
+    fn read_part(&mut self, ext: u16, row: u16, first: usize, into: &mut [u8]) -> bool
+        requires place { HasPlace (state self.old) ext row }
+        requires within { 512 * first + length into.old ≤ block_len_of (state self.old).geometry }
+        ensures read { ReadsPart (state self.old) (state self.new) ext row first result into.new };
+
+    /// Overwrites a part of the block at row `row` of extent `ext` with `from`, from sector `first` on. Callers pass
+    /// whole sectors. The block's other bytes stay, unless it returns false: then the whole block is unspecified, as
+    /// after `write`. It is one access.
+    fn write_part(&mut self, ext: u16, row: u16, first: usize, from: &[u8]) -> bool
+        requires place { HasPlace (state self.old) ext row }
+        requires within { 512 * first + length from.now ≤ block_len_of (state self.old).geometry }
+        ensures written { Writes (state self.old) (state self.new) ext row result
+            (with_sectors (block_at (state self.old) ext row) first from.now) };
 
     /// The number of accesses that have returned false, saturating at `u64::MAX`.
     fn faults(&self) -> u64

@@ -1,8 +1,9 @@
 // Fault injection for tests: a disk that passes a number of accesses, fails at the next one and stays failed.
-ghost use Rattle.std.specs.Prelude.{◌≡◌, ◌-◌, ◌<◌, ◌↔◌, IsTrue, false, length};
+ghost use Rattle.std.specs.Prelude.{◌≡◌, ◌+◌, ◌*◌, ◌-◌, ◌<◌, ◌≤◌, ◌↔◌, IsTrue, false, length};
 ghost use Rattle.std.specs.Bool.{OnTrue, OnFalse};
 ghost use Rattle.ar_disks.specs.Geometry.{block_len_of};
-ghost use Rattle.ar_disks.specs.Disk.{HasPlace, Reads, Writes};
+ghost use Rattle.ar_disks.specs.Block.{with_sectors};
+ghost use Rattle.ar_disks.specs.Disk.{HasPlace, Reads, ReadsPart, Writes, block_at};
 
 use crate::{Disk, Geometry, MemDisk};
 use std::marker::Model;
@@ -103,6 +104,31 @@ impl Disk for FuseDisk {
         ensures blown { OnFalse result (self.new ≡ blown self.old) }
     {
         self.passes() && self.disk.write(ext, row, from)
+    }
+
+    fn read_part(&mut self, ext: u16, row: u16, first: usize, into: &mut [u8]) -> bool
+        requires place { HasPlace self.old.disk ext row }
+        requires within { 512 * first + length into.old ≤ block_len_of self.old.disk.geometry }
+        ensures read { ReadsPart self.old.disk self.new.disk ext row first result into.new }
+        // It passes `left` accesses. The next one fails the disk and counts a fault; the bytes stay.
+        ensures fuse { IsTrue result ↔ (0 < self.old.left) }
+        ensures left { self.new.left ≡ self.old.left - 1 }
+        ensures blown { OnFalse result (self.new ≡ blown self.old) }
+    {
+        self.passes() && self.disk.read_part(ext, row, first, into)
+    }
+
+    fn write_part(&mut self, ext: u16, row: u16, first: usize, from: &[u8]) -> bool
+        requires place { HasPlace self.old.disk ext row }
+        requires within { 512 * first + length from.now ≤ block_len_of self.old.disk.geometry }
+        ensures written { Writes self.old.disk self.new.disk ext row result
+            (with_sectors (block_at self.old.disk ext row) first from.now) }
+        // It passes `left` accesses. The next one fails the disk and counts a fault; the bytes stay.
+        ensures fuse { IsTrue result ↔ (0 < self.old.left) }
+        ensures left { self.new.left ≡ self.old.left - 1 }
+        ensures blown { OnFalse result (self.new ≡ blown self.old) }
+    {
+        self.passes() && self.disk.write_part(ext, row, first, from)
     }
 
     fn faults(&self) -> u64 {

@@ -2,11 +2,13 @@
 //
 //     extent 0                           extent 1
 //     | row 0 | row 1 | .. | row R-1 |   | row 0 | row 1 | ..
-ghost use Rattle.std.specs.Prelude.{◌≡◌, ◌*◌, ◌+◌, ◌<◌, IsTrue, IfOk, length, replicate};
+ghost use Rattle.std.specs.Prelude.{◌≡◌, ◌*◌, ◌+◌, ◌<◌, ◌≤◌, IsTrue, IfOk, length, replicate};
 ghost use Rattle.ar_disks.specs.Geometry.{extent_len_of, block_len_of};
-ghost use Rattle.ar_disks.specs.Disk.{HasPlace, Reads, Writes, offset_of};
+ghost use Rattle.ar_disks.specs.Block.{with_sectors};
+ghost use Rattle.ar_disks.specs.Disk.{HasPlace, Reads, ReadsPart, Writes, block_at, offset_of};
 
 use crate::bytes::overwrite;
+use crate::geometry::SECTOR_LEN;
 use crate::{AccessCount, Disk, Geometry};
 use std::alloc::{AllocError, Global};
 use std::marker::Model;
@@ -104,6 +106,33 @@ impl Disk for MemDisk {
     {
         self.accesses.tick();
         let to = offset(self.geometry, ext, row);
+        overwrite(&mut self.bytes, to, from);
+        true
+    }
+
+    fn read_part(&mut self, ext: u16, row: u16, first: usize, into: &mut [u8]) -> bool
+        requires place { HasPlace self.old ext row }
+        requires within { 512 * first + length into.old ≤ block_len_of self.old.geometry }
+        ensures read { ReadsPart self.old self.new ext row first result into.new }
+        // It never faults.
+        ensures sound { IsTrue result }
+    {
+        self.accesses.tick();
+        let from = offset(self.geometry, ext, row) + first * SECTOR_LEN;
+        into.copy_from_slice(&self.bytes[from..from + into.len()]);
+        true
+    }
+
+    fn write_part(&mut self, ext: u16, row: u16, first: usize, from: &[u8]) -> bool
+        requires place { HasPlace self.old ext row }
+        requires within { 512 * first + length from.now ≤ block_len_of self.old.geometry }
+        ensures written { Writes self.old self.new ext row result
+            (with_sectors (block_at self.old ext row) first from.now) }
+        // It never faults.
+        ensures sound { IsTrue result }
+    {
+        self.accesses.tick();
+        let to = offset(self.geometry, ext, row) + first * SECTOR_LEN;
         overwrite(&mut self.bytes, to, from);
         true
     }

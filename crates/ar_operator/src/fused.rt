@@ -1,9 +1,10 @@
 // Disks in memory that can be told to fail while the array runs. A fuse is set under the array's lock, as every access
 // to a disk is made, so that loads and stores suffice.
-ghost use Rattle.std.specs.Prelude.{◌≡◌, ◌+◌, ◌≤◌, IfOk, IfErr, IsTrue, OnOk, None, true, false, length};
+ghost use Rattle.std.specs.Prelude.{◌≡◌, ◌+◌, ◌*◌, ◌≤◌, IfOk, IfErr, IsTrue, OnOk, None, true, false, length};
 ghost use Rattle.std.specs.Bool.{OnTrue, OnFalse};
+ghost use Rattle.ar_disks.specs.Block.{with_sectors};
 ghost use Rattle.ar_disks.specs.Geometry.{block_len_of};
-ghost use Rattle.ar_disks.specs.Disk.{HasPlace, Reads, Writes, counted};
+ghost use Rattle.ar_disks.specs.Disk.{HasPlace, Reads, ReadsPart, Writes, block_at, counted};
 ghost use Rattle.ar_extents.specs.Changes.{start_fault};
 ghost use Rattle.ar_volume.specs.Start.{IsStarted};
 ghost use Rattle.ar_script.specs.Setups.{disks_of, new_disk};
@@ -216,6 +217,23 @@ impl<'a> Disk for FusedDisk<'a> {
         self.passes() && self.disk.write(ext, row, from)
     }
 
+    fn read_part(&mut self, ext: u16, row: u16, first: usize, into: &mut [u8]) -> bool
+        requires place { HasPlace self.old ext row }
+        requires within { 512 * first + length into.old ≤ block_len_of self.old.geometry }
+        ensures read { ReadsPart self.old self.new ext row first result into.new }
+    {
+        self.passes() && self.disk.read_part(ext, row, first, into)
+    }
+
+    fn write_part(&mut self, ext: u16, row: u16, first: usize, from: &[u8]) -> bool
+        requires place { HasPlace self.old ext row }
+        requires within { 512 * first + length from.now ≤ block_len_of self.old.geometry }
+        ensures written { Writes self.old self.new ext row result
+            (with_sectors (block_at self.old ext row) first from.now) }
+    {
+        self.passes() && self.disk.write_part(ext, row, first, from)
+    }
+
     fn faults(&self) -> u64 {
         self.faults
     }
@@ -305,8 +323,8 @@ pub fn lost_disks(fuses: &[Fuse; 12]) -> Option<[u8; 2]> {
     }
 }
 
-/// Returns what was counted of each disk, by its number, since it was put in its place. Where the array has no disk, both
-/// counts are 0. They are counted under the array's lock: with it held, they are those of one moment.
+/// Returns what was counted of each disk, by its number, since it was put in its place. Where the array has no disk,
+/// both counts are 0. They are counted under the array's lock: with it held, they are those of one moment.
 pub fn disk_counts(fuses: &[Fuse; 12]) -> [DiskCounts; 12] {
     let none = DiskCounts {
         accesses: 0,

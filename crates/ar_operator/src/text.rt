@@ -51,8 +51,8 @@ pub fn write_version<W: Write>(out: &mut W, version: &str) -> io::Result<()> {
     writeln!(out, "autoraid {version}")
 }
 
-/// Writes a connected host, as a line: the frames of its session, the bytes that it has read and written, and the port of
-/// 127.0.0.1 that it comes from, if it does by frames.
+/// Writes a connected host, as a line: the frames of its session, the bytes that it has read and written, and the port
+/// of 127.0.0.1 that it comes from, if it does by frames.
 pub fn write_session<W: Write>(
     out: &mut W,
     host: Host,
