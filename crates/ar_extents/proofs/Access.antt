@@ -3,14 +3,17 @@ use Rattle.std.proofs.Common.{◌≡◌, ◌≢◌, inl, inr, ℕ, ◌+◌, ◌-
 use Rattle.std.proofs.Common.{get_or, [], refl, sym, ◌∙◌, ap, subst, arith}
 use Rattle.std.proofs.lemmas.Bool.Decides.{eqb_tells}
 use Rattle.ar_disks.specs.declared.address.Place.{Place}
-use Rattle.ar_disks.specs.Disk.{DiskState, AccessesDisk, Reads, Writes, counted, block_at}
+use Rattle.ar_disks.specs.Block.{with_sectors}
+use Rattle.ar_disks.specs.Disk.{DiskState, AccessesDisk, Reads, ReadsPart, Writes, counted, block_at}
 use Rattle.ar_extents.specs.declared.health.Health.{Health}
 use Rattle.ar_extents.specs.declared.health.Health.TheVariants.{Whole, Out, Rebuilding, Broken}
 use Rattle.ar_extents.specs.Health.{is_lost, is_out, IsDown, after_fault, HealthFits, rebuilt_disk, next_extent}
 use Rattle.ar_extents.specs.Set.{SetState, IsValidSet, HasShape, disk_in, faults_of, content, IsSound}
 use Rattle.ar_extents.specs.Follows.{Follows, Faulted, TwoHit, Keeps, KeepsBut, Anywhere}
 use Rattle.ar_extents.specs.declared.log.RowAccess.{RowAccess}
-use Rattle.ar_extents.specs.Access.{OthersStay, IsRead, IsWritten, next_place, is_read, is_written, lost_got, lost_put}
+use Rattle.ar_extents.specs.declared.answers.Got.TheVariants.{Read}
+use Rattle.ar_extents.specs.Access.{OthersStay, GetsPart, IsRead, IsWritten, next_place, is_read, is_written}
+use Rattle.ar_extents.specs.Access.{lost_got, lost_put}
 use Rattle.ar_extents.proofs.GroupLemmas.{place_is}
 use Rattle.ar_extents.proofs.Faults.{is_out-after_fault, sound_before, other_in_use, in_use_before, out_fault}
 use Rattle.ar_extents.proofs.Faults.{rebuilding_fault, down_disk, broken_fault}
@@ -285,6 +288,28 @@ pub write_answer : (old self : SetState) (disks : List DiskState) (log : List Ro
 unfolding content
 write_answer old self disks log place row from same sound writes =
     subst (λ (s : SetState). IsWritten s (answered_set old disks log place.disk true) place row from) same
+    (record { content_is = writes.written refl; was_sound = sound; sound = sound })
+
+-- the same of accesses of a part
+pub part_read : (old self : SetState) (disks : List DiskState) (log : List RowAccess) (place : Place)
+    (row first : ℕ) (into : List ℕ) → old ≡ self → IsSound old place
+    → ReadsPart (disk_in old.disks place.disk) (disk_in disks place.disk) place.extent row first true into
+    → GetsPart self (answered_set old disks log place.disk true) place row first into Read
+unfolding content
+part_read old self disks log place row first into same sound reads =
+    subst (λ (s : SetState). GetsPart s (answered_set old disks log place.disk true) place row first into Read) same
+    (record { block = record { bytes_are = refl; was_sound = sound; sound = sound }; part = λ _. reads.part refl })
+
+pub part_written : (old self : SetState) (disks : List DiskState) (log : List RowAccess) (place : Place)
+    (row first : ℕ) (from : List ℕ) → old ≡ self → IsSound old place
+    → Writes (disk_in old.disks place.disk) (disk_in disks place.disk) place.extent row true
+    (with_sectors (block_at (disk_in old.disks place.disk) place.extent row) first from)
+    → IsWritten self (answered_set old disks log place.disk true) place row
+    (with_sectors (content self place row) first from)
+unfolding content
+part_written old self disks log place row first from same sound writes =
+    subst (λ (s : SetState). IsWritten s (answered_set old disks log place.disk true) place row
+    (with_sectors (content s place row) first from)) same
     (record { content_is = writes.written refl; was_sound = sound; sound = sound })
 
 pub is_read-lost : (h : Health) → is_read (lost_got h) ≡ false

@@ -1,7 +1,8 @@
 -- One disk of a list, and the others.
 use Rattle.std.proofs.Common.{◌≡◌, ℕ, ◌<◌, Bool, List, map, length, get_or, set, sym, ◌∙◌, ap, subst, arith}
 use Rattle.std.proofs.lemmas.List.{map-set, length-map, get_or-map, get_or-set_same, get_or-set_other, length-set}
-use Rattle.ar_disks.specs.Disk.{DiskState, Reads, Writes}
+use Rattle.ar_disks.specs.Block.{with_sectors}
+use Rattle.ar_disks.specs.Disk.{DiskState, Reads, ReadsPart, Writes, block_at}
 use Rattle.ar_extents.specs.Set.{no_disk, disk_in}
 use Rattle.ar_extents.specs.Access.{OthersStay}
 
@@ -53,3 +54,28 @@ Writes-map_set state disks d x y extent row answer from lt is writes =
     let after = sym (disk_in-map_set state disks d y lt) in
     subst (λ (s : DiskState). Writes s (disk_in (map state (set disks d y)) d) extent row answer from) before
     (subst (λ (s : DiskState). Writes (state x) s extent row answer from) after writes)
+
+-- the same of accesses of a part
+pub ReadsPart-map_set : {D : Type 0} (state : D → DiskState) (disks : List D) (d : ℕ) (x y : D) (extent row first : ℕ)
+    (answer : Bool) (into : List ℕ)
+    → d < length disks → x ≡ get_or disks d x → ReadsPart (state x) (state y) extent row first answer into
+    → ReadsPart (disk_in (map state disks) d) (disk_in (map state (set disks d y)) d) extent row first answer into
+ReadsPart-map_set state disks d x y extent row first answer into lt is reads =
+    let before = sym (disk_in-read state disks d x lt is) in
+    let after = sym (disk_in-map_set state disks d y lt) in
+    subst (λ (s : DiskState). ReadsPart s (disk_in (map state (set disks d y)) d) extent row first answer into) before
+    (subst (λ (s : DiskState). ReadsPart (state x) s extent row first answer into) after reads)
+
+pub WritesPart-map_set : {D : Type 0} (state : D → DiskState) (disks : List D) (d : ℕ) (x y : D)
+    (extent row first : ℕ) (answer : Bool) (from : List ℕ)
+    → d < length disks → x ≡ get_or disks d x
+    → Writes (state x) (state y) extent row answer (with_sectors (block_at (state x) extent row) first from)
+    → Writes (disk_in (map state disks) d) (disk_in (map state (set disks d y)) d) extent row answer
+    (with_sectors (block_at (disk_in (map state disks) d) extent row) first from)
+WritesPart-map_set state disks d x y extent row first answer from lt is writes =
+    let before = sym (disk_in-read state disks d x lt is) in
+    let after = sym (disk_in-map_set state disks d y lt) in
+    subst (λ (s : DiskState). Writes s (disk_in (map state (set disks d y)) d) extent row answer
+    (with_sectors (block_at s extent row) first from)) before
+    (subst (λ (s : DiskState). Writes (state x) s extent row answer
+    (with_sectors (block_at (state x) extent row) first from)) after writes)

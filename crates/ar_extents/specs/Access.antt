@@ -1,6 +1,7 @@
 -- What a read and a write of a row change in a set.
 use Rattle.std.specs.Prelude.{◌≡◌, ◌≢◌, ℕ, Bool, true, false, List, length}
 use Rattle.ar_disks.specs.declared.address.Place.{Place}
+use Rattle.ar_disks.specs.Block.{part_at}
 use Rattle.ar_disks.specs.Disk.{DiskState}
 use Rattle.ar_extents.specs.declared.health.Health.TheVariants.{Whole, Out, Rebuilding, Broken}
 use Rattle.ar_extents.specs.declared.answers.Got.{Got}
@@ -30,6 +31,12 @@ abbrev pub Gets : SetState → SetState → Place → ℕ → List ℕ → Got �
 Gets old new place row bytes Read = IsRead old new place row bytes
 Gets old new place row bytes ReadMissing = IsMissing new place
 Gets old new place row bytes ReadBroken = new.health ≡ Broken
+
+-- what each outcome of a read of a part of a row means: that of a read of the row, of which the bytes are those from
+-- sector `first` on
+pub record GetsPart (old new : SetState) (place : Place) (row first : ℕ) (bytes : List ℕ) (answer : Got) : Type 0 where
+  pub block : Gets old new place row (content old place row) answer
+  pub part : answer ≡ Read → bytes ≡ part_at (content old place row) first (length bytes)
 
 -- the row has these bytes now, and the extent was and still is usable
 pub record IsWritten (old new : SetState) (place : Place) (row : ℕ) (bytes : List ℕ) : Type 0 where

@@ -10,6 +10,7 @@ use std::marker::Model;
 
 mod access;
 mod changes;
+mod parts;
 mod space;
 mod start;
 
