@@ -5,3 +5,4 @@ pub mod Rebuilding
 pub mod Plans
 pub mod Reported
 pub mod Standing
+pub mod Overwriting

@@ -1,5 +1,6 @@
 -- What calls on a mirrored group return, and what they leave unchanged.
-use Rattle.std.specs.Prelude.{◌≡◌, ◌≢◌, ℕ, ◌<◌, List}
+use Rattle.std.specs.Prelude.{◌≡◌, ◌≢◌, ℕ, ◌<◌, List, length}
+use Rattle.ar_disks.specs.Block.{part_at}
 use Rattle.ar_disks.specs.declared.geometry.Geometry.{Geometry}
 use Rattle.ar_disks.specs.declared.address.Place.{Place}
 use Rattle.ar_disks.specs.declared.address.Members.{Members}
@@ -28,6 +29,19 @@ pub record IsSlotBlock (old new : SetState) (m : Members) (slot : ℕ) (bytes : 
 abbrev pub ReadsSlot : SetState → SetState → Members → ℕ → List ℕ → Completion → Type 0
 ReadsSlot old new m slot bytes Done = IsSlotBlock old new m slot bytes
 ReadsSlot old new m slot bytes Broken = Unit {0}
+
+-- the same of a part of the block, of which the bytes are those from sector `first` on
+pub record IsSlotPart (old new : SetState) (m : Members) (slot first : ℕ) (bytes : List ℕ) : Type 0 where
+  pub held : (block : List ℕ) → Holds old m slot block → bytes ≡ part_at block first (length bytes)
+  pub of_first : IsSound new (one_of old.geometry m slot)
+      → bytes ≡ part_at (content old (one_of old.geometry m slot) (row_of old.geometry slot)) first (length bytes)
+  pub of_second : IsLost new (one_of old.geometry m slot)
+      → bytes ≡ part_at (content old (other_of old.geometry m slot) (row_of old.geometry slot)) first (length bytes)
+
+-- what each outcome of a read of a part means
+abbrev pub ReadsSlotPart : SetState → SetState → Members → ℕ → ℕ → List ℕ → Completion → Type 0
+ReadsSlotPart old new m slot first bytes Done = IsSlotPart old new m slot first bytes
+ReadsSlotPart old new m slot first bytes Broken = Unit {0}
 
 -- the extent is a member of the slot's pair
 abbrev pub IsInPair : Geometry → Members → ℕ → Place → Type 0

@@ -4,10 +4,12 @@
 
 mod laws;
 mod pair;
+mod parts;
 mod rebuild;
 mod slot;
 
 pub use ar_extents::RowOutcome;
 pub use laws::{mirrored_accesses, mirrored_slots_survive_a_loss};
+pub use parts::{get_part, put_part};
 pub use rebuild::rebuild_row;
 pub use slot::{get, put};
