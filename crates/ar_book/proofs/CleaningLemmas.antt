@@ -1,10 +1,8 @@
 -- A group's blocks and holes are its slots: so all of its blocks fit in the holes of its class's other groups or those
 -- of none do.
 use Rattle.std.proofs.Common.{◌≡◌, ◌≢◌, ◌⊎◌, ℕ, zero, suc, ◌<◌, ◌≤◌, ◌+◌, ◌-◌, ◌*◌, true, false, if◌then◌else◌, cond}
-use Rattle.std.proofs.Common.{Option, None, Some, is_some, IsSome, IfSome, IfNone, List, [], ◌∷◌, length, take, get_or}
+use Rattle.std.proofs.Common.{Option, None, Some, is_some, IsSome, List, [], ◌∷◌, length, get_or}
 use Rattle.std.proofs.Common.{sum_by, count_by, refl, sym, ap, subst, inl, inr, arith}
-use Rattle.std.proofs.lemmas.Bool.{cases_lt}
-use Rattle.std.proofs.lemmas.List.{take_all}
 use Rattle.std.proofs.lemmas.List.Sums.{sum_by-cons}
 use Rattle.ar_disks.specs.Geometry.{rows_of}
 use Rattle.ar_disks.specs.declared.address.Key.{Key}
@@ -13,11 +11,9 @@ use Rattle.ar_disks.specs.declared.geometry.Geometry.TheVariants.{Paper, Small}
 use Rattle.ar_book.specs.declared.class.Class.{Class}
 use Rattle.ar_book.specs.declared.class.Class.TheVariants.{Free, Mirrored, Parity}
 use Rattle.ar_book.specs.declared.class.Slot.{Slot}
-use Rattle.ar_book.specs.declared.cleaning.GroupUse.{GroupUse}
 use Rattle.ar_book.specs.Tables.{GroupState, Tables, group_in, class_of, slots_of, used}
 use Rattle.ar_book.specs.Book.{TablesAgree}
-use Rattle.ar_book.specs.Cleaning.{same_class, holes_in, holes_of, IsInUse, CanBeEmptied, IsEmptiest, IsEmptiestBelow}
-use Rattle.ar_book.specs.Cleaning.{IsHoleBeside}
+use Rattle.ar_book.specs.Cleaning.{same_class, holes_in, holes_of, IsInUse, CanBeEmptied, IsHoleBeside}
 use Rattle.ar_book.proofs.GroupLemmas.{empty_unused}
 use Rattle.ar_book.proofs.PlaceLemmas.{slots_within}
 
@@ -187,46 +183,3 @@ module _ (t : Tables) (ok : TablesAgree t) where
         | inl same ↦ none_at h l ne (sym same.1)
         | inr other ↦ ap (λ b. if b then slots_of t.geometry c - used (group_in t.groups h) else 0) other
       ]
-
-  -- once all groups are seen
-  pub emptiest_of_all : (c : Class) (n : ℕ) (o : Option GroupUse) → slots_of t.geometry c ≤ holes_of t c
-      → length t.groups ≤ n → IsEmptiestBelow t c n o → IfSome o (λ g. IsEmptiest t c g.number)
-  emptiest_of_all c n None enough h old = tt
-  emptiest_of_all c n (Some g) enough h old = record {
-    can = can_be_emptied c g.number old.found.0 enough;
-    least = λ i can. old.least i can.has (let there = can.has.there in omega arith);
-  }
-
-  pub none_of_all : (c : Class) (n : ℕ) (o : Option GroupUse) → length t.groups ≤ n → IsEmptiestBelow t c n o
-      → IfNone o ((g : ℕ) → CanBeEmptied t c g → ⊥)
-  none_of_all c n None h old = λ g can. old.least g can.has (let there = can.has.there in omega arith)
-  none_of_all c n (Some k) h old = tt
-
--- the groups below a number: the emptiest, the number of their holes, and a step for each
-pub record HasWalked (t : Tables) (c : Class) (to sum : ℕ) (o : Option GroupUse) (before count : ℕ) : Type 0 where
-  pub below : IsEmptiestBelow t c to o
-  pub holes : sum ≡ sum_by (holes_in t.geometry c) (take to t.groups)
-  pub most : sum ≤ 48 * to
-  pub steps : count ≡ before + to
-
--- a group of another class changes nothing
-pub below_other : (t : Tables) (c : Class) (to : ℕ) (o : Option GroupUse) → class_of t to ≢ c → IsEmptiestBelow t c to o
-    → IsEmptiestBelow t c (to + 1) o
-below_other t c to o ne old = record {
-  found = still o old.found;
-  blocks = old.blocks;
-  least = λ h has lt. elim (cases_lt h to) [
-    | inl before ↦ old.least h has before
-    | inr past ↦ absurd (ne (subst (λ i. class_of t i ≡ c) (omega arith) has.class))
-  ];
-}
-  where
-    still : (o : Option GroupUse) → IfSome o (λ g. IsInUse t c g.number × (g.number < to))
-        → IfSome o (λ g. IsInUse t c g.number × (g.number < to + 1))
-    still None found = tt
-    still (Some g) found = (found.0, omega (arith, found.1))
-
--- those of all groups
-pub all_holes : (t : Tables) (c : Class) (n : ℕ) → length t.groups ≤ n
-    → sum_by (holes_in t.geometry c) (take n t.groups) ≡ holes_of t c
-all_holes t c n h = ap (sum_by (holes_in t.geometry c)) (take_all n t.groups h)

@@ -31,3 +31,7 @@ pub mod IndexAfter
 pub mod GroupMoves
 pub mod UnitPlaces
 pub mod Listing
+pub mod FillCounts
+pub mod FillPlaces
+pub mod Counted
+pub mod Emptiest

@@ -1,12 +1,11 @@
 -- What cleaning chooses: the group that is emptied, the block that leaves it first, and the slot where that goes.
-use Rattle.std.specs.Prelude.{◌≡◌, ◌≢◌, ℕ, ◌-◌, ◌<◌, ◌≤◌, ◌⊎◌, Bool, true, false, if◌then◌else◌, Option, Some, IsSome}
-use Rattle.std.specs.Prelude.{IfSome, IsSomeAnd, length, sum_by}
+use Rattle.std.specs.Prelude.{◌≡◌, ◌≢◌, ℕ, ◌-◌, ◌<◌, ◌≤◌, ◌⊎◌, Bool, true, false, if◌then◌else◌, Some, IsSome}
+use Rattle.std.specs.Prelude.{length, sum_by}
 use Rattle.ar_disks.specs.declared.address.Key.{Key}
 use Rattle.ar_disks.specs.declared.geometry.Geometry.{Geometry}
 use Rattle.ar_book.specs.declared.class.Class.{Class}
 use Rattle.ar_book.specs.declared.class.Class.TheVariants.{Free, Mirrored, Parity}
 use Rattle.ar_book.specs.declared.class.Slot.{Slot}
-use Rattle.ar_book.specs.declared.cleaning.GroupUse.{GroupUse}
 use Rattle.ar_book.specs.Tables.{GroupState, Tables, group_in, class_of, key_at, slots_of, used}
 use Rattle.ar_book.specs.Choices.{IsHole, IsUpTo}
 
@@ -50,19 +49,6 @@ IsNoFuller t g h =
 pub record IsEmptiest (t : Tables) (c : Class) (g : ℕ) : Type 0 where
   pub can : CanBeEmptied t c g
   pub least : (h : ℕ) → CanBeEmptied t c h → IsNoFuller t g h
-
--- the group is of a class, and has this number of blocks
-pub record IsUseOf (t : Tables) (c : Class) (g : GroupUse) : Type 0 where
-  pub there : g.number < length t.groups
-  pub class : class_of t g.number ≡ c
-  pub blocks : g.used ≡ used (group_in t.groups g.number)
-
--- of the groups below a number that are of a class and have blocks, the one with the fewest, the lowest on ties, with
--- the number of its blocks
-pub record IsEmptiestBelow (t : Tables) (c : Class) (to : ℕ) (o : Option GroupUse) : Type 0 where
-  pub found : IfSome o (λ g. IsInUse t c g.number × (g.number < to))
-  pub blocks : IfSome o (λ g. g.used ≡ used (group_in t.groups g.number))
-  pub least : (h : ℕ) → IsInUse t c h → h < to → IsSomeAnd o (λ g. IsNoFuller t g.number h)
 
 -- the block in the lowest occupied slot of a group
 pub record IsFirstBlock (t : Tables) (g : ℕ) (k : Key) : Type 0 where

@@ -6,6 +6,7 @@ pub mod Book
 pub mod Choices
 pub mod Refusals
 pub mod Cleaning
+pub mod Fills
 pub mod Deletion
 pub mod Index
 pub mod Listing

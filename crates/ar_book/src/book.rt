@@ -1,4 +1,5 @@
-// The book's tables. Homes and slots are inverse to each other; the search tree and `reserved` are derived from them.
+// The book's tables. Homes and slots are inverse to each other; the search tree, the counts of groups and holes, and
+// `reserved` are derived from them.
 //
 //     unit 1:0   homes  [ 0.1 | -     | 2.4 ]               the home of each block: group.slot, or none
 //                stamps [ 17  | 0     | 9   ]               its write sequence number, 0 if it has none
@@ -15,7 +16,7 @@ ghost use Rattle.ar_book.specs.Changes.{unmarked};
 ghost use Rattle.ar_book.specs.Book.{TablesAgree};
 
 use crate::tables::{clear_attention, home_in, key_in, level_in};
-use crate::{Class, Group, Level, Slot, Units};
+use crate::{Class, Groups, Level, Slot, Units};
 use ar_disks::{Addr, Geometry, Key, Members};
 use ar_index::Tree;
 use std::alloc::Global;
@@ -29,7 +30,7 @@ use std::marker::Model;
 pub struct Book {
     pub(crate) alloc: Global,
     pub(crate) geometry: Geometry,
-    pub(crate) groups: Vec<Group>,
+    pub(crate) groups: Groups,
     pub(crate) units: Units,
     pub(crate) puts: u64,
     pub(crate) reserved: u32,
@@ -58,7 +59,7 @@ impl Book {
         Book {
             alloc,
             geometry,
-            groups: Vec::new(alloc),
+            groups: Groups::new(alloc),
             units: Units::new(alloc),
             puts: 0,
             reserved: 0,
@@ -86,7 +87,7 @@ impl Book {
         requires { group < length self.now.groups }
         ensures { result ≡ class_of self.now group }
     {
-        self.groups[group as usize].class()
+        self.groups.at(group).class()
     }
 
     /// The four extents of a group.
@@ -94,7 +95,7 @@ impl Book {
         requires { group < length self.now.groups }
         ensures { result ≡ (group_in self.now.groups group).members }
     {
-        self.groups[group as usize].members()
+        self.groups.at(group).members()
     }
 
     /// The number of occupied slots of a group.
@@ -102,7 +103,7 @@ impl Book {
         requires { group < length self.now.groups }
         ensures { result ≡ used (group_in self.now.groups group) }
     {
-        self.groups[group as usize].used() as u16
+        self.groups.at(group).used() as u16
     }
 
     /// The number of free groups.
@@ -179,7 +180,7 @@ impl Book {
     pub fn level(&self, key: Key) -> Level
         ensures { result ≡ level self.now key }
     {
-        level_in(&self.groups, home_in(&self.units, key))
+        level_in(self.groups.list(), home_in(&self.units, key))
     }
 
     /// A block's write sequence number; 0 if it has none yet, or is no block of a unit.
@@ -196,6 +197,6 @@ impl Book {
     pub fn key_at(&self, slot: Slot) -> Option<Key>
         ensures { result ≡ key_at self.now slot }
     {
-        key_in(&self.groups, slot)
+        key_in(self.groups.list(), slot)
     }
 }

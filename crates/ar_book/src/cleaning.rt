@@ -1,12 +1,14 @@
 // Cleaning's choice: the group with the fewest blocks is emptied, if they fit in the holes of its class's other groups.
 //
-// One walk over the groups finds it. Kept in the search tree it would be found in none, but each write to a new slot,
-// and each move, would climb to the root for it, and took up to 1.8 times as many instructions.
-ghost use Rattle.std.specs.Prelude.{◌≡◌, ◌≢◌, ◌+◌, ◌*◌, ◌<◌, ◌≤◌, ℕ, true, false, length, IfSome, IfNone};
+// Both are counted as groups change, so no call walks over them. Kept in the search tree, the emptiest group would be
+// found in no step, but each write to a new slot, and each move, would climb to the root for it, and took up to 1.8
+// times as many instructions.
+ghost use Rattle.std.specs.Prelude.{◌≡◌, ◌+◌, ◌*◌, ◌/◌, ◌<◌, ◌≤◌, ℕ, true, false, length, IfSome, IfNone};
 ghost use Rattle.ar_disks.specs.Geometry.{rows_of};
 ghost use Rattle.ar_book.specs.Book.{TablesAgree};
-ghost use Rattle.ar_book.specs.Tables.{Tables, used, class_of, group_in};
-ghost use Rattle.ar_book.specs.Cleaning.{CanBeEmptied, IsEmptiest, IsEmptiestBelow, IsFirstBlock, IsUseOf};
+ghost use Rattle.ar_book.specs.Tables.{used, group_in, slots_of};
+ghost use Rattle.ar_book.specs.Fills.{counted_as};
+ghost use Rattle.ar_book.specs.Cleaning.{holes_of, CanBeEmptied, IsEmptiest, IsFirstBlock};
 ghost use Rattle.ar_book.specs.Cleaning.{IsOpenBut, IsOpenBeside, IsLowestHoleBeside};
 
 use crate::group::slots_of;
@@ -14,48 +16,38 @@ use crate::{Book, Class, Slot};
 use ar_disks::Key;
 use ar_index::Steps;
 
-// The number of a group, and of its blocks.
-#[derive(Clone, Copy)]
-struct GroupUse {
-    number: u32,
-    used: u16,
+// The fill of a group of a class that has one block.
+fn one_block(class: Class) -> u8
+    ensures { result ≡ (counted_as class 1 0).fill }
+{
+    match class {
+        Class::Free => 1,
+        Class::Mirrored => 65,
+        Class::Parity => 129,
+    }
 }
 
 impl Book {
     /// The group of a class that cleaning empties: of those that have blocks, all of which fit in the holes of the
-    /// other groups of the class, the one with the fewest, the lowest on ties. None if there is none. Counts a step for
-    /// each group.
+    /// other groups of the class, the one with the fewest, the lowest on ties. None if there is none. Counts at most a
+    /// step for each slot of a group, for each 64 groups, and for each of 64 groups; none if the class lacks holes.
     pub fn emptiest(&self, class: Class, steps: &mut Steps) -> Option<u32>
         ensures found { IfSome result (IsEmptiest self.now class) }
         ensures none { IfNone result ((group : ℕ) → CanBeEmptied self.now class group → ⊥) }
-        ensures counted { steps.new.count ≡ steps.old.count + length self.now.groups }
+        ensures still { holes_of self.now class < slots_of self.now.geometry class
+            → steps.new.count ≡ steps.old.count }
+        ensures few { steps.new.count ≤ steps.old.count
+            + (3 * rows_of self.now.geometry + length self.now.groups / 64 + 65) }
+        ensures on { steps.old.count ≤ steps.new.count }
     {
-        let slots = slots_of(self.geometry, class);
-        let mut holes = 0;
-        let mut emptiest = None;
-        for number in 0..self.groups() {
-            steps.tick();
-            if self.is_of(class, number) {
-                let used = self.used(number);
-                holes += u32::from(slots - used);
-                emptiest = emptier(GroupUse { number, used }, emptiest);
-            }
-        }
         // A group's holes and blocks are its slots: so its blocks fit in the others' holes exactly if the class has at
         // least as many holes as a group has slots.
-        if holes < u32::from(slots) {
+        let slots = slots_of(self.geometry, class);
+        if self.groups.holes(class) < u32::from(slots) {
             return None;
         }
-        Some(emptiest?.number)
-    }
-
-    // Whether a group is of `class`.
-    fn is_of(&self, class: Class, group: u32) -> bool
-        requires { group < length self.now.groups }
-        ensures yes { result ≡ true → class_of self.now group ≡ class }
-        ensures no { result ≡ false → class_of self.now group ≢ class }
-    {
-        self.class(group) == class
+        let first = one_block(class);
+        self.groups.lowest(first, first + slots as u8, steps)
     }
 
     /// The block in the lowest occupied slot of a group that has blocks. Counts a step for each slot up to it.
@@ -120,19 +112,5 @@ impl Book {
         number != group
             && self.class(number) == class
             && self.used(number) < slots_of(self.geometry, class)
-    }
-}
-
-// The emptier of `emptiest`, found among the groups of a class before `group`, and `group`, if it has blocks.
-fn emptier(group: GroupUse, emptiest: Option<GroupUse>) -> Option<GroupUse>
-    ensures { (tables : Tables) (class : Class) → IsUseOf tables class group
-        → IsEmptiestBelow tables class group.number emptiest → IsEmptiestBelow tables class (group.number + 1) result }
-{
-    if group.used == 0 {
-        return emptiest;
-    }
-    match emptiest {
-        Some(first) if first.used <= group.used => emptiest,
-        _ => Some(group),
     }
 }

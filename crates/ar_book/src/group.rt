@@ -4,6 +4,7 @@ ghost use Rattle.std.specs.Prelude.{Some, None, IfSome, IfNone, IfOk, IsSome};
 ghost use Rattle.ar_disks.specs.Members.{with_member, stands_on};
 ghost use Rattle.ar_book.specs.Tables.{used, slots_of, is_free};
 ghost use Rattle.ar_book.specs.Changes.{with_key, with_hole, free_group};
+ghost use Rattle.ar_book.specs.Fills.{count_of};
 
 use crate::Class;
 use ar_disks::{Geometry, Key, Members, Place};
@@ -20,6 +21,15 @@ pub(crate) fn slots_of(geometry: Geometry, class: Class) -> u16
         Class::Mirrored => 2 * geometry.rows(),
         Class::Parity => 3 * geometry.rows(),
     }
+}
+
+/// A group's fill, which is its number of blocks and its class as one number, and its holes (empty slots) as a mirrored
+/// or a parity group.
+#[derive(Clone, Copy)]
+pub(crate) struct GroupCount {
+    pub(crate) fill: u8,
+    pub(crate) mirrored: u32,
+    pub(crate) parity: u32,
 }
 
 /// A group. Whatever its class, it has entries for the slots of a parity group, the most.
@@ -115,6 +125,31 @@ impl Group {
         ensures { result ≡ used self.now }
     {
         self.used
+    }
+
+    /// The group's fill and holes.
+    pub(crate) fn count(&self) -> GroupCount
+        requires { length self.now.slots ≤ 48 }
+        ensures { result ≡ count_of self.now }
+    {
+        let (blocks, slots) = (self.used as u8, self.slots.len() as u32);
+        match self.class {
+            Class::Free => GroupCount {
+                fill: blocks,
+                mirrored: 0,
+                parity: 0,
+            },
+            Class::Mirrored => GroupCount {
+                fill: 64 + blocks,
+                mirrored: (2 * (slots / 3)).saturating_sub(u32::from(blocks)),
+                parity: 0,
+            },
+            Class::Parity => GroupCount {
+                fill: 128 + blocks,
+                mirrored: 0,
+                parity: slots.saturating_sub(u32::from(blocks)),
+            },
+        }
     }
 
     /// The block of each slot.

@@ -35,7 +35,7 @@ impl Book {
             .push(free_leaf(number), self.units.map())
             .is_err()
         {
-            self.groups.truncate(number as usize);
+            self.groups.pop_free();
             return Err(AllocError);
         }
         Ok(number)
@@ -111,7 +111,7 @@ impl Book {
         ensures none { IfNone result (IsUnused self.now place) }
     {
         for number in 0..self.groups() {
-            if self.groups[number as usize].stands_on(place) {
+            if self.groups.at(number).stands_on(place) {
                 return Some(number);
             }
         }

@@ -13,7 +13,7 @@ ghost use Rattle.ar_book.specs.Index.{oldest_named, leaves_of, leaf, blanks, Kee
 ghost use Rattle.ar_book.specs.Index.{IsBlanked, IsLeafOrBlank, HaveChoices};
 
 use crate::group::slots_of;
-use crate::{Class, Group, Slot, UnitTable, Units};
+use crate::{Class, Group, Groups, Slot, UnitTable, Units};
 use ar_disks::{Addr, Geometry, Key};
 use ar_index::{Age, Choices, Lowest, Steps, Tree};
 
@@ -131,7 +131,7 @@ pub(crate) fn choices_of(
 /// Updates the tree after a change of group `number`: one scan of its slots and one climb. A step is a slot or a node.
 pub(crate) fn refresh(
     index: &mut Tree,
-    groups: &Vec<Group>,
+    groups: &Groups,
     units: &Units,
     geometry: Geometry,
     number: u32,
@@ -152,14 +152,14 @@ pub(crate) fn refresh(
         → steps.new.count ≤ steps.old.count + 12 }
     ensures on { steps.old.count ≤ steps.new.count }
 {
-    let choices = choices_of(&groups[number as usize], number, geometry, units, steps);
+    let choices = choices_of(groups.at(number), number, geometry, units, steps);
     index.set(number as usize, &choices, units.map(), steps);
 }
 
 /// Updates the tree after a change of the group of `home`, if there is one.
 pub(crate) fn refresh_home(
     index: &mut Tree,
-    groups: &Vec<Group>,
+    groups: &Groups,
     units: &Units,
     geometry: Geometry,
     home: Option<Slot>,
@@ -201,7 +201,7 @@ fn oldest_of(group: &Group, units: &Units, steps: &mut Steps) -> Option<Age>
 /// oldest block can change. A step is a slot or a node.
 pub(crate) fn refresh_oldest(
     index: &mut Tree,
-    groups: &Vec<Group>,
+    groups: &Groups,
     units: &Units,
     home: Option<Slot>,
     steps: &mut Steps,
@@ -222,9 +222,8 @@ pub(crate) fn refresh_oldest(
     ensures on { steps.old.count ≤ steps.new.count }
 {
     if let Some(slot) = home {
-        let number = slot.group as usize;
-        let oldest = oldest_of(&groups[number], units, steps);
-        index.set_oldest(number, oldest, units.map(), steps);
+        let oldest = oldest_of(groups.at(slot.group), units, steps);
+        index.set_oldest(slot.group as usize, oldest, units.map(), steps);
     }
 }
 
@@ -283,7 +282,7 @@ pub(crate) fn blank_all(index: &mut Tree, homes: &[Option<Slot>], units: &Units)
 /// Refreshes the groups of these homes whose leaves are blank; the tree is in step with the tables then.
 pub(crate) fn refresh_blank(
     index: &mut Tree,
-    groups: &Vec<Group>,
+    groups: &Groups,
     units: &Units,
     geometry: Geometry,
     steps: &mut Steps,

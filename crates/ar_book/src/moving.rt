@@ -11,14 +11,14 @@ ghost use Rattle.ar_book.specs.Book.{TablesAgree};
 use crate::group::slots_of;
 use crate::index::refresh;
 use crate::tables::{key_in, name_slot, set_home, vacate_slot};
-use crate::{Book, Class, Group, Slot, Units};
+use crate::{Book, Class, Groups, Slot, Units};
 use ar_disks::Geometry;
 use ar_index::Steps;
 
 // Moves the blocks of a full mirrored group to the slots of an empty parity group with the same numbers. Counts a step
 // for each block.
 fn move_slots(
-    groups: &mut Vec<Group>,
+    groups: &mut Groups,
     units: &mut Units,
     geometry: Geometry,
     from: u32,
@@ -35,7 +35,7 @@ fn move_slots(
         steps.tick();
         let source = Slot { group: from, slot };
         let target = Slot { group: to, slot };
-        let Some(key) = key_in(groups, source) else {
+        let Some(key) = key_in(groups.list(), source) else {
             unreachable!()
         };
         name_slot(groups, target, key);

@@ -36,7 +36,7 @@ impl Book {
         ensures oldest { result.oldest ≡ option_map (λ age. age.key) (oldest_in self.now group) }
     {
         let choices = choices_of(
-            &self.groups[group as usize],
+            self.groups.at(group),
             group,
             self.geometry,
             &self.units,
@@ -72,7 +72,7 @@ impl Book {
         ensures few { steps.new.count ≤ steps.old.count + 3 * rows_of self.now.geometry }
         ensures on { steps.old.count ≤ steps.new.count }
     {
-        let group = &self.groups[group as usize];
+        let group = self.groups.at(group);
         group.first_hole(slots_of(self.geometry, group.class()), steps)
     }
 

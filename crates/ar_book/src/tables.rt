@@ -10,7 +10,7 @@ ghost use Rattle.ar_book.specs.Book.{AreHomes};
 ghost use Rattle.ar_book.specs.Changes.{named, vacated, homed, restamped, new_unit, longer, with_place_at};
 
 use crate::directory::{places_of, set_place};
-use crate::{Class, Group, Level, Slot, UnitTable, Units, unit_map};
+use crate::{Class, Group, Groups, Level, Slot, UnitTable, Units, unit_map};
 use ar_disks::{Addr, Geometry, Key, Place};
 use std::alloc::{AllocError, Global};
 
@@ -42,29 +42,27 @@ fn class_in(groups: &[Group], number: u32) -> Class
 }
 
 /// Puts the block `key` into a slot.
-pub(crate) fn name_slot(groups: &mut Vec<Group>, slot: Slot, key: Key)
+pub(crate) fn name_slot(groups: &mut Groups, slot: Slot, key: Key)
     requires group { slot.group < length groups.old.items }
     requires slot { slot.slot < length (group_in groups.old.items slot.group).slots }
     ensures { groups.new.items ≡ named groups.old.items slot key }
 {
-    let group = &mut groups[slot.group as usize];
-    group.name(slot.slot, key);
+    groups.name(slot, key);
 }
 
 /// Empties the slot, if one is given.
-pub(crate) fn vacate_slot(groups: &mut Vec<Group>, slot: Option<Slot>)
+pub(crate) fn vacate_slot(groups: &mut Groups, slot: Option<Slot>)
     requires group { ForSome slot (λ s. s.group < length groups.old.items) }
     requires slot { ForSome slot (λ s. s.slot < length (group_in groups.old.items s.group).slots) }
     ensures { groups.new.items ≡ vacated groups.old.items slot }
 {
     if let Some(slot) = slot {
-        let group = &mut groups[slot.group as usize];
-        group.vacate(slot.slot);
+        groups.vacate(slot);
     }
 }
 
 /// Empties the slots of these homes, in order.
-pub(crate) fn vacate_all(groups: &mut Vec<Group>, homes: &[Option<Slot>])
+pub(crate) fn vacate_all(groups: &mut Groups, homes: &[Option<Slot>])
     requires { AreHomes groups.old.items homes.now }
     ensures { groups.new.items ≡ fold vacated groups.old.items homes.now }
 {
@@ -167,21 +165,19 @@ pub(crate) fn clear_attention(units: &mut Units, addr: Addr)
 }
 
 /// Sets the class of a group.
-pub(crate) fn open_class(groups: &mut Vec<Group>, number: u32, class: Class)
+pub(crate) fn open_class(groups: &mut Groups, number: u32, class: Class)
     requires { number < length groups.old.items }
     ensures { groups.new.items
         ≡ slice_set groups.old.items number (record (group_in groups.old.items number) { class = class }) }
 {
-    let group = &mut groups[number as usize];
-    group.open(class);
+    groups.open(number, class);
 }
 
 /// Replaces the extent at member `position` (0 to 3) of a group.
-pub(crate) fn replace_member(groups: &mut Vec<Group>, number: u32, position: u8, place: Place)
+pub(crate) fn replace_member(groups: &mut Groups, number: u32, position: u8, place: Place)
     requires there { number < length groups.old.items }
     requires range { position < 4 }
     ensures { groups.new.items ≡ with_place_at groups.old.items number position place }
 {
-    let group = &mut groups[number as usize];
-    group.set_member(position, place);
+    groups.set_member(number, position, place);
 }

@@ -16,7 +16,7 @@ unreachable-requires c =
     let i = c.loop-slot.slot in
     slot_names _ (tables_of c.args.geometry c.loop-slot.groups.items c.loop-slot.units.entries) c.args.from c.args.to i
     c.requires.agree c.requires.can c.loop-slot.invariant.moved (omega (arith, c.slots_of-slot-end.ensures))
-    (names_then _ _ (slot_at c.args.from i) _ _ c.deref.ensures.value c.key_in.ensures c.in_default.is)
+    (names_then _ _ (slot_at c.args.from i) _ _ c.list.ensures c.key_in.ensures c.in_default.is)
 
 pub set_home-requires : goal.set_home-requires
 set_home-requires c =
@@ -24,7 +24,7 @@ set_home-requires c =
     (slot_moves _ (tables_of c.args.geometry c.loop-slot.groups.items c.loop-slot.units.entries) c.args.from c.args.to i
     c.in-Some.key c.requires.agree c.requires.can c.loop-slot.invariant.moved
     (omega (arith, c.slots_of-slot-end.ensures))
-    (names_then _ _ (slot_at c.args.from i) _ _ c.deref.ensures.value c.key_in.ensures c.in-Some.is)).block
+    (names_then _ _ (slot_at c.args.from i) _ _ c.list.ensures c.key_in.ensures c.in-Some.is)).block
 
 pub name_slot-requires : goal.name_slot-requires
 name_slot-requires c =
@@ -32,7 +32,7 @@ name_slot-requires c =
     let moves = slot_moves _ (tables_of c.args.geometry c.loop-slot.groups.items c.loop-slot.units.entries) c.args.from
     c.args.to i c.in-Some.key c.requires.agree c.requires.can c.loop-slot.invariant.moved
     (omega (arith, c.slots_of-slot-end.ensures))
-    (names_then _ _ (slot_at c.args.from i) _ _ c.deref.ensures.value c.key_in.ensures c.in-Some.is) in
+    (names_then _ _ (slot_at c.args.from i) _ _ c.list.ensures c.key_in.ensures c.in-Some.is) in
     record { group = moves.to_group; slot = moves.to_slot }
 
 pub vacate_slot-requires : goal.vacate_slot-requires
@@ -41,7 +41,7 @@ vacate_slot-requires c =
     let moves = slot_moves _ (tables_of c.args.geometry c.loop-slot.groups.items c.loop-slot.units.entries) c.args.from
     c.args.to i c.in-Some.key c.requires.agree c.requires.can c.loop-slot.invariant.moved
     (omega (arith, c.slots_of-slot-end.ensures))
-    (names_then _ _ (slot_at c.args.from i) _ _ c.deref.ensures.value c.key_in.ensures c.in-Some.is) in
+    (names_then _ _ (slot_at c.args.from i) _ _ c.list.ensures c.key_in.ensures c.in-Some.is) in
     rw c.name_slot.ensures (record { group = moves.from_group; slot = moves.from_slot })
 
 pub loop-slot-preserved : goal.loop-slot-preserved
@@ -50,7 +50,7 @@ loop-slot-preserved c =
     let moves = slot_moves _ (tables_of c.args.geometry c.loop-slot.groups.items c.loop-slot.units.entries) c.args.from
     c.args.to i c.in-Some.key c.requires.agree c.requires.can c.loop-slot.invariant.moved
     (omega (arith, c.slots_of-slot-end.ensures))
-    (names_then _ _ (slot_at c.args.from i) _ _ c.deref.ensures.value c.key_in.ensures c.in-Some.is) in
+    (names_then _ _ (slot_at c.args.from i) _ _ c.list.ensures c.key_in.ensures c.in-Some.is) in
     rw (c.vacate_slot.ensures, c.set_home.ensures, c.name_slot.ensures) (record {
       moved = moves.next;
       counted = omega arith;

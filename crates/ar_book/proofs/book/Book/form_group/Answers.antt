@@ -1,8 +1,10 @@
-use Rattle.std.proofs.Common.{◌≡◌, ◌∙◌, ◌++◌, ◌∷◌, [], length, ap}
+use Rattle.ar_disks.specs.Geometry.{rows_of}
+use Rattle.std.proofs.Common.{◌≡◌, ◌*◌, ◌∙◌, ◌++◌, ◌∷◌, [], length, ap}
 use Rattle.ar_book.specs.Index.{free_leaf, leaves_of}
 use Rattle.ar_book.proofs.IndexAfter.{formed_leaves}
 use Rattle.ar_book.proofs.RefusalLemmas.{at_ok}
-use Rattle.ar_book.proofs.GroupLemmas.{few_groups}
+use Rattle.ar_book.proofs.GroupLemmas.{few_groups, slots_few}
+use Rattle.ar_book.proofs.Counted.{free_short, free_fill, popped, last_of}
 use Rattle.std.proofs.Common.{sym, subst, arith}
 use Rattle.ar_book.specs.contracts.book.Book.{the_view}
 use Rattle.ar_book.specs.Tables.{Tables}
@@ -24,7 +26,7 @@ invariant_of-self-else-is_err c =
     let pushed = at_ok c.push-2.result _ (sym c.is_err.ensures.value ∙ c.if-is_err.false) c.push-2.ensures.pushed in
     let added = pushed ∙ ap (λ l. l ++ c.free_leaf.result ∷ []) c.self.invariant.leaves
     ∙ ap (λ x. leaves_of t.geometry t.units t.groups ++ x ∷ []) leaf ∙ sym (formed_leaves t c.args.members) in
-    rw (c.in_ok-push.ensures.items, c.in_ok-group.ensures, c.rows.ensures)
+    rw (c.in_ok-push.ensures.pushed, c.in_ok-group.ensures, c.rows.ensures)
     (record { kept = kept; leaves = added; right = rw c.map.ensures at c.push-2.ensures.right })
 
 pub free_leaf-requires : goal.free_leaf-requires
@@ -37,3 +39,17 @@ free_leaf-requires c =
 
 pub push-requires-2 : goal.push-requires-2
 push-requires-2 c = rw c.map.ensures c.self.invariant.right
+
+pub push-requires-clause-few : goal.push-requires-clause-few
+push-requires-clause-few c =
+    let few = few_groups c.self.inside.geometry c.self.inside.groups.items c.self.invariant.kept.tables.groups in
+    omega arith
+
+pub push-requires-clause-short : goal.push-requires-clause-short
+push-requires-clause-short c =
+    rw (c.in_ok-group.ensures, c.rows.ensures) (free_short c.args.members (3 * rows_of c.self.inside.geometry)
+    (slots_few c.self.inside.geometry))
+
+pub push-requires-clause-free : goal.push-requires-clause-free
+push-requires-clause-free c =
+    rw (c.in_ok-group.ensures, c.rows.ensures) (free_fill c.args.members (3 * rows_of c.self.inside.geometry))

@@ -1,8 +1,7 @@
-use Rattle.std.proofs.Common.{◌≡◌, ◌∙◌, ◌<◌, length, is_some, ap, subst, sym, arith}
+use Rattle.std.proofs.Common.{◌≡◌, ◌<◌, length, is_some, ap, subst, sym, arith}
 use Rattle.std.proofs.lemmas.List.Sums.{count_by-le-length}
-use Rattle.std.proofs.lemmas.List.{get_or_default}
 use Rattle.ar_book.specs.contracts.book.Book.{the_view}
-use Rattle.ar_book.specs.Tables.{Tables, no_group, group_in, used}
+use Rattle.ar_book.specs.Tables.{Tables, group_in, used}
 use Rattle.ar_book.proofs.GroupLemmas.{slots_few}
 use Rattle.ar_book.proofs.book.Book.used.Goals as goal
 
@@ -14,6 +13,5 @@ overflow_cast-result c =
     let long = c.self.invariant.kept.tables.groups.long c.args.group inside in
     let most = count_by-le-length is_some (group_in t.groups c.args.group).slots in
     let few = slots_few t.geometry in
-    let same : used c.index.result.now ≡ used (group_in t.groups c.args.group) =
-    ap used (c.index.ensures ∙ get_or_default t.groups c.args.group c.index.result.now no_group inside) in
+    let same : used c.at.result.now ≡ used (group_in t.groups c.args.group) = ap used c.at.ensures in
     omega (arith, c.used.ensures)
