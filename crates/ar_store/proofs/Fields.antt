@@ -67,16 +67,16 @@ fields_read a b block old access keeps = record {
   scratch_same = old.scratch_same ∙ sym access.follows.geometry;
 }
 
--- the block that was read from a home is the one that stands for its key
-pub given_stands : (s : StoreState) (a b : SetState) (t : Tables) (k : Key) (slot : Slot) (bytes : List ℕ)
-    → store_of a t ≡ s → IsSpace (store_of a t) → home t k ≡ Some slot
-    → Follows a b → b.health ≢ Broken → ((block : List ℕ) → SlotHolds (store_of a t) slot block → bytes ≡ block)
-    → bytes ≡ stands s k
-given_stands s a b t k slot bytes view space is ab sound read =
+-- the block that was read from a home, or a part of it, is of the one that stands for its key
+pub given_stands : (s : StoreState) (a b : SetState) (t : Tables) (k : Key) (slot : Slot) (part : List ℕ → List ℕ)
+    (bytes : List ℕ) → store_of a t ≡ s → IsSpace (store_of a t) → home t k ≡ Some slot
+    → Follows a b → b.health ≢ Broken → ((block : List ℕ) → SlotHolds (store_of a t) slot block → bytes ≡ part block)
+    → bytes ≡ part (stands s k)
+given_stands s a b t k slot part bytes view space is ab sound read =
     let held = space.named slot k (home_key t space.tables k slot is) in
-    subst (λ (x : StoreState). bytes ≡ stands x k) view
+    subst (λ (x : StoreState). bytes ≡ part (stands x k)) view
     (read held.block held.holds
-    ∙ sym (stands_held (store_of a t) k slot held.block space (was_sound a b ab sound) is held.holds))
+    ∙ ap part (sym (stands_held (store_of a t) k slot held.block space (was_sound a b ab sound) is held.holds)))
 
 -- what is said of a call that is done
 pub given_done : (o : Completion) (P : Type 0) → o ≡ Done → OnDone o P → P

@@ -90,7 +90,7 @@ put_squeezed a c k needs writes =
     }
 
 -- a block at a level stands in a group of that class
-high_class : (c : Class) → level_of c ≡ MirroredLevel → c ≡ Mirrored
+pub high_class : (c : Class) → level_of c ≡ MirroredLevel → c ≡ Mirrored
 high_class Free at = absurd (unplaced_not_mirrored at)
 high_class Mirrored at = refl
 high_class Parity at = absurd (parity_not_mirrored at)

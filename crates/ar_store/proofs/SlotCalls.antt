@@ -1,12 +1,13 @@
 -- What the calls on a mirrored group and on one with parity do to the slots of a space.
-use Rattle.std.proofs.Common.{◌≡◌, ◌≢◌, ℕ, ◌<◌, List, sym, subst, arith}
+use Rattle.std.proofs.Common.{◌≡◌, ◌≢◌, ℕ, ◌<◌, List, length, sym, subst, arith}
+use Rattle.ar_disks.specs.Block.{part_at}
 use Rattle.ar_disks.specs.declared.address.Members.{Members}
 use Rattle.ar_disks.specs.declared.completion.Completion.{Completion}
 use Rattle.ar_disks.specs.declared.completion.Completion.TheVariants.{Done, Broken}
 use Rattle.ar_extents.specs.Set.{SetState}
 use Rattle.ar_extents.specs.Groups.{IsGroup}
 use Rattle.ar_extents.specs.Follows.{Keeps, Anywhere}
-use Rattle.ar_mirror.specs.Calls.{ReadsSlot, KeepsButSlot, OtherMirrorSlotsHold}
+use Rattle.ar_mirror.specs.Calls.{ReadsSlot, ReadsSlotPart, KeepsButSlot, OtherMirrorSlotsHold}
 use Rattle.ar_mirror.specs.Holds.{Holds as MirrorHolds}
 use Rattle.ar_parity.specs.Group.{Holds as ParityHolds, KeepsButRow}
 use Rattle.ar_parity.specs.Row.{row_of as parity_row_of}
@@ -39,15 +40,15 @@ module _ (s : StoreState) (slot : Slot) (m : Members) (space : IsSpace s) (has :
   pub never_free : Free ≢ class_in s slot.group
   never_free is = (let none : slot.slot < 0 = asked_slot Free is in omega arith)
 
-  -- what was read is the block that the slot held
-  pub given_in : (c : Class) (bytes : List ℕ) (o : Completion) → c ≡ class_in s slot.group
-      → OnDone o ((block : List ℕ) → ClassHolds c s.disks m slot.slot block → bytes ≡ block)
-      → OnDone o ((block : List ℕ) → SlotHolds s slot block → bytes ≡ block)
-  given_in c bytes o is_c given =
+  -- what was read is the block that the slot held, or a part of it
+  pub given_in : (c : Class) (part : List ℕ → List ℕ) (bytes : List ℕ) (o : Completion) → c ≡ class_in s slot.group
+      → OnDone o ((block : List ℕ) → ClassHolds c s.disks m slot.slot block → bytes ≡ part block)
+      → OnDone o ((block : List ℕ) → SlotHolds s slot block → bytes ≡ part block)
+  given_in c part bytes o is_c given =
       subst (λ (x : Members). OnDone o ((block : List ℕ) → ClassHolds (class_in s slot.group) s.disks x slot.slot block
-      → bytes ≡ block)) is_m
-      (subst (λ (x : Class). OnDone o ((block : List ℕ) → ClassHolds x s.disks m slot.slot block → bytes ≡ block)) is_c
-      given)
+      → bytes ≡ part block)) is_m
+      (subst (λ (x : Class). OnDone o ((block : List ℕ) → ClassHolds x s.disks m slot.slot block → bytes ≡ part block))
+      is_c given)
 
   -- the slot was read
   pub read_in : (c : Class) (b : SetState) → c ≡ class_in s slot.group
@@ -64,6 +65,13 @@ module _ (s : StoreState) (slot : Slot) (m : Members) (space : IsSpace s) (has :
   wrote_in c b is_c writes =
       subst (λ (x : Members). WritesSlot (class_in s slot.group) s.disks b x slot.slot) is_m
       (subst (λ (x : Class). WritesSlot x s.disks b m slot.slot) is_c writes)
+
+  -- what a mirrored slot holds, as its group holds it
+  pub held_mirrored : (block : List ℕ) → Mirrored ≡ class_in s slot.group → SlotHolds s slot block
+      → MirrorHolds s.disks m slot.slot block
+  held_mirrored block is_c held =
+      subst (λ (x : Class). ClassHolds x s.disks m slot.slot block) (sym is_c)
+      (subst (λ (x : Members). ClassHolds (class_in s slot.group) s.disks x slot.slot block) (sym is_m) held)
 
   -- the slot was written
   written_in : (c : Class) (b : SetState) (block : List ℕ) → c ≡ class_in s slot.group
@@ -96,6 +104,13 @@ pub mirror_given : (a b : SetState) (m : Members) (i : ℕ) (bytes : List ℕ) (
     → OnDone o ((block : List ℕ) → MirrorHolds a m i block → bytes ≡ block)
 mirror_given a b m i bytes Done gives = gives.held
 mirror_given a b m i bytes Broken gives = tt
+
+-- and of a part of it
+pub mirror_part_given : (a b : SetState) (m : Members) (i first : ℕ) (bytes : List ℕ) (o : Completion)
+    → ReadsSlotPart a b m i first bytes o
+    → OnDone o ((block : List ℕ) → MirrorHolds a m i block → bytes ≡ part_at block first (length bytes))
+mirror_part_given a b m i first bytes Done gives = gives.held
+mirror_part_given a b m i first bytes Broken gives = tt
 
 -- a read leaves every block as it stood
 pub record IsRead (a b : SetState) (t : Tables) : Type 0 where

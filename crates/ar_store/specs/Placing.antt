@@ -1,10 +1,11 @@
 -- Where a put writes its block, and how that changes the tables.
-use Rattle.std.specs.Prelude.{◌≡◌, ◌≢◌, ◌⊎◌, ℕ, ◌<◌, ◌≤◌, length, None, Some}
+use Rattle.std.specs.Prelude.{◌≡◌, ◌≢◌, ◌⊎◌, ℕ, ◌<◌, ◌≤◌, Bool, true, false, length, None, Some}
 use Rattle.std.specs.Map.{keys_of}
 use Rattle.ar_disks.specs.declared.address.Addr.{Addr}
 use Rattle.ar_disks.specs.declared.address.Key.{Key}
 use Rattle.ar_book.specs.declared.class.Class.{Class}
 use Rattle.ar_book.specs.declared.class.Class.TheVariants.{Mirrored, Parity}
+use Rattle.ar_book.specs.declared.class.Level.{Level}
 use Rattle.ar_book.specs.declared.class.Level.TheVariants.{Unplaced, Mirrored as MirroredLevel, Parity as ParityLevel}
 use Rattle.ar_book.specs.declared.class.Slot.{Slot}
 use Rattle.ar_extents.specs.declared.health.Health.TheVariants.{Broken as AllBroken}
@@ -14,6 +15,16 @@ use Rattle.ar_store.specs.declared.way.Way.TheVariants.{Home, Hole, Broken}
 use Rattle.ar_book.specs.Tables.{Tables, HasSlot, key_at, home, level, slots_of, free_groups, unit_in, reserved}
 use Rattle.ar_book.specs.Changes.{assigned, stamped, opened, slot_at, moved_first}
 use Rattle.ar_book.specs.Choices.{IsHole, IsUpTo, IsLowestFree, IsFullMirrored}
+
+-- the level is that of mirrored blocks
+abbrev pub is_mirrored_level : Level → Bool
+is_mirrored_level Unplaced = false
+is_mirrored_level MirroredLevel = true
+is_mirrored_level ParityLevel = false
+
+-- the block is mirrored, so that a put overwrites it in place
+abbrev pub is_mirrored_home : Tables → Key → Bool
+is_mirrored_home t k = is_mirrored_level (level t k)
 
 -- the first hole of a class in slot order
 pub record IsLowestHole (t : Tables) (c : Class) (s : Slot) : Type 0 where

@@ -11,6 +11,7 @@ mod form;
 mod laws;
 mod moves;
 mod open;
+mod parts;
 mod slots;
 mod space;
 mod squeeze;

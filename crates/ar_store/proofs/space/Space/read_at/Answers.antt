@@ -41,7 +41,7 @@ returns-in-Mirrored g c =
     record {
       outcome = read.outcome;
       given = given_in s c.args.slot m c.requires.ready.space c.requires.slot c.members-members.ensures Mirrored
-          c.get.new.into c.get.result (sym c.in-Mirrored.is ∙ c.class.ensures)
+          (λ block. block) c.get.new.into c.get.result (sym c.in-Mirrored.is ∙ c.class.ensures)
           (mirror_given s.disks b m c.args.slot.slot c.get.new.into c.get.result read.gives);
       book = refl;
       plan = read_in s c.args.slot m c.requires.ready.space c.requires.slot c.members-members.ensures Mirrored b
@@ -82,7 +82,7 @@ returns-in-Parity g c =
     record {
       outcome = read.outcome;
       given = given_in s c.args.slot m c.requires.ready.space c.requires.slot c.members-members.ensures Parity
-          c.get-in-Parity.new.into c.get-in-Parity.result
+          (λ block. block) c.get-in-Parity.new.into c.get-in-Parity.result
           (sym c.in-Parity.is ∙ c.class.ensures) read.gives;
       book = refl;
       plan = read_in s c.args.slot m c.requires.ready.space c.requires.slot c.members-members.ensures Parity b

@@ -47,7 +47,8 @@ returns-in-Some g c =
     record {
       outcome = read.outcome;
       given = λ done.
-          given_stands c.args.self.now a.disks b.disks a.book c.args.key c.in-Some.slot c.read_at.new.into view
+          given_stands c.args.self.now a.disks b.disks a.book c.args.key c.in-Some.slot (λ block. block)
+          c.read_at.new.into view
           c.self.invariant.kept.space is
           read.stays.accessed.follows (done_sound b.disks.health (sym done ∙ read.outcome))
           (given_done c.read_at.result _ done read.given);

@@ -1,0 +1,183 @@
+// Reads and writes of a part of a block, which needn't be read or written whole. A part is written in place, so of
+// mirrored blocks alone: a block at another level moves when it is written.
+
+use crate::Store;
+use crate::space::Space;
+use ar_book::{Class, Level, Slot};
+use ar_disks::{Completion, Disk, Key, zero};
+use ar_extents::Health;
+use ar_index::Steps;
+
+impl<D: Disk> Store<D> {
+    ghost use Rattle.std.specs.Prelude.{◌≡◌, ◌+◌, ◌*◌, ◌≤◌, length, true};
+    ghost use Rattle.ar_disks.specs.Block.{part_at, with_sectors};
+    ghost use Rattle.ar_disks.specs.Geometry.{block_len_of};
+    ghost use Rattle.ar_extents.specs.Groups.{outcome_of};
+    ghost use Rattle.ar_extents.specs.Plans.{CarriesOut};
+    ghost use Rattle.ar_book.specs.Tables.{HasBlock};
+    ghost use Rattle.ar_store.specs.Slots.{stands, AllStand, OthersStand};
+    ghost use Rattle.ar_store.specs.Placing.{Puts, is_mirrored_home};
+    ghost use Rattle.ar_store.specs.Plans.{get_plan, CarriesOutPut};
+    ghost use Rattle.ar_store.specs.Calls.{StoreFollows, BreaksPut, LeavesZeros};
+
+    /// Whether the block of `key` is mirrored, so that `put_part` can overwrite a part of it.
+    pub fn is_in_place(&self, key: Key) -> bool
+        ensures { result ≡ is_mirrored_home self.now.book key }
+    {
+        match self.space.book.level(key) {
+            Level::Mirrored => true,
+            Level::Unplaced | Level::Parity => false,
+        }
+    }
+
+    /// Reads a part of the block of `key`, from sector `first` on, into `into`. Callers pass whole sectors. The result
+    /// and the accesses are those of a `get` of the block.
+    pub fn get_part(&mut self, key: Key, first: usize, into: &mut [u8]) -> Completion
+        requires within { 512 * first + length into.old ≤ block_len_of self.old.disks.geometry }
+
+        ensures outcome { result ≡ outcome_of self.new.disks.health }
+        ensures given { result ≡ Completion.Done → into.new ≡ part_at (stands self.old key) first (length into.old) }
+
+        // Exactly these accesses are made.
+        ensures plan { CarriesOut (get_plan self.old key) self.old.disks self.new.disks }
+        ensures stands { AllStand self.old self.new }
+        ensures book { self.new.book ≡ self.old.book }
+    {
+        match self.space.disks.health() {
+            Health::Broken => Completion::Broken,
+            _ => match self.space.book.home(key) {
+                Some(slot) => self.space.read_part_at(slot, first, into),
+                None => {
+                    zero(into);
+                    Completion::Done
+                }
+            },
+        }
+    }
+
+    /// Overwrites a part of the block of `key`, which is mirrored, with `from`, from sector `first` on. Callers pass
+    /// whole sectors. The result, the accesses and the changes of the tables are those of a `put` of the block with
+    /// that part overwritten.
+    pub fn put_part(&mut self, key: Key, first: usize, from: &[u8]) -> Completion
+        requires block { HasBlock self.old.book key }
+        requires mirrored { is_mirrored_home self.old.book key ≡ true }
+        requires within { 512 * first + length from.now ≤ block_len_of self.old.disks.geometry }
+
+        ensures outcome { result ≡ outcome_of self.new.disks.health }
+        ensures put { result ≡ Completion.Done
+            → stands self.new key ≡ with_sectors (stands self.old key) first from.now }
+        ensures others { OthersStand self.old self.new key }
+        ensures tables { result ≡ Completion.Done → Puts self.old.book key self.new.book }
+        ensures zeros { result ≡ Completion.Done → LeavesZeros self.old key self.new }
+        ensures breaks { result ≡ Completion.Broken → BreaksPut self.old key self.new }
+
+        // Exactly these accesses are made.
+        ensures plan { CarriesOutPut self.old key self.new }
+        ensures follows { StoreFollows self.old self.new }
+    {
+        if let Health::Broken = self.space.disks.health() {
+            return Completion::Broken;
+        }
+        let Some(slot) = self.space.book.home(key) else {
+            unreachable!()
+        };
+        self.space.rewrite_part(key, slot, first, from)
+    }
+}
+
+impl<D: Disk> Space<D> {
+    ghost use Rattle.std.specs.Prelude.{◌≡◌, ◌+◌, ◌*◌, ◌≤◌, ℕ, List, length, Some};
+    ghost use Rattle.ar_disks.specs.Block.{part_at, with_sectors};
+    ghost use Rattle.ar_disks.specs.Endings.{OnDone};
+    ghost use Rattle.ar_disks.specs.Geometry.{block_len_of};
+    ghost use Rattle.ar_extents.specs.Groups.{outcome_of};
+    ghost use Rattle.ar_extents.specs.Plans.{CarriesOut};
+    ghost use Rattle.ar_book.specs.Tables.{home, free_groups, HasBlock, HasSlot};
+    ghost use Rattle.ar_book.specs.Changes.{stamped};
+    ghost use Rattle.ar_store.specs.Store.{class_in};
+    ghost use Rattle.ar_store.specs.Slots.{SlotHolds, HoldsBlock, OtherSlotsHold, stands, AllStand, OthersStand};
+    ghost use Rattle.ar_store.specs.Plans.{read_of, WritesSlotOf};
+    ghost use Rattle.ar_store.specs.Spaces.{store_in, IsReady, Stays};
+
+    // Reads a part of the block that a slot holds. No row of any disk changes.
+    fn read_part_at(&mut self, slot: Slot, first: usize, into: &mut [u8]) -> Completion
+        requires ready { IsReady self.old }
+        requires slot { HasSlot self.old.book slot }
+        requires within { 512 * first + length into.old ≤ block_len_of self.old.disks.geometry }
+
+        ensures outcome { result ≡ outcome_of self.new.disks.health }
+        ensures given { OnDone result ((block : List ℕ) → SlotHolds (store_in self.old) slot block
+            → into.new ≡ part_at block first (length into.new)) }
+
+        ensures book { self.new.book ≡ self.old.book }
+        ensures plan { CarriesOut (read_of (store_in self.old) slot) self.old.disks self.new.disks }
+        ensures stand { AllStand (store_in self.old) (store_in self.new) }
+        ensures stays { Stays self.old self.new }
+    {
+        let members = self.book.members(slot.group);
+        match self.book.class(slot.group) {
+            Class::Free => unreachable!(),
+            Class::Mirrored => {
+                ar_mirror::get_part(&mut self.disks, &members, slot.slot, first, into)
+            }
+            Class::Parity => ar_parity::get_part(
+                &mut self.disks,
+                &members,
+                slot.slot,
+                first,
+                into,
+                &mut self.scratch,
+            ),
+        }
+    }
+
+    // Overwrites a part of a mirrored block in its home, and gives the block the next write sequence number.
+    fn rewrite_part(&mut self, key: Key, slot: Slot, first: usize, from: &[u8]) -> Completion
+        requires ready { IsReady self.old }
+        requires block { HasBlock self.old.book key }
+        requires home { home self.old.book key ≡ Some slot }
+        requires mirrored { class_in (store_in self.old) slot.group ≡ Class.Mirrored }
+        requires within { 512 * first + length from.now ≤ block_len_of self.old.disks.geometry }
+
+        ensures outcome { result ≡ outcome_of self.new.disks.health }
+        ensures tables { result ≡ Completion.Done → self.new.book ≡ stamped self.old.book key }
+        ensures unwritten { result ≡ Completion.Broken → self.new.book ≡ self.old.book }
+        ensures free { free_groups self.old.book ≤ free_groups self.new.book }
+
+        ensures here { result ≡ Completion.Done → stands (store_in self.new) key
+            ≡ with_sectors (stands (store_in self.old) key) first from.now }
+        ensures others { OthersStand (store_in self.old) (store_in self.new) key }
+        ensures writes { WritesSlotOf (class_in (store_in self.old) slot.group) slot
+            (store_in self.old) (store_in self.new) }
+        ensures stays { Stays self.old self.new }
+    {
+        match self.write_part_at(slot, first, from) {
+            Completion::Done => {
+                self.book.stamp(key, &mut Steps::new());
+                Completion::Done
+            }
+            Completion::Broken => Completion::Broken,
+        }
+    }
+
+    // Overwrites a part of the block that a mirrored slot holds.
+    fn write_part_at(&mut self, slot: Slot, first: usize, from: &[u8]) -> Completion
+        requires ready { IsReady self.old }
+        requires slot { HasSlot self.old.book slot }
+        requires mirrored { class_in (store_in self.old) slot.group ≡ Class.Mirrored }
+        requires held { HoldsBlock (store_in self.old) slot }
+        requires within { 512 * first + length from.now ≤ block_len_of self.old.disks.geometry }
+
+        ensures outcome { result ≡ outcome_of self.new.disks.health }
+        ensures here { (block : List ℕ) → SlotHolds (store_in self.old) slot block
+            → SlotHolds (store_in self.new) slot (with_sectors block first from.now) }
+        ensures others { OtherSlotsHold (store_in self.old) (store_in self.new) slot }
+        ensures book { self.new.book ≡ self.old.book }
+        ensures writes { WritesSlotOf (class_in (store_in self.old) slot.group) slot
+            (store_in self.old) (store_in self.new) }
+        ensures stays { Stays self.old self.new }
+    {
+        let members = self.book.members(slot.group);
+        ar_mirror::put_part(&mut self.disks, &members, slot.slot, first, from)
+    }
+}
