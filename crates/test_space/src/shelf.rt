@@ -1,13 +1,16 @@
 // A backing in memory: blocks of zeros under the keys that were added. It breaks at a call that the test chooses, and
 // counts what it was asked. It claims to know every key, and breaks at one that was not added: so a test that names one
 // shows it by its answer.
-ghost use Rattle.std.specs.Prelude.{◌≡◌, IsTrue, Some, IsSome, length};
+ghost use Rattle.std.specs.Prelude.{◌≡◌, ◌+◌, ◌*◌, ◌≤◌, [], IsTrue, Some, IsSome, length, unwrap_or};
 ghost use Rattle.std.specs.Bool.{OnTrue};
 ghost use Rattle.std.specs.Map.{lookup, set_value};
 ghost use Rattle.ar_cache.specs.Cache.{same_key};
+ghost use Rattle.ar_disks.specs.Block.{part_at, with_sectors};
+ghost use Rattle.ar_disks.specs.Geometry.{block_len_of};
+ghost use Rattle.ar_disks.specs.declared.geometry.Geometry.TheVariants.{Small};
 
 use ar_cache::Backing;
-use ar_disks::{Block, Completion, Geometry, Key};
+use ar_disks::{Block, Completion, Geometry, Key, SECTOR_LEN};
 use indexmap::IndexMap;
 use std::alloc::{AllocError, Global};
 
@@ -73,6 +76,8 @@ impl Backing for Shelf {
 
     ghost geometry = { λ _. Small };
 
+    ghost in_place = { λ _ _. true };
+
     ghost is_broken = { λ s. s.broken };
 
     ghost follows = { λ _ _. ⊤ };
@@ -92,9 +97,31 @@ impl Backing for Shelf {
         Completion::Broken
     }
 
+    fn get_part(&mut self, key: Key, first: usize, into: &mut [u8]) -> Completion {
+        self.gets = self.gets.wrapping_add(1);
+        if !self.breaks() && copy_part(&self.blocks, key, first, into) {
+            return Completion::Done;
+        }
+        self.broken = true;
+        Completion::Broken
+    }
+
     fn put(&mut self, key: Key, from: &[u8]) -> Completion {
         self.puts = self.puts.wrapping_add(1);
         if !self.breaks() && replace(&mut self.blocks, key, from) {
+            return Completion::Done;
+        }
+        self.broken = true;
+        Completion::Broken
+    }
+
+    fn is_in_place(&self, _key: Key) -> bool {
+        true
+    }
+
+    fn put_part(&mut self, key: Key, first: usize, from: &[u8]) -> Completion {
+        self.puts = self.puts.wrapping_add(1);
+        if !self.breaks() && replace_part(&mut self.blocks, key, first, from) {
             return Completion::Done;
         }
         self.broken = true;
@@ -132,5 +159,45 @@ fn replace(blocks: &mut IndexMap<Key, Block>, key: Key, from: &[u8]) -> bool
         return false;
     }
     block.copy_from_slice(from);
+    true
+}
+
+#[tactic(auto, unfolding(ar_disks::specs::Block::part_at))]
+// Copies a part of the block under a key, where there is a small one.
+fn copy_part(blocks: &IndexMap<Key, Block>, key: Key, first: usize, into: &mut [u8]) -> bool
+    requires { 512 * first + length into.old ≤ block_len_of Small }
+    ensures { OnTrue result (into.new
+        ≡ part_at (unwrap_or (lookup (same_key key) blocks.now.entries) []) first (length into.old)) }
+{
+    let Some(block) = blocks.get(&key) else {
+        return false;
+    };
+    let bytes = block.bytes();
+    if bytes.len() != Geometry::SMALL.block_len() {
+        return false;
+    }
+    let from = first * SECTOR_LEN;
+    let len = into.len();
+    into.copy_from_slice(&bytes[from..from + len]);
+    true
+}
+
+// Writes over a part of the block under a key, where there is a small one.
+fn replace_part(blocks: &mut IndexMap<Key, Block>, key: Key, first: usize, from: &[u8]) -> bool
+    requires { 512 * first + length from.now ≤ block_len_of Small }
+    ensures there { OnTrue result (IsSome (lookup (same_key key) blocks.old.entries)) }
+    ensures whole { OnTrue result
+        (length (unwrap_or (lookup (same_key key) blocks.old.entries) []) ≡ block_len_of Small) }
+    ensures written { OnTrue result (blocks.new.entries
+        ≡ set_value (same_key key) blocks.old.entries
+        (with_sectors (unwrap_or (lookup (same_key key) blocks.old.entries) []) first from.now)) }
+{
+    let Some(block) = blocks.get_mut(&key) else {
+        return false;
+    };
+    if block.bytes().len() != Geometry::SMALL.block_len() {
+        return false;
+    }
+    block.set_sectors(first, from);
     true
 }
