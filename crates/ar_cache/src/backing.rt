@@ -1,5 +1,6 @@
 // What a cache needs of the store behind it.
-ghost use Rattle.std.specs.Prelude.{◌≡◌, IsTrue, List, ℕ, Bool, length};
+ghost use Rattle.std.specs.Prelude.{◌≡◌, ◌+◌, ◌*◌, ◌≤◌, IsTrue, List, ℕ, Bool, length};
+ghost use Rattle.ar_disks.specs.Block.{part_at, with_sectors};
 ghost use Rattle.ar_disks.specs.Geometry.{block_len_of};
 ghost use Rattle.ar_disks.specs.declared.address.Key.{Key};
 ghost use Rattle.ar_disks.specs.declared.geometry.Geometry.{Geometry};
@@ -21,19 +22,22 @@ pub trait Backing {
     /// The geometry of its blocks.
     ghost geometry: { Self → Geometry };
 
+    /// Whether sectors of a key's block can be overwritten where they are, without the block being read.
+    ghost in_place: { Self → Key → Bool };
+
     /// Whether the backing has failed.
     ghost is_broken: { Self → Bool };
 
     /// What the backing specifies of any call, from the state before it to the one after.
     ghost follows: { Self → Self → Type 0 };
 
-    /// What it specifies in addition of a `get` of a key, whatever the result.
+    /// What it specifies in addition of a `get` or `get_part` of a key, whatever the result.
     ghost gets: { Self → Key → Self → Type 0 };
 
-    /// What it specifies in addition of a `put` of a key that returns `Done`.
+    /// What it specifies in addition of a `put` or `put_part` of a key that returns `Done`.
     ghost puts: { Self → Key → Self → Type 0 };
 
-    /// What it specifies in addition of a `put` of a key that returns `Broken`.
+    /// What it specifies in addition of a `put` or `put_part` of a key that returns `Broken`.
     ghost breaks: { Self → Key → Self → Type 0 };
 
     /// Reads the block of a key that the backing knows. After `Broken` the contents of `into` are unspecified.
@@ -46,12 +50,43 @@ pub trait Backing {
         ensures keeps { KeepsBacking geometry knows is_broken follows self.old self.new }
         ensures gets { gets self.old key self.new };
 
+    /// Reads a part of the block of a key that the backing knows, from sector `first` on. Callers read whole sectors.
+    /// After `Broken` the contents of `into` are unspecified.
+    fn get_part(&mut self, key: Key, first: usize, into: &mut [u8]) -> Completion
+        requires known { IsTrue (knows self.old key) }
+        requires within { 512 * first + length into.old ≤ block_len_of (geometry self.old) }
+        ensures answer { result ≡ stored (is_broken self.new) }
+        ensures content { result ≡ Completion.Done
+            → into.new ≡ part_at (block_at self.old key) first (length into.old) }
+        ensures blocks { result ≡ Completion.Done → SameBlocks (block_at self.old) (block_at self.new) }
+        ensures keeps { KeepsBacking geometry knows is_broken follows self.old self.new }
+        ensures gets { gets self.old key self.new };
+
     /// Writes the block of a key that the backing knows. After `Broken` its blocks are unspecified.
     fn put(&mut self, key: Key, from: &[u8]) -> Completion
         requires known { IsTrue (knows self.old key) }
         requires whole { length from.now ≡ block_len_of (geometry self.old) }
         ensures answer { result ≡ stored (is_broken self.new) }
         ensures written { result ≡ Completion.Done → WritesKey (block_at self.old) (block_at self.new) key from.now }
+        ensures puts { result ≡ Completion.Done → puts self.old key self.new }
+        ensures breaks { result ≡ Completion.Broken → breaks self.old key self.new }
+        ensures keeps { KeepsBacking geometry knows is_broken follows self.old self.new };
+
+    /// Returns whether `put_part` accepts a key that the backing knows.
+    fn is_in_place(&self, key: Key) -> bool
+        requires { IsTrue (knows self.now key) }
+        ensures { result ≡ in_place self.now key };
+
+    /// Overwrites the block of a key that the backing knows from sector `first` on. Callers pass whole sectors. After
+    /// `Broken` the blocks are unspecified.
+    fn put_part(&mut self, key: Key, first: usize, from: &[u8]) -> Completion
+        requires known { IsTrue (knows self.old key) }
+        requires in_place { IsTrue (in_place self.old key) }
+        requires within { 512 * first + length from.now ≤ block_len_of (geometry self.old) }
+        ensures answer { result ≡ stored (is_broken self.new) }
+        ensures written { result ≡ Completion.Done → WritesKey (block_at self.old) (block_at self.new) key
+            (with_sectors (block_at self.old key) first from.now) }
+        ensures whole { result ≡ Completion.Done → length (block_at self.old key) ≡ block_len_of (geometry self.old) }
         ensures puts { result ≡ Completion.Done → puts self.old key self.new }
         ensures breaks { result ≡ Completion.Broken → breaks self.old key self.new }
         ensures keeps { KeepsBacking geometry knows is_broken follows self.old self.new };

@@ -1,16 +1,17 @@
 // The invariant: at most `capacity` entries, with different keys, each one block long. If the backing fails in a call,
 // the entry that was being destaged is still there.
-ghost use Rattle.std.specs.Prelude.{◌≡◌, ◌≢◌, ◌≤◌, ◌<◌, ◌↔◌, ◌∷◌, ◌++◌, length, reverse, [], IfOk, IfSome, IsTrue};
-ghost use Rattle.std.specs.Prelude.{IsSome, false, is_some};
+ghost use Rattle.std.specs.Prelude.{◌≡◌, ◌≢◌, ◌+◌, ◌*◌, ◌==◌, ◌≤◌, ◌<◌, ◌↔◌, ◌∷◌, ◌++◌, length, reverse, []};
+ghost use Rattle.std.specs.Prelude.{IfOk, IfSome, IsTrue, IsSome, false, is_some};
 ghost use Rattle.std.specs.Map.{keys_of};
 ghost use Rattle.std.specs.Bool.{OnTrue, OnFalse};
+ghost use Rattle.ar_disks.specs.Block.{part_at, with_sectors};
 ghost use Rattle.ar_disks.specs.Geometry.{block_len_of};
 ghost use Rattle.ar_disks.specs.declared.address.Key.{Key};
 ghost use Rattle.ar_cache.specs.Backing.{IsHonest, stored, KeepsBacking, SameBlocks};
 
 use crate::answers::Flush;
 use crate::backing::Backing;
-use crate::entries::{last_key, peek, replace};
+use crate::entries::{copy_part, last_key, peek, replace};
 use ar_disks::{Addr, Block, Completion, Geometry, Key};
 use lru::LruCache;
 use std::alloc::{AllocError, Global};
@@ -112,6 +113,13 @@ impl Cache {
         peek(&self.entries, key).is_some()
     }
 
+    /// Returns whether no block is ever cached, as the capacity is 0.
+    pub fn writes_through(&self) -> bool
+        ensures { result ≡ self.now.capacity == 0 }
+    {
+        self.capacity == 0
+    }
+
     /// Reads the block of `key`: the cached one, without access to the backing, else the backing's. After `Broken` the
     /// contents of `into` are unspecified.
     pub fn get<B: Backing>(&self, key: Key, into: &mut [u8], backing: &mut B) -> Completion
@@ -140,6 +148,41 @@ impl Cache {
         }
     }
 
+    /// Reads a part of the block that `get` reads, from sector `first` on. Callers read whole sectors. After `Broken`
+    /// the contents of `into` are unspecified.
+    pub fn get_part<B: Backing>(
+        &self,
+        key: Key,
+        first: usize,
+        into: &mut [u8],
+        backing: &mut B,
+    ) -> Completion
+        requires geometry { B.geometry backing.old ≡ self.now.geometry }
+        requires known { IsTrue (B.knows backing.old key) }
+        requires within { 512 * first + length into.old ≤ block_len_of self.now.geometry }
+
+        ensures content { result ≡ Completion.Done
+            → into.new ≡ part_at (seen self.now (B.block_at backing.old) key) first (length into.old) }
+
+        ensures blocks { result ≡ Completion.Done
+            → SameBlocks (B.block_at backing.old) (B.block_at backing.new) }
+        ensures hit { IsSome (cached self.now key)
+            → (result ≡ Completion.Done) × (backing.new ≡ backing.old) }
+        ensures miss { cached self.now key ≡ None → B.gets backing.old key backing.new }
+
+        ensures answer { IsHonest result (B.is_broken backing.old) (B.is_broken backing.new) }
+        ensures asked { cached self.now key ≡ None → result ≡ stored (B.is_broken backing.new) }
+        ensures keeps { KeepsBacking B.geometry B.knows B.is_broken B.follows backing.old backing.new }
+    {
+        match peek(&self.entries, key) {
+            Some(block) => {
+                copy_part(block, first, into);
+                Completion::Done
+            }
+            None => backing.get_part(key, first, into),
+        }
+    }
+
     /// Writes the block of `key` to the cache, as the most recently used.
     ///
     /// A cached key's block is overwritten. For a new key a full cache first destages its least recently used entry. If
@@ -164,6 +207,36 @@ impl Cache {
             return Completion::Done;
         }
         self.put_new(key, block, backing)
+    }
+
+    /// Overwrites the block of `key` in the backing, where it is, from sector `first` on. The capacity is 0, so a `put`
+    /// of the whole block would be written through, too.
+    pub fn put_part<B: Backing>(
+        &self,
+        key: Key,
+        first: usize,
+        from: &[u8],
+        backing: &mut B,
+    ) -> Completion
+        requires geometry { B.geometry backing.old ≡ self.now.geometry }
+        requires known { IsTrue (B.knows backing.old key) }
+        requires through { self.now.capacity ≡ 0 }
+        requires in_place { IsTrue (B.in_place backing.old key) }
+        requires within { 512 * first + length from.now ≤ block_len_of self.now.geometry }
+
+        ensures seen { result ≡ Completion.Done
+            → PutIsSeen self.now (B.block_at backing.old) self.now (B.block_at backing.new) key
+            (with_sectors (seen self.now (B.block_at backing.old) key) first from.now) }
+        ensures entries { PutsEntry self.now key
+            (with_sectors (seen self.now (B.block_at backing.old) key) first from.now) result self.now }
+        ensures behind { PutsBehind B.puts B.breaks self.now key result self.now backing.old backing.new }
+
+        ensures answer { PutAnswers self.now key result self.now (B.is_broken backing.old) (B.is_broken backing.new) }
+        ensures keeps { KeepsBacking B.geometry B.knows B.is_broken B.follows backing.old backing.new }
+    {
+        // The entries are read for the invariant alone: there are none.
+        let _entries = &self.entries;
+        backing.put_part(key, first, from)
     }
 
     /// Destages the least recently used entry: writes its block to the backing, then drops it. `Idle` if there is none.

@@ -1,13 +1,14 @@
 // Operations on the entries of a cache that need no backing.
-ghost use Rattle.std.specs.Prelude.{◌≡◌, ◌↔◌, ◌∷◌, All, IsTrue, IsSome, length};
+ghost use Rattle.std.specs.Prelude.{◌≡◌, ◌+◌, ◌*◌, ◌≤◌, ◌↔◌, ◌∷◌, All, IsTrue, IsSome, length};
 ghost use Rattle.std.specs.Bool.{OnTrue, OnFalse};
 ghost use Rattle.std.specs.Map.{lookup};
 ghost use Rattle.std.specs.Option.{option_copied};
 ghost use Rattle.lru.specs.LruCache.{lru_cache};
+ghost use Rattle.ar_disks.specs.Block.{part_at};
 ghost use Rattle.ar_cache.specs.Cache as spec;
 ghost use Rattle.ar_cache.specs.Cache.{same_key, without_key, CacheState};
 
-use ar_disks::{Block, Key};
+use ar_disks::{Block, Key, SECTOR_LEN};
 use lru::LruCache;
 
 // The block of a key. Where there is no entry, as in a cache of capacity 0, the key isn't hashed.
@@ -18,6 +19,18 @@ pub(crate) fn peek(entries: &LruCache<Key, Block>, key: Key) -> Option<&Block>
         return None;
     }
     entries.peek(&key)
+}
+
+#[tactic(auto, unfolding(ar_disks::specs::Block::part_at))]
+// Copies a part of a block, from sector `first` on.
+pub(crate) fn copy_part(block: &Block, first: usize, into: &mut [u8])
+    requires { 512 * first + length into.old ≤ length block.now }
+    ensures { into.new ≡ part_at block.now first (length into.old) }
+{
+    let bytes = block.bytes();
+    let from = first * SECTOR_LEN;
+    let len = into.len();
+    into.copy_from_slice(&bytes[from..from + len]);
 }
 
 // Copies a block into the entry of a key, which becomes the most recently used. Returns whether there is one.
