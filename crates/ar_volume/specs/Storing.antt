@@ -1,6 +1,6 @@
 -- Which blocks a READ reads, and which a WRITE puts into the cache and onto the disks.
-use Rattle.std.specs.Prelude.{◌≡◌, ◌⊎◌, ℕ, ◌+◌, ◌*◌, ◌/◌, ◌<◌, ◌≤◌, ◌∷◌, ◌++◌, ◌&&◌, nat_le, Bool, true, false, IsTrue}
-use Rattle.std.specs.Prelude.{List, [], length, take, drop, reverse, None, IsSome}
+use Rattle.std.specs.Prelude.{◌≡◌, ◌⊎◌, ℕ, ◌+◌, ◌*◌, ◌/◌, ◌<◌, ◌≤◌, ◌∷◌, ◌++◌, ◌==◌, ◌&&◌, ◌||◌, nat_le, Bool}
+use Rattle.std.specs.Prelude.{true, false, IsTrue, List, [], length, take, drop, reverse, None, IsSome}
 use Rattle.std.specs.List.{concat}
 use Rattle.std.specs.Map.{keys_of}
 use Rattle.ar_disks.specs.declared.address.Addr.{Addr}
@@ -9,6 +9,7 @@ use Rattle.ar_disks.specs.declared.geometry.Geometry.{Geometry}
 use Rattle.ar_disks.specs.Geometry.{sectors_of}
 use Rattle.ar_extents.specs.Changes.{is_broken_set}
 use Rattle.ar_store.specs.Store.{StoreState}
+use Rattle.ar_store.specs.Placing.{is_mirrored_home}
 use Rattle.ar_cache.specs.Backing.{InTurn, StopsInTurn}
 use Rattle.ar_cache.specs.Cache.{CacheState, TakesIn, cached, last_keys, pushed_out, put_through, with_entries}
 use Rattle.ar_cache.specs.Cache.{without_key}
@@ -90,13 +91,17 @@ pub record BreaksForced (old : ArrayState) (key : Key) (new : ArrayState) : Type
 abbrev pub is_whole : Geometry → ℕ → ℕ → Key → Bool
 is_whole g lba count key = nat_le lba (key.rb * sectors_of g) && nat_le ((key.rb + 1) * sectors_of g) (lba + count)
 
--- a block that is given whole was put, and nothing more; another was read, and then put
+-- whether sectors of a block are overwritten on the disks without the block being read: it is mirrored, and nothing is
+-- ever cached
+abbrev pub in_place_at : ArrayState → Key → Bool
+in_place_at s key = (s.cache.capacity == 0) && is_mirrored_home s.store.book key
+
+-- a block that is given whole or overwritten in place was put, and nothing more; another was read, and then put
 abbrev pub Replaces : {S : Type 0} → (S → Key → S → Type 0) → (S → Key → S → Type 0) → Bool → S → Key → S → Type 0
 Replaces gets puts true old key new = puts old key new
 Replaces {S} gets puts false old key new = (read : S) × gets old key read × puts read key new
 
--- the same, ending on a failed array: by the put of a block that is given whole; else by the read, or by the put after
--- it
+-- the same, ending on a failed array: by the put, where nothing is read; else by the read, or by the put after it
 abbrev pub StopsReplacing : {S : Type 0} → (gets breaks : S → Key → S → Type 0) → (is_broken : S → Bool) → Bool → S
     → Key → S → Type 0
 StopsReplacing gets breaks is_broken true old key new = breaks old key new
@@ -104,22 +109,23 @@ StopsReplacing {S} gets breaks is_broken false old key new =
     (gets old key new × IsTrue (is_broken new))
     ⊎ ((read : S) × gets old key read × (is_broken read ≡ false) × breaks read key new)
 
--- sectors of one block were overwritten
-abbrev pub Overwrites : {S : Type 0} → (S → Key → S → Type 0) → (S → Key → S → Type 0) → Geometry → ℕ → ℕ → S → Key → S
-    → Type 0
-Overwrites gets puts g lba count old key new = Replaces gets puts (is_whole g lba count key) old key new
+-- sectors of one block were overwritten: it was read first, unless they cover all of it or it is overwritten in place
+abbrev pub Overwrites : {S : Type 0} → (gets puts : S → Key → S → Type 0) → (in_place : S → Key → Bool) → Geometry → ℕ
+    → ℕ → S → Key → S → Type 0
+Overwrites gets puts in_place g lba count old key new =
+    Replaces gets puts (is_whole g lba count key || in_place old key) old key new
 
 -- the same, ending on a failed array
-abbrev pub StopsOver : {S : Type 0} → (gets breaks : S → Key → S → Type 0) → (is_broken : S → Bool) → Geometry → ℕ → ℕ
-    → S → Key → S → Type 0
-StopsOver gets breaks is_broken g lba count old key new =
-    StopsReplacing gets breaks is_broken (is_whole g lba count key) old key new
+abbrev pub StopsOver : {S : Type 0} → (gets breaks : S → Key → S → Type 0) → (in_place : S → Key → Bool)
+    → (is_broken : S → Bool) → Geometry → ℕ → ℕ → S → Key → S → Type 0
+StopsOver gets breaks in_place is_broken g lba count old key new =
+    StopsReplacing gets breaks is_broken (is_whole g lba count key || in_place old key) old key new
 
 -- Each block of these sectors was overwritten once, in ascending order.
 abbrev pub PutsBlocks : Addr → ℕ → ℕ → ArrayState → ArrayState → Type 0
 PutsBlocks addr lba count old new =
-    InTurn (Overwrites ReadsBlock PutsBlock (geometry_of old) lba count) (keys_in (geometry_of old) addr lba count) old
-    new
+    InTurn (Overwrites ReadsBlock PutsBlock in_place_at (geometry_of old) lba count)
+    (keys_in (geometry_of old) addr lba count) old new
 
 -- And then, with FORCE UNIT ACCESS, each was forced to the disks, in ascending order.
 abbrev pub StoresBlocks : Addr → ℕ → ℕ → Bool → ArrayState → ArrayState → Type 0
@@ -132,8 +138,8 @@ StoresBlocks addr lba count true old new =
 -- array.
 abbrev pub StopsPutting : Addr → ℕ → ℕ → ArrayState → ArrayState → Type 0
 StopsPutting addr lba count old new =
-    StopsInTurn (Overwrites ReadsBlock PutsBlock (geometry_of old) lba count)
-    (StopsOver ReadsBlock BreaksBlock is_broken (geometry_of old) lba count)
+    StopsInTurn (Overwrites ReadsBlock PutsBlock in_place_at (geometry_of old) lba count)
+    (StopsOver ReadsBlock BreaksBlock in_place_at is_broken (geometry_of old) lba count)
     (keys_in (geometry_of old) addr lba count) old new
 
 -- With FORCE UNIT ACCESS: the same, or each was overwritten, and then forced in ascending order, up to one whose put

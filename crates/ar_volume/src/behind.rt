@@ -1,6 +1,7 @@
 // The store as the backing of the cache.
 ghost use Rattle.std.specs.Prelude.{◌≡◌};
 ghost use Rattle.ar_extents.specs.Changes.{is_broken_set};
+ghost use Rattle.ar_store.specs.Placing.{is_mirrored_home};
 ghost use Rattle.ar_store.specs.Slots.{stands};
 ghost use Rattle.ar_volume.specs.Image.{knows_in};
 ghost use Rattle.ar_store.specs.Calls.{StoreFollows};
@@ -26,6 +27,8 @@ impl<D: Disk> Backing for Behind<D> {
 
     ghost geometry = { λ b. b.store.disks.geometry };
 
+    ghost in_place = { λ b. is_mirrored_home b.store.book };
+
     ghost is_broken = { λ b. is_broken_set b.store.disks.health };
 
     ghost follows = { λ old new. StoreFollows old.store new.store };
@@ -41,8 +44,23 @@ impl<D: Disk> Backing for Behind<D> {
         self.store.get(key, into)
     }
 
+    fn get_part(&mut self, key: Key, first: usize, into: &mut [u8]) -> Completion {
+        self.reads = self.reads.saturating_add(1);
+        self.store.get_part(key, first, into)
+    }
+
     fn put(&mut self, key: Key, from: &[u8]) -> Completion {
         self.store.put(key, from)
+    }
+
+    fn is_in_place(&self, key: Key) -> bool {
+        self.store.is_in_place(key)
+    }
+
+    fn put_part(&mut self, key: Key, first: usize, from: &[u8]) -> Completion {
+        // The health is called for the length of the block alone.
+        let _health = self.store.health();
+        self.store.put_part(key, first, from)
     }
 
     ghost follows_refl = { λ s. store_refl s.store };

@@ -12,7 +12,7 @@ ghost use Rattle.ar_cache.specs.Cache.{cached, cached_of};
 ghost use Rattle.ar_volume.specs.Image.{is_broken, geometry_of, seen_at, knows_in, attention_at};
 ghost use Rattle.ar_volume.specs.Following.{ArrayFollows};
 ghost use Rattle.ar_volume.specs.Laws.{follows_refl, follows_then};
-ghost use Rattle.ar_volume.specs.Storing.{BreaksBlock, PutsBlock, ReadsBlock};
+ghost use Rattle.ar_volume.specs.Storing.{BreaksBlock, PutsBlock, ReadsBlock, in_place_at};
 
 use crate::behind::Behind;
 use crate::{Flush, Refusal};
@@ -67,6 +67,8 @@ impl<D: Disk> Backing for Blocks<D> {
 
     ghost geometry = { geometry_of };
 
+    ghost in_place = { in_place_at };
+
     ghost is_broken = { is_broken };
 
     ghost follows = { ArrayFollows };
@@ -85,11 +87,30 @@ impl<D: Disk> Backing for Blocks<D> {
         self.cache.get(key, into, &mut self.behind)
     }
 
+    fn get_part(&mut self, key: Key, first: usize, into: &mut [u8]) -> Completion {
+        if self.is_broken() {
+            return Completion::Broken;
+        }
+        self.reads = self.reads.saturating_add(1);
+        self.cache.get_part(key, first, into, &mut self.behind)
+    }
+
     fn put(&mut self, key: Key, from: &[u8]) -> Completion {
         if self.is_broken() {
             return Completion::Broken;
         }
         self.cache.put(key, from, &mut self.behind)
+    }
+
+    fn is_in_place(&self, key: Key) -> bool {
+        self.cache.writes_through() && self.behind.is_in_place(key)
+    }
+
+    fn put_part(&mut self, key: Key, first: usize, from: &[u8]) -> Completion {
+        if self.is_broken() {
+            return Completion::Broken;
+        }
+        self.cache.put_part(key, first, from, &mut self.behind)
     }
 
     ghost follows_refl = { follows_refl };

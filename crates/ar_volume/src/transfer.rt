@@ -1,5 +1,6 @@
-// READ and WRITE, block by block in ascending order. A block that is overwritten as a whole is never read.
-ghost use Rattle.std.specs.Prelude.{◌≡◌, ◌≢◌, ◌⊎◌, ◌+◌, ◌*◌, ◌-◌, ◌/◌, ◌%◌, ◌<◌, ◌≤◌, ◌==◌, ℕ, false, IsTrue, length};
+// READ and WRITE, block by block in ascending order. A block that is overwritten whole or in place is never read.
+ghost use Rattle.std.specs.Prelude.{◌≡◌, ◌≢◌, ◌⊎◌, ◌+◌, ◌*◌, ◌-◌, ◌/◌, ◌%◌, ◌<◌, ◌≤◌, ◌==◌, ◌||◌, ℕ, false, IsTrue};
+ghost use Rattle.std.specs.Prelude.{length};
 ghost use Rattle.std.specs.List.{concat};
 ghost use Rattle.ar_disks.specs.declared.address.Key.{Key};
 ghost use Rattle.ar_disks.specs.Geometry.{sectors_of, block_len_of};
@@ -11,43 +12,6 @@ ghost use Rattle.ar_volume.specs.Storing.{Overwrites, ReadsFirst, Replaces, Stop
 use ar_cache::Backing;
 use ar_disks::{Addr, Block, Completion, Geometry, Key, SECTOR_LEN, zero};
 
-#[tactic(auto, unfolding(ar_disks::specs::Block::sectors_at))]
-// Reads sectors of one block into `out`: a whole block without a copy on the way, part of one by way of `block`.
-fn read_part<B: Backing>(
-    blocks: &mut B,
-    key: Key,
-    first: usize,
-    count: usize,
-    block: &mut Block,
-    out: &mut [u8],
-) -> Completion
-    requires known { IsTrue (B.knows blocks.old key) }
-    requires whole { length block.old ≡ block_len_of (B.geometry blocks.old) }
-    requires sectors { length out.old ≡ 512 * count }
-    requires within { first + count ≤ sectors_of (B.geometry blocks.old) }
-
-    ensures done { result ≡ Completion.Done → out.new ≡ sectors_at (B.block_at blocks.old key) first count }
-    ensures many { length out.new ≡ 512 * count }
-    ensures blocks { result ≡ Completion.Done → SameBlocks (B.block_at blocks.old) (B.block_at blocks.new) }
-    ensures gets { B.gets blocks.old key blocks.new }
-
-    ensures answer { result ≡ stored (B.is_broken blocks.new) }
-    ensures keeps { KeepsBacking B.geometry B.knows B.is_broken B.follows blocks.old blocks.new }
-    ensures len { length block.new ≡ length block.old }
-{
-    let scratch = block.bytes_mut();
-    if out.len() == scratch.len() {
-        return blocks.get(key, out);
-    }
-    match blocks.get(key, scratch) {
-        Completion::Done => {
-            out.copy_from_slice(&scratch[first * SECTOR_LEN..(first + count) * SECTOR_LEN]);
-            Completion::Done
-        }
-        broken => broken,
-    }
-}
-
 /// Reads sectors `lba` to `lba + count - 1` of a unit, all below 1,048,576, into `out`, which has as many bytes. Reads
 /// each of their blocks once, in ascending order, until one fails. After `Broken`, `out` begins with the sectors of the
 /// blocks that were read; the bytes after them are unspecified.
@@ -57,12 +21,10 @@ pub fn read_sectors<B: Backing>(
     addr: Addr,
     lba: u32,
     count: u32,
-    block: &mut Block,
     out: &mut [u8],
 ) -> Completion
     requires sound { B.is_broken blocks.old ≡ false }
     requires shape { geometry ≡ B.geometry blocks.old }
-    requires whole { length block.old ≡ block_len_of geometry }
     requires known { (rb : ℕ) → rb * sectors_of geometry < lba + count → IsTrue (B.knows blocks.old (key_of addr rb)) }
     requires small { lba + count ≤ 1048576 }
     requires sectors { length out.old ≡ 512 * count }
@@ -78,7 +40,6 @@ pub fn read_sectors<B: Backing>(
 
     ensures answer { result ≡ stored (B.is_broken blocks.new) }
     ensures keeps { KeepsBacking B.geometry B.knows B.is_broken B.follows blocks.old blocks.new }
-    ensures len { length block.new ≡ length block.old }
 {
     let sectors = geometry.sectors();
     let end = lba + count;
@@ -92,7 +53,7 @@ pub fn read_sectors<B: Backing>(
         };
         let begin = (at - lba) as usize * SECTOR_LEN;
         let piece = &mut out[begin..begin + part as usize * SECTOR_LEN];
-        match read_part(blocks, key, first as usize, part as usize, block, piece) {
+        match blocks.get_part(key, first as usize, piece) {
             Completion::Done => at += part,
             broken => return broken,
         }
@@ -100,7 +61,7 @@ pub fn read_sectors<B: Backing>(
     Completion::Done
 }
 
-// Overwrites sectors of one block; a block that they cover in part is read first.
+// Overwrites sectors of one block. It is read first, unless they cover all of it or it is overwritten in place.
 fn write_part<B: Backing>(
     blocks: &mut B,
     geometry: Geometry,
@@ -123,9 +84,10 @@ fn write_part<B: Backing>(
     ensures others { result ≡ Completion.Done → (k : Key) → k ≢ key
         → B.block_at blocks.new k ≡ B.block_at blocks.old k }
     ensures puts { result ≡ Completion.Done
-        → Replaces B.gets B.puts (length bytes.now == block_len_of geometry) blocks.old key blocks.new }
+        → Replaces B.gets B.puts ((length bytes.now == block_len_of geometry) || B.in_place blocks.old key)
+        blocks.old key blocks.new }
     ensures stopped { result ≡ Completion.Broken → StopsReplacing B.gets B.breaks B.is_broken
-        (length bytes.now == block_len_of geometry) blocks.old key blocks.new }
+        ((length bytes.now == block_len_of geometry) || B.in_place blocks.old key) blocks.old key blocks.new }
 
     ensures answer { result ≡ stored (B.is_broken blocks.new) }
     ensures keeps { KeepsBacking B.geometry B.knows B.is_broken B.follows blocks.old blocks.new }
@@ -133,6 +95,9 @@ fn write_part<B: Backing>(
 {
     if bytes.len() == geometry.block_len() {
         return blocks.put(key, bytes);
+    }
+    if blocks.is_in_place(key) {
+        return blocks.put_part(key, first, bytes);
     }
     match blocks.get(key, block.bytes_mut()) {
         Completion::Broken => Completion::Broken,
@@ -191,7 +156,7 @@ fn zero_sectors(block: &mut Block, first: usize, count: usize)
 }
 
 /// Overwrites sectors `lba` to `lba + count - 1` of a unit, all below 1,048,576, with `bytes`, block by block in
-/// ascending order, until one fails. Only blocks that they cover in part are read first.
+/// ascending order, until one fails. A block is read first if they cover it in part and it isn't overwritten in place.
 pub fn write_sectors<B: Backing>(
     blocks: &mut B,
     geometry: Geometry,
@@ -216,10 +181,11 @@ pub fn write_sectors<B: Backing>(
     ensures others { result ≡ Completion.Done → (k : Key) → k.addr ≢ addr
         → B.block_at blocks.new k ≡ B.block_at blocks.old k }
     ensures puts { result ≡ Completion.Done
-        → InTurn (Overwrites B.gets B.puts geometry lba count) (keys_in geometry addr lba count) blocks.old blocks.new }
-    ensures stopped { result ≡ Completion.Broken → StopsInTurn (Overwrites B.gets B.puts geometry lba count)
-        (StopsOver B.gets B.breaks B.is_broken geometry lba count) (keys_in geometry addr lba count) blocks.old
-        blocks.new }
+        → InTurn (Overwrites B.gets B.puts B.in_place geometry lba count) (keys_in geometry addr lba count)
+        blocks.old blocks.new }
+    ensures stopped { result ≡ Completion.Broken → StopsInTurn (Overwrites B.gets B.puts B.in_place geometry lba count)
+        (StopsOver B.gets B.breaks B.in_place B.is_broken geometry lba count) (keys_in geometry addr lba count)
+        blocks.old blocks.new }
 
     ensures answer { result ≡ stored (B.is_broken blocks.new) }
     ensures keeps { KeepsBacking B.geometry B.knows B.is_broken B.follows blocks.old blocks.new }

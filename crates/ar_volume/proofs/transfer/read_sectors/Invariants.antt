@@ -1,4 +1,4 @@
-use Rattle.std.proofs.Common.{◌≡◌, ◌⊎◌, ◌*◌, ◌-◌, ◌%◌, ◌≤◌, false, length, take}
+use Rattle.std.proofs.Common.{◌≡◌, ◌⊎◌, ◌*◌, ◌-◌, ◌%◌, ◌≤◌, false, take}
 use Rattle.std.specs.List.{concat}
 use Rattle.ar_disks.specs.Geometry.{sectors_of}
 use Rattle.ar_cache.specs.Backing.{InTurn, KeepsBacking, SameBlocks}
@@ -17,7 +17,6 @@ invariant-loop-at g l = record {
       l.blocks;
   gets : InTurn g.B.Backing.gets (keys_in l.fn.geometry l.addr l.lba (l.at - l.lba)) l.fn.blocks l.blocks;
   edge : ((l.at ≡ l.lba) ⊎ (l.at % sectors_of l.fn.geometry ≡ 0)) ⊎ (l.at ≡ l.end);
-  len : length l.block ≡ length l.fn.block;
 }
 
 abbrev pub decreases-loop-at : goal.decreases-loop-at

@@ -1,5 +1,5 @@
-use Rattle.std.proofs.Common.{◌≡◌, ◌⊎◌, Bool, ℕ, ◌==◌, ◌%◌, ◌/◌, ◌+◌, ◌-◌, ◌*◌, ◌<◌, ◌≤◌, List, inl, inr, min, take}
-use Rattle.std.proofs.Common.{drop, length, sym, ap, subst, ◌∙◌, arith}
+use Rattle.std.proofs.Common.{◌≡◌, ◌⊎◌, Bool, ◌||◌, ℕ, ◌==◌, ◌%◌, ◌/◌, ◌+◌, ◌-◌, ◌*◌, ◌<◌, ◌≤◌, List, inl, inr, min}
+use Rattle.std.proofs.Common.{take, drop, length, sym, ap, subst, ◌∙◌, arith}
 use Rattle.ar_disks.specs.Geometry.{block_len_of, sectors_of}
 use Rattle.ar_volume.specs.Sectors.{unit_block, key_of}
 use Rattle.ar_volume.specs.Storing.{Overwrites, Replaces, StopsOver, StopsReplacing, is_whole}
@@ -49,13 +49,14 @@ loop-at-preserved g c =
     bytes-whole c.args.geometry (length piece) part long
     ∙ part-whole c.args.geometry c.args.addr c.args.lba c.args.count at part part_is c.loop-at.invariant.from
     (omega arith) edge in
-    let put : Overwrites g.B.Backing.gets g.B.Backing.puts c.args.geometry c.args.lba c.args.count c.loop-at.blocks key
+    let b = g.B.Backing in
+    let put : Overwrites b.gets b.puts b.in_place c.args.geometry c.args.lba c.args.count c.loop-at.blocks key
     c.write_part.new.blocks =
-    subst (λ (b : Bool). Replaces g.B.Backing.gets g.B.Backing.puts b c.loop-at.blocks key c.write_part.new.blocks)
-    part_whole
-    (subst (λ (s : ℕ). Replaces g.B.Backing.gets g.B.Backing.puts
-    (length piece == block_len_of c.args.geometry) c.loop-at.blocks
-    (key_of c.args.addr (at / s)) c.write_part.new.blocks) sectors
+    subst (λ (w : Bool). Replaces b.gets b.puts (w || b.in_place c.loop-at.blocks key) c.loop-at.blocks key
+    c.write_part.new.blocks) part_whole
+    (subst (λ (s : ℕ). Replaces b.gets b.puts
+    ((length piece == block_len_of c.args.geometry) || b.in_place c.loop-at.blocks (key_of c.args.addr (at / s)))
+    c.loop-at.blocks (key_of c.args.addr (at / s)) c.write_part.new.blocks) sectors
     (c.write_part.ensures.puts c.in-Done.is)) in
     let ended : ((at + part ≡ c.args.lba) ⊎ ((at + part) % sectors_of c.args.geometry ≡ 0))
     ⊎ (at + part ≡ c.args.lba + c.args.count) =
@@ -76,7 +77,7 @@ loop-at-preserved g c =
           (other_unit k (key_of c.args.addr (at / c.sectors-sectors.result)) other)
           ∙ c.loop-at.invariant.others k other;
       put =
-          turn-more (Overwrites g.B.Backing.gets g.B.Backing.puts c.args.geometry c.args.lba c.args.count)
+          turn-more (Overwrites b.gets b.puts b.in_place c.args.geometry c.args.lba c.args.count)
           c.args.geometry c.args.addr c.args.lba at part c.args.blocks.now c.loop-at.blocks c.write_part.new.blocks
           c.loop-at.invariant.from some within edge c.loop-at.invariant.put put;
       edge = ended;
@@ -110,16 +111,16 @@ returns-in-Broken-clause-stopped g c = λ lost.
     ∙ part-whole c.args.geometry c.args.addr c.args.lba c.args.count at part part_is c.loop-at.invariant.from
     (omega arith) edge in
     let b = g.B.Backing in
-    let stop : StopsOver b.gets b.breaks b.is_broken c.args.geometry c.args.lba c.args.count c.loop-at.blocks key
-    c.write_part.new.blocks =
-    subst (λ (w : Bool). StopsReplacing b.gets b.breaks b.is_broken w c.loop-at.blocks key c.write_part.new.blocks)
-    part_whole
+    let stop : StopsOver b.gets b.breaks b.in_place b.is_broken c.args.geometry c.args.lba c.args.count c.loop-at.blocks
+    key c.write_part.new.blocks =
+    subst (λ (w : Bool). StopsReplacing b.gets b.breaks b.is_broken (w || b.in_place c.loop-at.blocks key)
+    c.loop-at.blocks key c.write_part.new.blocks) part_whole
     (subst (λ (s : ℕ). StopsReplacing b.gets b.breaks b.is_broken
-    (length piece == block_len_of c.args.geometry) c.loop-at.blocks
-    (key_of c.args.addr (at / s)) c.write_part.new.blocks) sectors
+    ((length piece == block_len_of c.args.geometry) || b.in_place c.loop-at.blocks (key_of c.args.addr (at / s)))
+    c.loop-at.blocks (key_of c.args.addr (at / s)) c.write_part.new.blocks) sectors
     (c.write_part.ensures.stopped c.in-Broken.is)) in
-    turn-stops (Overwrites b.gets b.puts c.args.geometry c.args.lba c.args.count)
-    (StopsOver b.gets b.breaks b.is_broken c.args.geometry c.args.lba c.args.count)
+    turn-stops (Overwrites b.gets b.puts b.in_place c.args.geometry c.args.lba c.args.count)
+    (StopsOver b.gets b.breaks b.in_place b.is_broken c.args.geometry c.args.lba c.args.count)
     c.args.geometry c.args.addr c.args.lba c.args.count at part c.args.blocks.now c.loop-at.blocks
     c.write_part.new.blocks
     c.loop-at.invariant.from some (omega arith) within edge c.loop-at.invariant.put stop

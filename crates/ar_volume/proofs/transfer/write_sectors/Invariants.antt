@@ -17,7 +17,7 @@ invariant-loop-at g l = record {
       → sector_in l.geometry (unit_block (g.B.Backing.block_at l.blocks) l.addr) i
       ≡ sector_in l.geometry (unit_block (g.B.Backing.block_at l.fn.blocks) l.addr) i;
   others : (k : Key) → k.addr ≢ l.addr → g.B.Backing.block_at l.blocks k ≡ g.B.Backing.block_at l.fn.blocks k;
-  put : InTurn (Overwrites g.B.Backing.gets g.B.Backing.puts l.geometry l.lba l.count)
+  put : InTurn (Overwrites g.B.Backing.gets g.B.Backing.puts g.B.Backing.in_place l.geometry l.lba l.count)
       (keys_in l.geometry l.addr l.lba (l.at - l.lba)) l.fn.blocks l.blocks;
   edge : ((l.at ≡ l.lba) ⊎ (l.at % sectors_of l.geometry ≡ 0)) ⊎ (l.at ≡ l.end);
   sound : g.B.Backing.is_broken l.blocks ≡ false;
