@@ -1,7 +1,7 @@
 -- What a WRITE costs in numbers, while all disks are present and nothing is cached: each of its blocks is one put.
-use Rattle.std.proofs.Common.{◌≡◌, inl, inr, ℕ, zero, suc, ◌-◌, ◌<◌, ◌≤◌, Bool, true, false, if◌then◌else◌, Option}
-use Rattle.std.proofs.Common.{None, is_some, List, [], ◌∷◌, ◌++◌, length, take, refl, sym, ap, subst, ◌∙◌}
-use Rattle.std.proofs.Common.{arith}
+use Rattle.std.proofs.Common.{◌≡◌, inl, inr, ℕ, zero, suc, ◌-◌, ◌<◌, ◌≤◌, ◌==◌, ◌&&◌, ◌||◌, Bool}
+use Rattle.std.proofs.Common.{true, false, if◌then◌else◌, Option, None, is_some, List, [], ◌∷◌, ◌++◌, length, take}
+use Rattle.std.proofs.Common.{refl, sym, ap, subst, ◌∙◌, arith}
 use Rattle.std.specs.Prelude.{All, nat_lt, slice_index_or}
 use Rattle.std.specs.Map.{lookup}
 use Rattle.ar_disks.specs.declared.address.Addr.{Addr}
@@ -17,7 +17,7 @@ use Rattle.ar_book.specs.Tables.{Tables, level, free_groups}
 use Rattle.ar_book.specs.Changes.{stamped}
 use Rattle.ar_book.proofs.AfterStamp.{stamped_level}
 use Rattle.ar_store.specs.Store.{StoreState}
-use Rattle.ar_store.specs.Placing.{HasNoHole, Puts}
+use Rattle.ar_store.specs.Placing.{HasNoHole, Puts, is_mirrored_home, is_mirrored_level}
 use Rattle.ar_store.specs.Plans.{MakesAccesses}
 use Rattle.ar_store.proofs.PutCosts.{put_to_mirrored, put_to_parity}
 use Rattle.ar_store.proofs.SqueezeCosts.{made_none, made_then}
@@ -29,15 +29,9 @@ use Rattle.ar_volume.specs.Following.{PutsStored}
 use Rattle.ar_volume.specs.Image.{ArrayState, geometry_of, seen_at}
 use Rattle.ar_volume.specs.Sectors.{keys_in}
 use Rattle.ar_volume.specs.Storing.{ReadsBlock, PutsBlock, ForcesBlock, Overwrites, Replaces, StoresBlocks, destaged}
-use Rattle.ar_volume.specs.Storing.{is_whole}
+use Rattle.ar_volume.specs.Storing.{in_place_at, is_whole}
 use Rattle.ar_core.specs.WriteCosts.{for_each, WritesThrough, AreMirrored, StayAtParity}
 use Rattle.ar_core.proofs.WriteCosts.{calm_first, calm_last, block_grows, block_costs, blocks_grow, forced_grow}
-
--- all disks are present, nothing is cached, and no block can be
-record IsThrough (a : ArrayState) : Type 0 where
-  healthy : a.store.disks.health ≡ Whole
-  capacity : a.cache.capacity ≡ 0
-  empty : a.cache.entries ≡ []
 
 none_cached : (c : CacheState) (k : Key) → c.entries ≡ [] → cached c k ≡ None
 none_cached c k empty = ap (λ (es : List (Key × List ℕ)). lookup (same_key k) es) empty
@@ -70,7 +64,7 @@ one_destaged old new k before after =
     (none_cached new k after)
 
 -- nothing is cached by a put
-stays_empty : (a : ArrayState) (k : Key) (b : ArrayState) → IsThrough a → PutsBlock a k b
+stays_empty : (a : ArrayState) (k : Key) (b : ArrayState) → WritesThrough a → PutsBlock a k b
     → (b.cache.entries ≡ []) × (b.cache.capacity ≡ 0)
 stays_empty a k b through put = elim (put.absent (none_cached a.cache k through.empty)) [
   | inl taken ↦ absurd (
@@ -84,20 +78,20 @@ stays_empty a k b through put = elim (put.absent (none_cached a.cache k through.
   )
 ]
 
-one_put : (a : ArrayState) (k : Key) (b : ArrayState) → IsThrough a → PutsBlock a k b → PutsStored a.store k b.store
+one_put : (a : ArrayState) (k : Key) (b : ArrayState) → WritesThrough a → PutsBlock a k b → PutsStored a.store k b.store
 one_put a k b through put =
     let empty = (stays_empty a k b through put).0 in
     let puts = subst (λ ks. InTurn PutsStored ks a.store b.store) (one_destaged a.cache b.cache k through.empty empty)
     put.stored in
     subst (λ (s : StoreState). PutsStored a.store k s) (sym puts.2) puts.1
 
-still_through : (a : ArrayState) (k : Key) (b : ArrayState) → IsThrough a → PutsBlock a k b
-    → NoneFaults a.store.disks b.store.disks → IsThrough b
+still_through : (a : ArrayState) (k : Key) (b : ArrayState) → WritesThrough a → PutsBlock a k b
+    → NoneFaults a.store.disks b.store.disks → WritesThrough b
 still_through a k b through put none =
     let empty = stays_empty a k b through put in
     record { healthy = (block_costs a k b put none).health ∙ through.healthy; capacity = empty.1; empty = empty.0 }
 
--- Puts that leave the tables but for the block's stamp, and cost the same each.
+-- Puts without a read before them that leave the tables but for the block's stamp, and cost the same each.
 module _ (P : Tables → Key → Type 0) (kinds : List AccessKind)
     (stamps : (t : Tables) (k : Key) (new : Tables) → P t k → Puts t k new → new ≡ stamped t k)
     (stays : (t : Tables) (k j : Key) → P t j → P (stamped t k) j)
@@ -110,26 +104,31 @@ module _ (P : Tables → Key → Type 0) (kinds : List AccessKind)
       subst (λ (t : Tables). P t (slice_index_or keys i d)) (sym (stamps a.book k b.book this put.tables))
       (stays a.book k (slice_index_or keys i d) (all i d lt))
 
-  through_turns : (g : Geometry) (lba count : ℕ) (keys : List Key) (a b : ArrayState) → IsThrough a
-      → All (λ key. is_whole g lba count key ≡ true) keys → All (P a.store.book) keys
-      → InTurn (Overwrites ReadsBlock PutsBlock g lba count) keys a b → NoneFaults a.store.disks b.store.disks
-      → MakesAccesses (for_each keys kinds) a.store.disks b.store.disks × IsThrough b
-  through_turns g lba count [] a b through whole all same none =
-      let P_same : ArrayState → Type 0 = λ s. MakesAccesses [] a.store.disks s.store.disks × IsThrough s in
+  -- no block with P is read before it is put
+  abbrev AreDirect : Geometry → ℕ → ℕ → Type 0
+  AreDirect g lba count =
+      (a : ArrayState) (k : Key) → WritesThrough a → P a.store.book k → is_whole g lba count k || in_place_at a k ≡ true
+
+  through_turns : (g : Geometry) (lba count : ℕ) → AreDirect g lba count → (keys : List Key) (a b : ArrayState)
+      → WritesThrough a → All (P a.store.book) keys
+      → InTurn (Overwrites ReadsBlock PutsBlock in_place_at g lba count) keys a b
+      → NoneFaults a.store.disks b.store.disks
+      → MakesAccesses (for_each keys kinds) a.store.disks b.store.disks × WritesThrough b
+  through_turns g lba count direct [] a b through all same none =
+      let P_same : ArrayState → Type 0 = λ s. MakesAccesses [] a.store.disks s.store.disks × WritesThrough s in
       subst P_same (sym same) (made_none a.store.disks, through)
-  through_turns g lba count (k ∷ rest) a b through whole all turns none =
+  through_turns g lba count direct (k ∷ rest) a b through all turns none =
       let mid = turns.0 in
-      let is : is_whole g lba count k ≡ true = whole 0 k (omega arith) in
       let this : P a.store.book k = all 0 k (omega arith) in
+      let is = direct a k through this in
       let put : PutsBlock a k mid = subst (λ (w : Bool). Replaces ReadsBlock PutsBlock w a k mid) is turns.1 in
       let here = block_grows a k mid put in
       let later = blocks_grow g lba count rest mid b turns.2 in
       let calm = calm_first a.store.disks mid.store.disks b.store.disks here later none in
       let stored = one_put a k mid through put in
       let next = still_through a k mid through put calm in
-      let rest_whole : All (λ key. is_whole g lba count key ≡ true) rest = λ i d lt. whole (suc i) d (omega arith) in
       let rest_all : All (P a.store.book) rest = λ i d lt. all (suc i) d (omega arith) in
-      let last = through_turns g lba count rest mid b next rest_whole
+      let last = through_turns g lba count direct rest mid b next
       (all_stay rest a.store mid.store k this stored rest_all) turns.2
       (calm_last a.store.disks mid.store.disks b.store.disks here later none) in (
         made_then kinds (for_each rest kinds) a.store.disks mid.store.disks b.store.disks
@@ -138,13 +137,13 @@ module _ (P : Tables → Key → Type 0) (kinds : List AccessKind)
       )
 
   -- nothing is cached, so nothing is forced
-  none_forced : (keys : List Key) (a b : ArrayState) → IsThrough a → InTurn ForcesBlock keys a b → b.store ≡ a.store
+  none_forced : (keys : List Key) (a b : ArrayState) → WritesThrough a → InTurn ForcesBlock keys a b → b.store ≡ a.store
   none_forced [] a b through same = ap (λ (s : ArrayState). s.store) same
   none_forced (k ∷ rest) a b through turns =
       let mid = turns.0 in
       let force = turns.1 in
       let same = force.absent (none_cached a.cache k through.empty) in
-      let next : IsThrough mid = record {
+      let next : WritesThrough mid = record {
         healthy = ap (λ (s : StoreState). s.disks.health) same ∙ through.healthy;
         capacity = ap (λ (c : CacheState). c.capacity) force.entries ∙ through.capacity;
         empty = ap (λ (c : CacheState). c.entries) force.entries
@@ -153,42 +152,52 @@ module _ (P : Tables → Key → Type 0) (kinds : List AccessKind)
       none_forced rest mid b next turns.2 ∙ same
 
   through_write : (addr : Addr) (lba count : ℕ) (fua : Bool) (old new : ArrayState)
-      → StoresBlocks addr lba count fua old new
-      → NoneFaults old.store.disks new.store.disks → WritesThrough addr lba count old
+      → AreDirect (geometry_of old) lba count → StoresBlocks addr lba count fua old new
+      → NoneFaults old.store.disks new.store.disks → WritesThrough old
       → All (P old.store.book) (keys_in (geometry_of old) addr lba count)
       → MakesAccesses (for_each (keys_in (geometry_of old) addr lba count) kinds) old.store.disks new.store.disks
-  through_write addr lba count false old new stores none through all =
-      let is : IsThrough old =
-      record { healthy = through.healthy; capacity = through.capacity; empty = through.empty } in
-      (through_turns (geometry_of old) lba count (keys_in (geometry_of old) addr lba count) old new is through.whole all
+  through_write addr lba count false old new direct stores none through all =
+      (through_turns (geometry_of old) lba count direct (keys_in (geometry_of old) addr lba count) old new through all
       stores none).0
-  through_write addr lba count true old new stores none through all =
-      let is : IsThrough old =
-      record { healthy = through.healthy; capacity = through.capacity; empty = through.empty } in
+  through_write addr lba count true old new direct stores none through all =
       let keys = keys_in (geometry_of old) addr lba count in
       let put = stores.0 in
       let here = blocks_grow (geometry_of old) lba count keys old put stores.1 in
       let later = forced_grow keys put new stores.2 in
-      let first = through_turns (geometry_of old) lba count keys old put is through.whole all stores.1
+      let first = through_turns (geometry_of old) lba count direct keys old put through all stores.1
       (calm_first old.store.disks put.store.disks new.store.disks here later none) in
       subst (λ (s : StoreState). MakesAccesses (for_each keys kinds) old.store.disks s.disks)
       (sym (none_forced keys put new first.1 stores.2)) first.0
 
--- mirrored blocks stay mirrored, and each costs two writes
+either_true : (b : Bool) → b || true ≡ true
+either_true true = refl
+either_true false = refl
+
+-- a mirrored block is overwritten in place where nothing can be cached
+mirrored_in_place : (a : ArrayState) (k : Key) → WritesThrough a → level a.store.book k ≡ MirroredLevel
+    → in_place_at a k ≡ true
+mirrored_in_place a k through at =
+    ap (λ n. (n == 0) && is_mirrored_home a.store.book k) through.capacity ∙ ap is_mirrored_level at
+
+-- mirrored blocks stay mirrored, and each costs two writes, whether it is given whole or in part
 pub mirrored_write : (addr : Addr) (lba count : ℕ) (fua : Bool) (old new : ArrayState)
     → StoresBlocks addr lba count fua old new
-    → NoneFaults old.store.disks new.store.disks → WritesThrough addr lba count old
+    → NoneFaults old.store.disks new.store.disks → WritesThrough old
     → AreMirrored old.store.book (keys_in (geometry_of old) addr lba count)
     → MakesAccesses (for_each (keys_in (geometry_of old) addr lba count) (Write ∷ Write ∷ [])) old.store.disks
     new.store.disks
-mirrored_write =
+mirrored_write addr lba count fua old new =
     through_write (λ t k. level t k ≡ MirroredLevel) (Write ∷ Write ∷ [])
     (λ t k new at puts. puts.mirrored at)
     (λ t k j at. stamped_level t k j ∙ at)
     (λ a b k whole none at put. put_to_mirrored a b k whole none put.plan (record { way = λ low full few. low at }))
+    addr lba count fua old new
+    (λ a k through at. ap (λ b. is_whole (geometry_of old) lba count k || b) (mirrored_in_place a k through at)
+    ∙ either_true (is_whole (geometry_of old) lba count k))
 
--- the block is at the parity level, and there is no mirrored slot for it
-record StaysLow (t : Tables) (k : Key) : Type 0 where
+-- the block is given whole and at the parity level, and there is no mirrored slot for it
+record StaysLow (g : Geometry) (lba count : ℕ) (t : Tables) (k : Key) : Type 0 where
+  whole : is_whole g lba count k ≡ true
   at_level : level t k ≡ ParityLevel
   none : HasNoHole t Mirrored
   few : free_groups t < 2
@@ -201,21 +210,29 @@ stamped_none t k none = record {
 
 pub parity_write : (addr : Addr) (lba count : ℕ) (fua : Bool) (old new : ArrayState)
     → StoresBlocks addr lba count fua old new
-    → NoneFaults old.store.disks new.store.disks → WritesThrough addr lba count old
+    → NoneFaults old.store.disks new.store.disks → WritesThrough old
+    → All (λ key. is_whole (geometry_of old) lba count key ≡ true) (keys_in (geometry_of old) addr lba count)
     → StayAtParity old.store.book (keys_in (geometry_of old) addr lba count)
     → MakesAccesses (for_each (keys_in (geometry_of old) addr lba count) (Read ∷ Read ∷ Write ∷ Write ∷ []))
     old.store.disks new.store.disks
-parity_write addr lba count fua old new stores calm through stay =
-    through_write StaysLow (Read ∷ Read ∷ Write ∷ Write ∷ [])
+parity_write addr lba count fua old new stores calm through whole stay =
+    through_write (StaysLow (geometry_of old) lba count) (Read ∷ Read ∷ Write ∷ Write ∷ [])
     (λ t k new low puts. puts.parity low.at_level low.none low.few)
     (λ t k j low. record {
+      whole = low.whole;
       at_level = stamped_level t k j
           ∙ low.at_level;
       none = stamped_none t k low.none;
       few = low.few;
     })
-    (λ a b k whole none low put. put_to_parity a b k whole none put.plan
+    (λ a b k healthy none low put. put_to_parity a b k healthy none put.plan
     (record { low = λ high. parity_not_mirrored (sym low.at_level ∙ high); none = low.none; few = low.few })
     (record { way = λ unplaced n full few. unplaced_not_parity (sym unplaced ∙ low.at_level) }))
-    addr lba count fua old new stores calm through
-    (λ i d lt. record { at_level = stay.at_level i d lt; none = stay.none; few = stay.few })
+    addr lba count fua old new
+    (λ a k through low. ap (λ b. b || in_place_at a k) low.whole) stores calm through
+    (λ i d lt. record {
+      whole = whole i d lt;
+      at_level = stay.at_level i d lt;
+      none = stay.none;
+      few = stay.few;
+    })

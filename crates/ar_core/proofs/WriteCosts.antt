@@ -1,6 +1,6 @@
--- What a WRITE costs where no disk faults: the reads of the blocks that it covers in part, and the puts of those that
--- are destaged.
-use Rattle.std.proofs.Common.{◌≡◌, inl, inr, ℕ, ◌≤◌, Bool, true, false, Option, Some, None, is_some}
+-- What a WRITE costs where no disk faults: the reads of the blocks that it covers in part and doesn't overwrite in
+-- place, and the puts of those that are destaged.
+use Rattle.std.proofs.Common.{◌≡◌, inl, inr, ℕ, ◌≤◌, ◌||◌, Bool, true, false, Option, Some, None, is_some}
 use Rattle.std.proofs.Common.{List, [], ◌∷◌, ◌++◌, refl, sym, ap, ◌∙◌, arith}
 use Rattle.std.proofs.lemmas.List.{append-nil, append_assoc}
 use Rattle.std.proofs.lemmas.Option.{none-some}
@@ -21,7 +21,7 @@ use Rattle.ar_volume.specs.Following.{PutsStored}
 use Rattle.ar_volume.specs.Image.{ArrayState, geometry_of}
 use Rattle.ar_volume.specs.Sectors.{keys_in}
 use Rattle.ar_volume.specs.Storing.{ReadsBlock, PutsBlock, ForcesBlock, Overwrites, Replaces, StoresBlocks, destaged}
-use Rattle.ar_volume.specs.Storing.{is_whole}
+use Rattle.ar_volume.specs.Storing.{in_place_at, is_whole}
 use Rattle.ar_core.specs.Costs.{block_reads}
 use Rattle.ar_core.specs.WriteCosts.{MakesInTurn, PutMakes, BlockReadMakes, BlockPutMakes, OverwriteMakes, ForceMakes}
 use Rattle.ar_core.specs.WriteCosts.{WriteMakes, CostsExactly}
@@ -146,16 +146,16 @@ read_costs a k b read none =
     }
 
 -- one block that is overwritten
-replace_grows : (whole : Bool) (a : ArrayState) (k : Key) (b : ArrayState) → Replaces ReadsBlock PutsBlock whole a k b
+replace_grows : (direct : Bool) (a : ArrayState) (k : Key) (b : ArrayState) → Replaces ReadsBlock PutsBlock direct a k b
     → Grow a.store.disks b.store.disks
 replace_grows true a k b put = block_grows a k b put
 replace_grows false a k b both =
     grow_then a.store.disks both.0.store.disks b.store.disks (leaves a both.0 k both.1).faults
     (block_grows both.0 k b both.2)
 
-replace_costs : (whole : Bool) (a : ArrayState) (k : Key) (b : ArrayState) → Replaces ReadsBlock PutsBlock whole a k b
+replace_costs : (direct : Bool) (a : ArrayState) (k : Key) (b : ArrayState) → Replaces ReadsBlock PutsBlock direct a k b
     → NoneFaults a.store.disks b.store.disks
-    → CostsExactly (OverwriteMakes whole a k b) a.store.disks b.store.disks
+    → CostsExactly (OverwriteMakes direct a k b) a.store.disks b.store.disks
 replace_costs true a k b put none = block_costs a k b put none
 replace_costs false a k b both none =
     let mid = both.0 in
@@ -218,18 +218,18 @@ array_disks s = s.store.disks
 
 module _ (g : Geometry) (lba count : ℕ) where
   abbrev Overwrites_here : ArrayState → Key → ArrayState → Type 0
-  Overwrites_here a k b = Overwrites ReadsBlock PutsBlock g lba count a k b
+  Overwrites_here a k b = Overwrites ReadsBlock PutsBlock in_place_at g lba count a k b
 
   abbrev Makes_here : ArrayState → Key → ArrayState → List RowAccess → Type 0
-  Makes_here a k b made = OverwriteMakes (is_whole g lba count k) a k b made
+  Makes_here a k b made = OverwriteMakes (is_whole g lba count k || in_place_at a k) a k b made
 
   over_grows : (a : ArrayState) (k : Key) (b : ArrayState) → Overwrites_here a k b → Grow a.store.disks b.store.disks
-  over_grows a k b over = replace_grows (is_whole g lba count k) a k b over
+  over_grows a k b over = replace_grows (is_whole g lba count k || in_place_at a k) a k b over
 
   over_costs : (a : ArrayState) (k : Key) (b : ArrayState) → Overwrites_here a k b
       → NoneFaults a.store.disks b.store.disks
       → CostsExactly (Makes_here a k b) a.store.disks b.store.disks
-  over_costs a k b over none = replace_costs (is_whole g lba count k) a k b over none
+  over_costs a k b over none = replace_costs (is_whole g lba count k || in_place_at a k) a k b over none
 
   -- the blocks that are overwritten, in order
   pub blocks_grow : (keys : List Key) (a b : ArrayState) → InTurn Overwrites_here keys a b

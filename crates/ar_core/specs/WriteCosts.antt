@@ -1,5 +1,5 @@
 -- What a WRITE costs in disk accesses where no disk faults.
-use Rattle.std.specs.Prelude.{◌≡◌, ℕ, ◌<◌, Bool, true, false, IsSome, List, [], ◌∷◌, ◌++◌, None, All}
+use Rattle.std.specs.Prelude.{◌≡◌, ℕ, ◌<◌, ◌||◌, Bool, true, false, IsSome, List, [], ◌∷◌, ◌++◌, None, All}
 use Rattle.ar_disks.specs.declared.address.Addr.{Addr}
 use Rattle.ar_disks.specs.declared.address.Key.{Key}
 use Rattle.ar_extents.specs.declared.health.Health.TheVariants.{Whole}
@@ -17,7 +17,7 @@ use Rattle.ar_cache.specs.Cache.{cached}
 use Rattle.ar_volume.specs.Following.{PutsStored}
 use Rattle.ar_volume.specs.Image.{ArrayState, geometry_of}
 use Rattle.ar_volume.specs.Sectors.{keys_in}
-use Rattle.ar_volume.specs.Storing.{ReadsBlock, PutsBlock, ForcesBlock, destaged, is_whole}
+use Rattle.ar_volume.specs.Storing.{ReadsBlock, PutsBlock, ForcesBlock, destaged, in_place_at, is_whole}
 use Rattle.ar_core.specs.Costs.{block_reads}
 
 -- Between two states of the disks exactly some accesses were made, of which this holds, and health stayed.
@@ -54,7 +54,8 @@ pub record BlockPutMakes (old : ArrayState) (key : Key) (new : ArrayState) (made
   pub put : PutsBlock old key new
   pub destages : MakesInTurn PutMakes (destaged old.cache key new.cache) old.store new.store made
 
--- A block that is given whole was put by these accesses; another was read by the first of them, and put by the others.
+-- A block that is given whole or overwritten in place was put by these accesses; another was read by the first of them,
+-- and put by the others.
 abbrev pub OverwriteMakes : Bool → ArrayState → Key → ArrayState → List RowAccess → Type 0
 OverwriteMakes true old key new made = BlockPutMakes old key new made
 OverwriteMakes false old key new made =
@@ -67,10 +68,12 @@ pub record ForceMakes (old : ArrayState) (key : Key) (new : ArrayState) (made : 
   pub present : IsSome (cached old.cache key) → PutMakes old.store key new.store made
   pub absent : cached old.cache key ≡ None → made ≡ []
 
--- Each block of these sectors was overwritten once, in ascending order, by these accesses.
+-- Each block of these sectors was overwritten once, in ascending order, by these accesses. It was read first, unless
+-- they cover all of it or it was overwritten in place.
 abbrev pub BlocksPutMake : Addr → ℕ → ℕ → ArrayState → ArrayState → List RowAccess → Type 0
 BlocksPutMake addr lba count old new made =
-    MakesInTurn (λ a key b accesses. OverwriteMakes (is_whole (geometry_of old) lba count key) a key b accesses)
+    MakesInTurn (λ a key b accesses.
+    OverwriteMakes (is_whole (geometry_of old) lba count key || in_place_at a key) a key b accesses)
     (keys_in (geometry_of old) addr lba count) old new made
 
 -- And then, with FORCE UNIT ACCESS, each was forced to the disks, in ascending order.
@@ -85,12 +88,11 @@ abbrev pub for_each : {X : Type 0} → List X → List AccessKind → List Acces
 for_each [] kinds = []
 for_each (this ∷ rest) kinds = kinds ++ for_each rest kinds
 
--- all disks are present, nothing is cached, no block can be, and these sectors cover all of each of their blocks
-pub record WritesThrough (addr : Addr) (lba count : ℕ) (old : ArrayState) : Type 0 where
+-- all disks are present, nothing is cached, and no block can be
+pub record WritesThrough (old : ArrayState) : Type 0 where
   pub healthy : old.store.disks.health ≡ Whole
   pub capacity : old.cache.capacity ≡ 0
   pub empty : old.cache.entries ≡ []
-  pub whole : All (λ key. is_whole (geometry_of old) lba count key ≡ true) (keys_in (geometry_of old) addr lba count)
 
 -- the blocks are mirrored
 abbrev pub AreMirrored : Tables → List Key → Type 0

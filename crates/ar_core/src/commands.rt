@@ -26,7 +26,7 @@ ghost use Rattle.ar_volume.specs.Storing.{StopsPutting, StopsStoring, StoresBloc
 ghost use Rattle.ar_book.specs.Changes.{unmarked};
 
 use crate::{Array, Completion};
-use ar_disks::{Addr, Block, Disk, Geometry, SECTOR_LEN};
+use ar_disks::{Addr, Disk, Geometry, SECTOR_LEN};
 use ar_scsi::{Command, Reply, Sense, decode, is_inquiry};
 use ar_unit::{absent, capacity, inquiry};
 use ar_volume::{Backing, read_sectors, write_sectors};
@@ -186,7 +186,6 @@ impl<D: Disk> Array<D> {
             addr,
             lba,
             count,
-            &mut self.block,
             &mut self.spare,
             &mut self.room,
             &mut self.kept,
@@ -326,14 +325,12 @@ fn fetch_sectors<B: Backing>(
     addr: Addr,
     lba: u32,
     count: u32,
-    block: &mut Block,
     spare: &mut Vec<u8>,
     room: &mut BytesMut,
     kept: &mut BytesMut,
 ) -> Reply
     requires sound { B.is_broken blocks.old ≡ false }
     requires shape { geometry ≡ B.geometry blocks.old }
-    requires whole { length block.old ≡ block_len_of geometry }
     requires known { (rb : ℕ) → rb * sectors_of geometry < lba + count → IsTrue (B.knows blocks.old (key_of addr rb)) }
     requires small { lba + count ≤ 1048576 }
     requires some { 0 < count }
@@ -353,7 +350,6 @@ fn fetch_sectors<B: Backing>(
     ensures blocks { result.status ≢ CheckCondition → SameBlocks (B.block_at blocks.old) (B.block_at blocks.new) }
     ensures keeps { KeepsBacking B.geometry B.knows B.is_broken B.follows blocks.old blocks.new }
     ensures few { length result.payload ≤ 65535 * 512 }
-    ensures len { length block.new ≡ length block.old }
 {
     let len = count as usize * SECTOR_LEN;
     let is_lent = spare.len() == len;
@@ -362,15 +358,7 @@ fn fetch_sectors<B: Backing>(
     if take_memory(alloc, memory, len, spare).is_err() {
         return Reply::busy();
     }
-    let read = read_sectors(
-        blocks,
-        geometry,
-        addr,
-        lba,
-        count,
-        block,
-        memory.as_mut_slice(),
-    );
+    let read = read_sectors(blocks, geometry, addr, lba, count, memory.as_mut_slice());
     let reply = reply_to_read(read, memory);
     if is_lent || len > KEPT {
         // It isn't kept: the reply alone holds it, or nothing does.

@@ -5,6 +5,7 @@ use Rattle.ar_volume.specs.Image.{ArrayState, is_broken, geometry_of, length_at}
 use Rattle.ar_cache.specs.Backing.{InTurn, StopsInTurn}
 use Rattle.ar_volume.specs.Sectors.{keys_in}
 use Rattle.ar_volume.specs.Storing.{BreaksBlock, Overwrites, PutsBlock, PutsBlocks, ReadsBlock, StopsOver, StopsPutting}
+use Rattle.ar_volume.specs.Storing.{in_place_at}
 use Rattle.ar_volume.specs.Following.{ArrayFollows}
 use Rattle.ar_volume.specs.Seen.{IsUnit, WritesSectors}
 use Rattle.ar_volume.proofs.Putting.{nothing_put}
@@ -38,8 +39,8 @@ invariant_of-self g c =
 
 pub returns-clause-nothing : goal.returns-clause-nothing
 returns-clause-nothing g c = λ none.
-    nothing_put (Overwrites ReadsBlock PutsBlock c.geometry-geometry.result c.args.lba c.args.count)
-    (StopsOver ReadsBlock BreaksBlock is_broken c.geometry-geometry.result c.args.lba c.args.count)
+    nothing_put (Overwrites ReadsBlock PutsBlock in_place_at c.geometry-geometry.result c.args.lba c.args.count)
+    (StopsOver ReadsBlock BreaksBlock in_place_at is_broken c.geometry-geometry.result c.args.lba c.args.count)
     c.geometry-geometry.result c.args.addr c.args.lba c.args.count c.self.inside.blocks c.write_sectors.new.blocks
     c.write_sectors.result none
     c.write_sectors.ensures.puts c.write_sectors.ensures.stopped
@@ -58,7 +59,7 @@ returns-clause-puts g c = λ done.
     subst (λ (s : ArrayState). PutsBlocks c.args.addr c.args.lba c.args.count s c.write_sectors.new.blocks)
     c.self.view_is
     (subst
-    (λ (h : Geometry). InTurn (Overwrites ReadsBlock PutsBlock h c.args.lba c.args.count)
+    (λ (h : Geometry). InTurn (Overwrites ReadsBlock PutsBlock in_place_at h c.args.lba c.args.count)
     (keys_in h c.args.addr c.args.lba c.args.count) c.self.inside.blocks c.write_sectors.new.blocks)
     c.geometry-geometry.ensures (c.write_sectors.ensures.puts done))
 
@@ -67,7 +68,7 @@ returns-clause-stopped g c = λ lost.
     subst (λ (s : ArrayState). StopsPutting c.args.addr c.args.lba c.args.count s c.write_sectors.new.blocks)
     c.self.view_is
     (subst
-    (λ (h : Geometry). StopsInTurn (Overwrites ReadsBlock PutsBlock h c.args.lba c.args.count)
-    (StopsOver ReadsBlock BreaksBlock is_broken h c.args.lba c.args.count)
+    (λ (h : Geometry). StopsInTurn (Overwrites ReadsBlock PutsBlock in_place_at h c.args.lba c.args.count)
+    (StopsOver ReadsBlock BreaksBlock in_place_at is_broken h c.args.lba c.args.count)
     (keys_in h c.args.addr c.args.lba c.args.count) c.self.inside.blocks c.write_sectors.new.blocks)
     c.geometry-geometry.ensures (c.write_sectors.ensures.stopped lost))

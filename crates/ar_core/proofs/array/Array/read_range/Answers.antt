@@ -24,7 +24,7 @@ invariant_of-self g c =
             same = (c.fetch_sectors.ensures.blocks
                 (λ failed. (let lost = c.fetch_sectors.ensures.broken failed in absurd (cc)))).same;
           }),
-      c.fetch_sectors.ensures.len ∙ c.self.invariant.1 ∙ ap block_len_of (sym follows.store.accessed.follows.geometry),
+      c.self.invariant.1 ∙ ap block_len_of (sym follows.store.accessed.follows.geometry),
     )
 
 pub returns-clause-serves : goal.returns-clause-serves
