@@ -9,4 +9,5 @@ pub mod Pdus
 pub mod Receiving
 pub mod Remainders
 pub mod Serving
+pub mod Weaving
 pub mod Words

@@ -1,6 +1,6 @@
 -- Digests of headers and data (RFC 7143, 13.1), by CRC32C. Numbers stand for polynomials over two elements, the lowest
 -- bit for the highest power.
-use Rattle.std.specs.Prelude.{◌≡◌, ◌≢◌, ℕ, zero, suc, ◌+◌, ◌*◌, ◌/◌, ◌%◌, ◌^◌, ◌==◌, nat_lt, min, Bool, true, false}
+use Rattle.std.specs.Prelude.{◌≡◌, ◌≢◌, ℕ, zero, suc, ◌+◌, ◌*◌, ◌/◌, ◌%◌, ◌==◌, nat_lt, min, Bool, true, false}
 use Rattle.std.specs.Prelude.{not, ◌&&◌, if◌then◌else◌, MatchBool, List, [], ◌∷◌, ◌++◌, length, take, drop, bit_xor}
 use Rattle.std.specs.Int.{w32, to_le_bytes}
 use Rattle.ar_iscsi.specs.declared.digest.Digests.{Digests}
@@ -53,7 +53,7 @@ body_len bytes =
 abbrev pub closed : Bool → List ℕ → List ℕ
 closed is_wanted covered = covered ++ (if is_wanted then digest_bytes covered else [])
 
--- a data segment has a digest; without data there is none (RFC 7143, 11.2.4)
+-- a data segment has a digest; without data there is none (RFC 7143, 11.2.3)
 abbrev pub closes_data : Digests → List ℕ → Bool
 closes_data digests body = digests.segment && not (length body == 0)
 

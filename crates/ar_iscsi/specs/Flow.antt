@@ -28,10 +28,10 @@ numbers_of flow = record {
   max_cmd_sn = last_in_window flow.exp_cmd_sn;
 }
 
--- the Target Transfer Tag of a ping: that of the next R2T, which no outstanding R2T has, and never the reserved one
--- (RFC 7143, 11.19.1)
-abbrev pub ping_tag : Flow → ℕ
-ping_tag flow = if flow.next_tag == 0xFFFFFFFF then 0 else flow.next_tag
+-- the Target Transfer Tag of the next R2T, or of a ping: no outstanding R2T has it, and it isn't the reserved one
+-- (RFC 7143, 11.8.5 and 11.19.1)
+abbrev pub free_tag : Flow → ℕ
+free_tag flow = if flow.next_tag == 0xFFFFFFFF then 0 else flow.next_tag
 
 -- a request is done now: it is immediate, or has the expected CmdSN while no data are collected
 abbrev pub is_accepted : Flow → Bool → ℕ → Bool
@@ -70,12 +70,12 @@ abbrev pub asking : Flow → ScsiCommand → ℕ → ℕ → ℕ → Flow
 asking flow command wanted asked burst_end = record {
   stat_sn = flow.stat_sn;
   exp_cmd_sn = flow.exp_cmd_sn;
-  next_tag = next_sn flow.next_tag;
+  next_tag = next_sn (free_tag flow);
   collecting = Some (record {
     command = command;
     wanted = wanted;
     asked = asked;
-    transfer_tag = flow.next_tag;
+    transfer_tag = free_tag flow;
     data_sn = 0;
     burst_end = burst_end;
     is_unsolicited = false;

@@ -1,3 +1,4 @@
+pub mod Answer
 pub mod Arrival
 pub mod Digest
 pub mod Early

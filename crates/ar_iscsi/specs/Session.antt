@@ -27,7 +27,7 @@ use Rattle.ar_iscsi.specs.Digest.{sent_by}
 use Rattle.ar_iscsi.specs.Phase.{Place, ServesPdu, ServesPdus, IsLeftAlone, HasNoAnswer, IsAnswerLost, most_pdus}
 use Rattle.ar_iscsi.specs.Task.{MayGive}
 use Rattle.ar_iscsi.specs.Turn.{Spot, AnswersBy, FeatureTurn, Responds}
-use Rattle.ar_iscsi.specs.Flow.{is_open, numbers_of, ping_tag, received}
+use Rattle.ar_iscsi.specs.Flow.{is_open, numbers_of, free_tag, received}
 use Rattle.ar_iscsi.specs.Request.{task_tag}
 use Rattle.ar_iscsi.specs.Response.{no_lun, no_tag, target_pdu}
 use Rattle.ar_iscsi.specs.Waiting.{is_next_waiting}
@@ -78,7 +78,7 @@ pub record ServesArrival {P : Type 0} (commands : Commands P) (refuses : Command
 -- The ping of a silent peer: a NOP-In that wants a NOP-Out with its tag. It has the next StatSN, and doesn't take it
 -- (RFC 7143, 11.19.2).
 abbrev pub ping_of : Flow → List ℕ
-ping_of flow = target_pdu (pdu.Ping (ping_tag flow)) (numbers_of flow) []
+ping_of flow = target_pdu (pdu.Ping (free_tag flow)) (numbers_of flow) []
 
 -- none that waits is next, a read faulted before the first byte of a PDU, and a ping was written, whole or up to a
 -- write fault; all else is as it was

@@ -19,7 +19,7 @@ use Rattle.ar_iscsi.specs.declared.task.DataStep.{DataStep}
 use Rattle.ar_iscsi.specs.declared.task.DataStep.TheVariants as steps
 use Rattle.ar_iscsi.specs.Response.{no_tag, target_pdu}
 use Rattle.ar_iscsi.specs.Reply.{PutsReply, data_out_len}
-use Rattle.ar_iscsi.specs.Flow.{numbers_of, is_open, is_accepted, answered, asking, lun_number, next_sn}
+use Rattle.ar_iscsi.specs.Flow.{numbers_of, is_open, is_accepted, answered, asking, free_tag, lun_number, next_sn}
 
 -- a command may carry this many bytes of data: with ImmediateData, up to FirstBurstLength (RFC 7143, 13.11 and 13.14)
 abbrev pub may_carry : Limits → ℕ → Bool
@@ -163,5 +163,5 @@ pub record AsksFrom (flow : Flow) (limits : Limits) (command : ScsiCommand) (wan
   pub after_is : after ≡ asking flow command wanted (next_sn asked) (have + burst_len limits wanted have)
   pub appended :
       out' ≡ out ++ target_pdu
-      (pdu.ReadyToTransfer command.lun command.task_tag flow.next_tag asked have (burst_len limits wanted have))
+      (pdu.ReadyToTransfer command.lun command.task_tag (free_tag flow) asked have (burst_len limits wanted have))
       (numbers_of after) []

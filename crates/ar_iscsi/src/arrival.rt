@@ -26,14 +26,14 @@ pub(crate) fn take_arrival<P: ResetPort>(
     carried: &[u8],
 ) -> Result<TurnEnd, AllocError>
     requires logged { P.has_login port.old ≡ true }
-    requires empty { work.old.out.items ≡ [] }
+    requires empty { work.old.out ≡ [] }
     ensures turn { IfOk result (λ ended. arrival.ArrivalTurn P.commands P.refuses P.resets address.now work.old.limits
         header.now carried.now
         (record {
           session = record { flow = work.old.flow; bytes = work.old.collected.items };
           waiting = waiting.old.items;
         })
-        port.old work.new.out.items
+        port.old work.new.out
         (record {
           session = record { flow = work.new.flow; bytes = work.new.collected.items };
           waiting = waiting.new.items;
@@ -93,13 +93,13 @@ fn take_management<P: ResetPort>(
     is_after: bool,
 ) -> Result<TurnEnd, AllocError>
     requires logged { P.has_login port.old ≡ true }
-    requires empty { work.old.out.items ≡ [] }
+    requires empty { work.old.out ≡ [] }
     ensures turn { IfOk result (λ ended. arrival.ManagementTurn P.resets header.now carried.now request.now is_after
         (record {
           session = record { flow = work.old.flow; bytes = work.old.collected.items };
           waiting = waiting.old.items;
         })
-        port.old work.new.out.items
+        port.old work.new.out
         (record {
           session = record { flow = work.new.flow; bytes = work.new.collected.items };
           waiting = waiting.new.items;
@@ -129,13 +129,13 @@ fn answer_later<P: ResetPort>(
     request: &TaskManagement,
 ) -> Result<TurnEnd, AllocError>
     requires logged { P.has_login port.old ≡ true }
-    requires empty { work.old.out.items ≡ [] }
+    requires empty { work.old.out ≡ [] }
     ensures turn { IfOk result (λ ended. arrival.AnswersLater P.resets header.now carried.now request.now
         (record {
           session = record { flow = work.old.flow; bytes = work.old.collected.items };
           waiting = waiting.old.items;
         })
-        port.old work.new.out.items
+        port.old work.new.out
         (record {
           session = record { flow = work.new.flow; bytes = work.new.collected.items };
           waiting = waiting.new.items;
@@ -159,13 +159,13 @@ fn answer_now<P: ResetPort>(
     request: &TaskManagement,
 ) -> Result<TurnEnd, AllocError>
     requires logged { P.has_login port.old ≡ true }
-    requires empty { work.old.out.items ≡ [] }
+    requires empty { work.old.out ≡ [] }
     ensures turn { IfOk result (λ ended. arrival.AnswersNow P.resets request.now
         (record {
           session = record { flow = work.old.flow; bytes = work.old.collected.items };
           waiting = waiting.old.items;
         })
-        port.old work.new.out.items
+        port.old work.new.out
         (record {
           session = record { flow = work.new.flow; bytes = work.new.collected.items };
           waiting = waiting.new.items;

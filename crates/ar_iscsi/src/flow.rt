@@ -34,7 +34,7 @@ pub struct Flow {
     pub stat_sn: u32,
     /// The CmdSN of the next command.
     pub exp_cmd_sn: u32,
-    /// The target transfer tag of the next R2T.
+    /// The target transfer tag of the next R2T, unless it is the reserved one.
     pub next_tag: u32,
     pub collecting: Option<Collecting>,
 }
@@ -51,9 +51,9 @@ impl Flow {
         }
     }
 
-    /// The target transfer tag of a ping: that of the next R2T, so that it is in no use, unless that is reserved.
-    pub fn ping_tag(&self) -> u32
-        ensures tag { result ≡ state.ping_tag self.now }
+    /// The target transfer tag of the next R2T, or of a ping: no outstanding R2T has it, and it isn't the reserved one.
+    pub fn free_tag(&self) -> u32
+        ensures tag { result ≡ state.free_tag self.now }
         ensures valid { result ≢ 4294967295 }
     {
         if self.next_tag == NO_TAG {
@@ -118,13 +118,14 @@ impl Flow {
     pub fn asking(self, command: ScsiCommand, wanted: u32, asked: u32, burst_end: u32) -> Flow
         ensures { result ≡ state.asking self command wanted asked burst_end }
     {
+        let transfer_tag = self.free_tag();
         Flow {
-            next_tag: self.next_tag.wrapping_add(1),
+            next_tag: transfer_tag.wrapping_add(1),
             collecting: Some(Collecting {
                 command,
                 wanted,
                 asked,
-                transfer_tag: self.next_tag,
+                transfer_tag,
                 data_sn: 0,
                 burst_end,
                 is_unsolicited: false,

@@ -4,6 +4,7 @@
 ghost use Rattle.ar_iscsi.specs.Pdu.{NoPduBeginsAnother};
 ghost use Rattle.ar_iscsi.specs.Response.{ResponsesArePdus};
 
+mod answer;
 mod arrival;
 mod digest;
 mod early;
@@ -30,6 +31,7 @@ mod verdict;
 mod waiting;
 mod waiting_pdu;
 
+pub use answer::Answer;
 pub use digest::{CrcTable, Digests};
 pub use flow::{Collecting, Flow, WINDOW, lun_number};
 pub use keys::{Key, KeyAnswer, key_answer, key_named, numeral};
@@ -43,7 +45,6 @@ pub use reaction::{
     to_text,
 };
 pub use receive::{ReceiveEnd, Received, receive_pdu};
-pub use reply::{put_data_in, put_reply};
 pub use request::{
     DataOut, InitiatorPdu, LoginRequest, LogoutRequest, Lun, NopOut, ScsiCommand, TaskManagement,
     TextRequest, initiator_pdu,
@@ -52,7 +53,7 @@ pub use response::{LoginResponse, LoginStage, Residual, SequenceNumbers, TargetP
 pub use session::{FeatureEnd, MOST_SEGMENT, serve_feature};
 pub use target::{IscsiEnd, NoUnits, serve_target};
 pub use targets::answer_targets;
-pub use task::{CommandStep, DataStep, ask, command_step, complete, data_step, refuse, wanted_len};
+pub use task::{CommandStep, DataStep, command_step, data_step, wanted_len};
 pub use text::answer_text;
 pub use turn::{TurnEnd, Work, take_turn};
 pub use verdict::{LoginStatus, LoginStep, judged, stage_of, status_code, step_of};

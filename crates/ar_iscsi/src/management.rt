@@ -32,7 +32,7 @@ pub(crate) fn manage_tasks<P: ResetPort>(
         port.new result }
     ensures once { MayUse P.commands P.resets port.old port.new }
     ensures stays { P.has_login port.new ≡ true }
-    ensures out { work.new.out.items ≡ work.old.out.items }
+    ensures out { work.new.out ≡ work.old.out }
     ensures limits { work.new.limits ≡ work.old.limits }
 {
     let is_there = means_one(request, &work.flow, waiting);
@@ -82,7 +82,7 @@ fn manage(request: &TaskManagement, pdu: &mut WaitingPdu)
 fn drop_collected(request: &TaskManagement, work: &mut Work)
     ensures flow { work.new.flow ≡ rule.managed_flow request.now work.old.flow }
     ensures bytes { work.new.collected.items ≡ rule.managed_bytes request.now work.old.flow work.old.collected.items }
-    ensures out { work.new.out.items ≡ work.old.out.items }
+    ensures out { work.new.out ≡ work.old.out }
     ensures limits { work.new.limits ≡ work.old.limits }
 {
     if drops_collected(request, work.flow.collecting) {

@@ -1,52 +1,24 @@
 // The answer to a SCSI command: its data in Data-In PDUs, cut to the expected length, and its status in a SCSI
 // Response. Each Data-In PDU is a sequence of its own, so that MaxBurstLength bounds a PDU and no more is counted.
-ghost use Rattle.std.specs.Prelude.{◌≡◌, ◌<◌, ◌≤◌, ◌+◌, ◌^◌, ◌++◌, ◌∷◌, IfOk, OnOk, length};
+ghost use Rattle.std.specs.Prelude.{◌≡◌, ◌<◌, ◌++◌, ◌∷◌, ◌^◌, [], IfOk, OnOk};
 ghost use Rattle.ar_scsi.specs.declared.reply.Reply.{Reply};
 ghost use Rattle.ar_frames.specs.Frame.{IsReply, status_byte};
 ghost use Rattle.ar_iscsi.specs.Reply as answer;
 ghost use Rattle.ar_iscsi.specs.Response.{target_pdu};
 
+use crate::answer::Answer;
 use crate::request::ScsiCommand;
-use crate::response::{Residual, SequenceNumbers, TargetPdu, put_pdu};
+use crate::response::{Residual, SequenceNumbers, TargetPdu};
 use ar_scsi::{Reply, Status};
 use ar_target::data_out_len;
+use bytes::Bytes;
 use std::alloc::AllocError;
 
-/// Appends `data` to `out` as Data-In PDUs of at most `most` bytes each, and returns how many there are. `Err` if the
-/// allocation fails; `out` then ends in an unspecified part of them.
-pub fn put_data_in(
-    out: &mut Vec<u8>,
-    task_tag: u32,
-    numbers: SequenceNumbers,
-    most: u32,
-    data_in: &[u8],
-) -> Result<u32, AllocError>
-    requires some { 0 < most }
-    requires short { most < 2 ^ 24 }
-    requires fits { length data_in.now < 2 ^ 32 }
-    ensures { IfOk result (λ count. answer.PutsDataIn task_tag numbers most data_in.now count out.old.items
-        out.new.items) }
-{
-    let mut count = 0;
-    let mut at = 0;
-    while at < data_in.len() {
-        let end = data_in.len().min(at + most as usize);
-        let pdu = TargetPdu::DataIn {
-            task_tag,
-            data_sn: count,
-            offset: at as u32,
-        };
-        put_pdu(out, pdu, numbers, &data_in[at..end])?;
-        at = end;
-        count += 1;
-    }
-    Ok(count)
-}
-
-/// Appends the answer to a command: its data, cut to the expected length, in Data-In PDUs of at most `most` bytes, and
-/// its status. `asked` R2Ts were sent for it. `Err` if the allocation fails; `out` then ends in an unspecified part.
-pub fn put_reply(
-    out: &mut Vec<u8>,
+/// Makes `out`, which is empty, the answer to a command: its data, cut to the expected length, in Data-In PDUs of at
+/// most `most` bytes, and its status. `asked` R2Ts were sent for it. `Err` if the allocation fails; `out` is then
+/// unspecified.
+pub(crate) fn put_reply(
+    out: &mut Answer,
     command: &ScsiCommand,
     numbers: SequenceNumbers,
     most: u32,
@@ -56,29 +28,24 @@ pub fn put_reply(
     requires some { 0 < most }
     requires short { most < 2 ^ 24 }
     requires reply { IsReply reply.now }
-    ensures { OnOk result (answer.PutsReply command.now numbers most asked reply.now out.old.items out.new.items) }
+    requires empty { out.old ≡ [] }
+    ensures { OnOk result (answer.PutsReply command.now numbers most asked reply.now out.old out.new) }
 {
-    let payload = reply.payload.as_slice();
-    let count = put_data_in(
-        out,
-        command.task_tag,
-        numbers,
-        most,
-        returned(command, payload),
-    )?;
+    let carried = returned(command, &reply.payload)?;
+    let count = out.put_data_in(command.task_tag, numbers, most, carried)?;
     put_status(out, command, numbers, asked.wrapping_add(count), reply)
 }
 
 // Appends the SCSI Response to a command that had `exp_data_sn` Data-In and R2T PDUs.
 fn put_status(
-    out: &mut Vec<u8>,
+    out: &mut Answer,
     command: &ScsiCommand,
     numbers: SequenceNumbers,
     exp_data_sn: u32,
     reply: &Reply,
 ) -> Result<(), AllocError>
     requires { IsReply reply.now }
-    ensures { OnOk result (out.new.items ≡ out.old.items ++ target_pdu
+    ensures { OnOk result (out.new ≡ out.old ++ target_pdu
         (TargetPdu.ScsiResponse command.now.task_tag (status_byte reply.now.status)
         (answer.residual_of (answer.expected_len command.now) (answer.moved_by command.now reply.now.payload))
         exp_data_sn)
@@ -94,8 +61,8 @@ fn put_status(
         exp_data_sn,
     };
     match &reply.sense {
-        Some(sense) => put_pdu(out, pdu, numbers, &sense_segment(sense)),
-        None => put_pdu(out, pdu, numbers, &[]),
+        Some(sense) => out.put(pdu, numbers, &sense_segment(sense)),
+        None => out.put(pdu, numbers, &[]),
     }
 }
 
@@ -144,13 +111,13 @@ fn residual_of(expected: u32, moved: u32) -> Residual
     }
 }
 
-// The part of a payload that is returned.
-fn returned<'a>(command: &ScsiCommand, payload: &'a [u8]) -> &'a [u8]
-    ensures { result.now ≡ answer.returned command.now payload.now }
+// The part of a payload that is returned, which shares it.
+fn returned(command: &ScsiCommand, payload: &Bytes) -> Result<Bytes, AllocError>
+    ensures { IfOk result (λ part. part ≡ answer.returned command.now payload.now) }
 {
     if command.reads {
-        &payload[..payload.len().min(command.expected as usize)]
+        payload.slice(..payload.len().min(command.expected as usize))
     } else {
-        &payload[..0]
+        Ok(Bytes::new())
     }
 }

@@ -134,8 +134,8 @@ pub fn put_pdu(
     put_padding(out, segment.len())
 }
 
-// Appends the padding after a data segment of `len` bytes.
-fn put_padding(out: &mut Vec<u8>, len: usize) -> Result<(), AllocError>
+/// Appends the padding after a data segment of `len` bytes.
+pub(crate) fn put_padding(out: &mut Vec<u8>, len: usize) -> Result<(), AllocError>
     ensures { OnOk result (out.new.items ≡ out.old.items ++ wire.padding (padding_len len)) }
 {
     match len % 4 {
@@ -192,8 +192,8 @@ fn header_by(
     )
 }
 
-// Encodes the header of a PDU whose data segment has `len` bytes.
-fn target_header(pdu: TargetPdu, numbers: SequenceNumbers, len: u32) -> [u8; 48]
+/// Encodes the header of a PDU whose data segment has `len` bytes.
+pub(crate) fn target_header(pdu: TargetPdu, numbers: SequenceNumbers, len: u32) -> [u8; 48]
     ensures { result ≡ wire.target_header pdu numbers len }
 {
     match pdu {

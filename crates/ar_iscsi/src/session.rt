@@ -9,12 +9,13 @@ ghost use Rattle.ar_iscsi.specs.Session as session;
 ghost use Rattle.ar_iscsi.specs.Task.{MayGive};
 ghost use Rattle.ar_iscsi.specs.Waiting.{is_next_waiting};
 
+use crate::answer::Answer;
 use crate::arrival::take_arrival;
 use crate::digest::{CrcTable, Digests};
 use crate::flow::Flow;
 use crate::receive::{ReceiveEnd, Received, receive_sent};
 use crate::request::{segment_len, word};
-use crate::response::{NO_LUN, NO_TAG, TargetPdu, ping_pdu, put_pdu};
+use crate::response::{NO_LUN, NO_TAG, TargetPdu, ping_pdu};
 use crate::turn::{TurnEnd, Work, respond, take_turn};
 use crate::waiting::is_next_waiting;
 use crate::waiting_pdu::{WaitingPdu, WaitingState};
@@ -66,7 +67,7 @@ pub fn serve_feature<R: Source, W: Sink, P: ResetPort>(
 ) -> FeatureEnd
     requires logged { P.has_login port.old ≡ true }
     requires room { length buffer.old ≡ phase.most_segment }
-    requires empty { work.old.out.items ≡ [] }
+    requires empty { work.old.out ≡ [] }
     ensures { session.RunsFeature P.commands P.refuses P.resets address.now work.old.limits
         (record {
           source = R.state reader.old;
@@ -110,7 +111,7 @@ fn serve_pdu<R: Source, W: Sink, P: ResetPort>(
 ) -> PduResult
     requires logged { P.has_login port.old ≡ true }
     requires room { length buffer.old ≡ phase.most_segment }
-    requires empty { work.old.out.items ≡ [] }
+    requires empty { work.old.out ≡ [] }
     ensures next { session.NextIsServed P.commands P.refuses P.resets address.now work.old.limits
         (record {
           source = R.state reader.old;
@@ -133,7 +134,7 @@ fn serve_pdu<R: Source, W: Sink, P: ResetPort>(
         }) }
     ensures stays { P.has_login port.new ≡ true }
     ensures limits { work.new.limits ≡ work.old.limits }
-    ensures emptied { result ≡ PduResult.Served → work.new.out.items ≡ [] }
+    ensures emptied { result ≡ PduResult.Served → work.new.out ≡ [] }
 {
     match take_waiting(&work.flow, waiting) {
         Some(pdu) => {
@@ -169,7 +170,7 @@ fn serve_arrival<R: Source, W: Sink, P: ResetPort>(
     requires none_next { is_next_waiting work.old.flow waiting.old.items ≡ false }
     requires logged { P.has_login port.old ≡ true }
     requires room { length buffer.old ≡ phase.most_segment }
-    requires empty { work.old.out.items ≡ [] }
+    requires empty { work.old.out ≡ [] }
     ensures next { session.NextIsServed P.commands P.refuses P.resets address.now work.old.limits
         (record {
           source = R.state reader.old;
@@ -192,7 +193,7 @@ fn serve_arrival<R: Source, W: Sink, P: ResetPort>(
         }) }
     ensures stays { P.has_login port.new ≡ true }
     ensures limits { work.new.limits ≡ work.old.limits }
-    ensures emptied { result ≡ PduResult.Served → work.new.out.items ≡ [] }
+    ensures emptied { result ≡ PduResult.Served → work.new.out ≡ [] }
 {
     await_request(reader);
     match receive_sent(reader, buffer, work.limits.digests, &work.table) {
@@ -237,7 +238,7 @@ fn ping_silent<R: Source, W: Sink>(
     ensures { session.MayPing work.now.limits.digests work.now.flow reason (W.state writer.old) result
         (W.state writer.new) }
 {
-    let ping = ping_pdu(work.flow.ping_tag(), work.flow.numbers());
+    let ping = ping_pdu(work.flow.free_tag(), work.flow.numbers());
     match (reason, is_silent(reader)) {
         (ReceiveEnd::Idle, true) => {
             send_pdus(alloc, writer, &ping, work.limits.digests, &work.table)
@@ -267,6 +268,27 @@ fn send_pdus<W: Sink>(
     }
 }
 
+// Sends an answer with the digests that were agreed on. None: memory for it ran out, and nothing was written.
+fn send_answer<W: Sink>(
+    alloc: Global,
+    writer: &mut W,
+    answer: &Answer,
+    digests: Digests,
+    table: &CrcTable,
+) -> Option<Sent>
+    ensures sent { IfSome result (λ sent. Sending (W.state writer.old) (W.state writer.new)
+        (sent_by digests answer.now) sent) }
+    ensures same { IfNone result (W.state writer.new ≡ W.state writer.old) }
+{
+    if digests.is_plain() {
+        return Some(answer.send(writer));
+    }
+    match answer.joined(alloc) {
+        Ok(pdus) => send_pdus(alloc, writer, &pdus, digests, table),
+        Err(_) => None,
+    }
+}
+
 // What becomes of the session where no PDU was read.
 fn result_of_ping(reason: ReceiveEnd, pinged: Option<Sent>) -> PduResult
     ensures { result ≡ session.result_of_ping reason pinged }
@@ -289,7 +311,7 @@ fn answer_arrival<W: Sink, P: ResetPort>(
     carried: &[u8],
 ) -> Option<(TurnEnd, Sent)>
     requires logged { P.has_login port.old ≡ true }
-    requires empty { work.old.out.items ≡ [] }
+    requires empty { work.old.out ≡ [] }
     ensures answers { phase.AnswersPdu work.old.limits.digests
         (ArrivalTurn P.commands P.refuses P.resets address.now work.old.limits)
         (MayUse P.commands P.resets)
@@ -306,12 +328,12 @@ fn answer_arrival<W: Sink, P: ResetPort>(
         port.new }
     ensures stays { P.has_login port.new ≡ true }
     ensures limits { work.new.limits ≡ work.old.limits }
-    ensures emptied { OnSome result (work.new.out.items ≡ []) }
+    ensures emptied { OnSome result (work.new.out ≡ []) }
 {
     let digests = work.limits.digests;
     match take_arrival(work, waiting, alloc, port, address, header, carried) {
         Ok(turned) => {
-            let sent = send_pdus(alloc, writer, &work.out, digests, &work.table)?;
+            let sent = send_answer(alloc, writer, &work.out, digests, &work.table)?;
             work.out.clear();
             Some((turned, sent))
         }
@@ -329,7 +351,7 @@ fn answer_waiting<W: Sink, P: Port>(
     pdu: &WaitingPdu,
 ) -> Option<(TurnEnd, Sent)>
     requires logged { P.has_login port.old ≡ true }
-    requires empty { work.old.out.items ≡ [] }
+    requires empty { work.old.out ≡ [] }
     ensures answers { phase.AnswersPdu work.old.limits.digests (session.WaitingTurn P.commands P.refuses address.now
         work.old.limits pdu.now.state pdu.now.early)
         (MayGive P.commands) pdu.now.header pdu.now.carried
@@ -337,12 +359,12 @@ fn answer_waiting<W: Sink, P: Port>(
         (W.state writer.new) (record { flow = work.new.flow; bytes = work.new.collected.items }) port.new }
     ensures stays { P.has_login port.new ≡ true }
     ensures limits { work.new.limits ≡ work.old.limits }
-    ensures emptied { OnSome result (work.new.out.items ≡ []) }
+    ensures emptied { OnSome result (work.new.out ≡ []) }
 {
     let digests = work.limits.digests;
     match turn_waiting(work, alloc, port, address, pdu) {
         Ok(turned) => {
-            let sent = send_pdus(alloc, writer, &work.out, digests, &work.table)?;
+            let sent = send_answer(alloc, writer, &work.out, digests, &work.table)?;
             work.out.clear();
             Some((turned, sent))
         }
@@ -359,10 +381,10 @@ fn turn_waiting<P: Port>(
     pdu: &WaitingPdu,
 ) -> Result<TurnEnd, AllocError>
     requires logged { P.has_login port.old ≡ true }
-    requires empty { work.old.out.items ≡ [] }
+    requires empty { work.old.out ≡ [] }
     ensures turn { IfOk result (λ ended. session.WaitingTurn P.commands P.refuses address.now work.old.limits
         pdu.now.state pdu.now.early pdu.now.header pdu.now.carried
-        (record { flow = work.old.flow; bytes = work.old.collected.items }) port.old work.new.out.items
+        (record { flow = work.old.flow; bytes = work.old.collected.items }) port.old work.new.out
         (record { flow = work.new.flow; bytes = work.new.collected.items }) port.new ended) }
     ensures once { MayGive P.commands port.old port.new }
     ensures stays { P.has_login port.new ≡ true }
@@ -388,9 +410,9 @@ fn turn_waiting<P: Port>(
 // Counts a command that was dropped. No response tells the initiator of the room that it leaves in the window, so a
 // NOP-In does: else an initiator whose window is full would wait for ever.
 fn count_dropped(work: &mut Work) -> Result<TurnEnd, AllocError>
-    requires { work.old.out.items ≡ [] }
+    requires { work.old.out ≡ [] }
     ensures counted { IfOk result (λ ended. session.CountsDropped
-        (record { flow = work.old.flow; bytes = work.old.collected.items }) work.new.out.items
+        (record { flow = work.old.flow; bytes = work.old.collected.items }) work.new.out
         (record { flow = work.new.flow; bytes = work.new.collected.items }) ended) }
     ensures limits { work.new.limits ≡ work.old.limits }
 {
@@ -399,7 +421,7 @@ fn count_dropped(work: &mut Work) -> Result<TurnEnd, AllocError>
         lun: NO_LUN,
         task_tag: NO_TAG,
     };
-    put_pdu(&mut work.out, pdu, flow.numbers(), &[])?;
+    work.out.put(pdu, flow.numbers(), &[])?;
     work.flow = flow;
     Ok(TurnEnd::Next)
 }

@@ -3,6 +3,7 @@ ghost use Rattle.std.specs.Prelude.{◌≡◌, false, true, IfOk, vec_len, lengt
 ghost use Rattle.ar_iscsi.specs.Phase.{most_segment};
 ghost use Rattle.ar_iscsi.specs.Target as session;
 
+use crate::answer::Answer;
 use crate::digest::CrcTable;
 use crate::flow::Flow;
 use crate::login::{LoginState, LoginWork};
@@ -172,7 +173,7 @@ fn serve_entered<R: Source, W: Sink, P: ResetPort>(
         },
         limits: state.so_far.limits,
         collected: Vec::new(alloc),
-        out: Vec::new(alloc),
+        out: Answer::new(alloc),
         table: CrcTable::new(),
     };
     let mut waiting = Vec::new(alloc);

@@ -1,16 +1,17 @@
 // SCSI commands: the data of a WRITE are collected before the command is given to the port, as immediate data, in
 // unsolicited Data-Out PDUs, and in those that R2Ts ask for, one R2T at a time. Commands are done one after the other.
-ghost use Rattle.std.specs.Prelude.{◌≡◌, ◌<◌, ◌≤◌, ◌+◌, ◌^◌, ◌==◌, true, IfOk, length};
+ghost use Rattle.std.specs.Prelude.{◌≡◌, ◌<◌, ◌≤◌, ◌+◌, ◌^◌, ◌==◌, true, [], IfOk, length};
 ghost use Rattle.ar_scsi.specs.declared.reply.Reply.{Reply};
 ghost use Rattle.ar_frames.specs.Frame.{IsReply};
 ghost use Rattle.ar_iscsi.specs.Task as task;
 
+use crate::answer::Answer;
 use crate::flow::{Collecting, Flow, lun_number};
 use crate::negotiation::Limits;
 use crate::reaction::{COMMAND_NOT_SUPPORTED, PROTOCOL_ERROR};
 use crate::reply::put_reply;
 use crate::request::{DataOut, ScsiCommand};
-use crate::response::{NO_TAG, TargetPdu, put_pdu};
+use crate::response::{NO_TAG, TargetPdu};
 use ar_frames::Port;
 use ar_scsi::{Reply, Sense};
 use ar_target::data_out_len;
@@ -207,21 +208,21 @@ pub(crate) fn most_in(limits: &Limits) -> u32
         .max(512)
 }
 
-/// Gives a command that is complete to the port, and appends the answer to `out`. `asked` R2Ts were sent for it. `Err`
-/// if the answer can't be allocated: the command was executed, and `out` ends in an unspecified part of the answer.
-pub fn complete<P: Port>(
+/// Gives a command that is complete to the port, and makes `out`, which is empty, its answer. `asked` R2Ts were sent
+/// for it. `Err` if the answer can't be allocated: the command was executed, and `out` is unspecified.
+pub(crate) fn complete<P: Port>(
     port: &mut P,
     flow: Flow,
     limits: &Limits,
-    out: &mut Vec<u8>,
+    out: &mut Answer,
     command: &ScsiCommand,
     payload: Bytes,
     asked: u32,
 ) -> Result<Flow, AllocError>
-    requires { P.has_login port.old ≡ true }
+    requires logged { P.has_login port.old ≡ true }
+    requires empty { out.old ≡ [] }
     ensures completes { IfOk result (λ after. task.Completes P.commands flow limits.now command.now payload asked
-        port.old port.new
-        out.old.items out.new.items after) }
+        port.old port.new out.old out.new after) }
     ensures once { task.MayGive P.commands port.old port.new }
     ensures stays { P.has_login port.new ≡ true }
 {
@@ -230,19 +231,20 @@ pub fn complete<P: Port>(
     Ok(flow.answered())
 }
 
-/// Has the port refuse a command, and appends its answer BUSY to `out`. `Err` if the answer can't be allocated: `out`
-/// ends in an unspecified part of it.
-pub fn refuse<P: Port>(
+/// Has the port refuse a command, and makes `out`, which is empty, its answer BUSY. `Err` if the answer can't be
+/// allocated: `out` is unspecified.
+pub(crate) fn refuse<P: Port>(
     port: &mut P,
     flow: Flow,
     limits: &Limits,
-    out: &mut Vec<u8>,
+    out: &mut Answer,
     command: &ScsiCommand,
     asked: u32,
 ) -> Result<Flow, AllocError>
-    requires { P.has_login port.old ≡ true }
+    requires logged { P.has_login port.old ≡ true }
+    requires empty { out.old ≡ [] }
     ensures busy { IfOk result (λ after. task.GetsBusy P.refuses flow limits.now command.now asked port.old port.new
-        out.old.items out.new.items after) }
+        out.old out.new after) }
     ensures same { port.new ≡ port.old }
 {
     let reply = port.refuse(&command.cdb);
@@ -251,29 +253,28 @@ pub fn refuse<P: Port>(
 }
 
 /// Asks for more data of a command: appends R2T number `asked`, counted from 0, for those after the first `have`.
-pub fn ask(
+pub(crate) fn ask(
     flow: Flow,
     limits: &Limits,
-    out: &mut Vec<u8>,
+    out: &mut Answer,
     command: ScsiCommand,
     wanted: u32,
     have: u32,
     asked: u32,
 ) -> Result<Flow, AllocError>
     requires { have ≤ wanted }
-    ensures { IfOk result (λ after. task.AsksFrom flow limits.now command wanted have asked out.old.items
-        out.new.items after) }
+    ensures { IfOk result (λ after. task.AsksFrom flow limits.now command wanted have asked out.old out.new after) }
 {
     let len = (wanted - have).min(limits.max_burst.max(512));
     let after = flow.asking(command, wanted, asked.wrapping_add(1), have + len);
     let pdu = TargetPdu::ReadyToTransfer {
         lun: command.lun,
         task_tag: command.task_tag,
-        transfer_tag: flow.next_tag,
+        transfer_tag: flow.free_tag(),
         r2t_sn: asked,
         offset: have,
         len,
     };
-    put_pdu(out, pdu, after.numbers(), &[])?;
+    out.put(pdu, after.numbers(), &[])?;
     Ok(after)
 }

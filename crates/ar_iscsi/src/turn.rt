@@ -7,6 +7,7 @@ ghost use Rattle.ar_iscsi.specs.Flow.{received, reopened};
 ghost use Rattle.ar_iscsi.specs.Task.{AsksFrom, Completes, GetsBusy, MayGive, SuitsData, most_in};
 ghost use Rattle.ar_iscsi.specs.Targets.{targets_answer};
 
+use crate::answer::Answer;
 use crate::digest::CrcTable;
 use crate::flow::{Collecting, Flow};
 use crate::negotiation::Limits;
@@ -14,7 +15,7 @@ use crate::reaction::{
     COMMAND_NOT_SUPPORTED, PROTOCOL_ERROR, Reaction, to_logout, to_nop_out, to_text,
 };
 use crate::request::{InitiatorPdu, ScsiCommand, initiator_pdu};
-use crate::response::{TargetPdu, put_pdu};
+use crate::response::TargetPdu;
 use crate::targets::answer_targets;
 use crate::task::{CommandStep, DataStep, ask, command_step, complete, data_step, most_in, refuse};
 use crate::waiting_pdu::Early;
@@ -44,7 +45,7 @@ pub struct Work {
     /// What was collected of a WRITE's data.
     pub collected: Vec<u8>,
     /// The answer to the PDU at hand.
-    pub out: Vec<u8>,
+    pub out: Answer,
     /// For digests.
     pub table: CrcTable,
 }
@@ -62,10 +63,10 @@ pub fn take_turn<P: Port>(
     early: &Early,
 ) -> Result<TurnEnd, AllocError>
     requires logged { P.has_login port.old ≡ true }
-    requires empty { work.old.out.items ≡ [] }
+    requires empty { work.old.out ≡ [] }
     ensures turn { IfOk result (λ ended. turn.FeatureTurn P.commands P.refuses address.now work.old.limits early.now
         header.now carried.now
-        (record { flow = work.old.flow; bytes = work.old.collected.items }) port.old work.new.out.items
+        (record { flow = work.old.flow; bytes = work.old.collected.items }) port.old work.new.out
         (record { flow = work.new.flow; bytes = work.new.collected.items }) port.new ended) }
     ensures once { MayGive P.commands port.old port.new }
     ensures stays { P.has_login port.new ≡ true }
@@ -110,14 +111,14 @@ pub(crate) fn respond(
     segment: &[u8],
     end: TurnEnd,
 ) -> Result<TurnEnd, AllocError>
-    requires empty { work.old.out.items ≡ [] }
+    requires empty { work.old.out ≡ [] }
     requires short { length segment.now < 2 ^ 24 }
     ensures responds { IfOk result (λ ended. turn.Responds flow pdu segment.now work.old.collected.items
-        work.new.out.items
+        work.new.out
         (record { flow = work.new.flow; bytes = work.new.collected.items }) ended end) }
     ensures limits { work.new.limits ≡ work.old.limits }
 {
-    put_pdu(&mut work.out, pdu, flow.numbers(), segment)?;
+    work.out.put(pdu, flow.numbers(), segment)?;
     work.flow = flow.answered();
     Ok(end)
 }
@@ -125,9 +126,9 @@ pub(crate) fn respond(
 // Rejects a PDU for a reason, with its header. It isn't counted, so that one with a CmdSN leaves a gap in front of
 // those that were sent after it: the session ends.
 fn reject(work: &mut Work, header: &[u8; 48], reason: u8) -> Result<TurnEnd, AllocError>
-    requires empty { work.old.out.items ≡ [] }
+    requires empty { work.old.out ≡ [] }
     ensures rejected { IfOk result (λ ended. turn.IsRejected header.now reason
-        (record { flow = work.old.flow; bytes = work.old.collected.items }) work.new.out.items
+        (record { flow = work.old.flow; bytes = work.old.collected.items }) work.new.out
         (record { flow = work.new.flow; bytes = work.new.collected.items }) ended) }
     ensures limits { work.new.limits ≡ work.old.limits }
 {
@@ -159,11 +160,11 @@ fn respond_text(
     flow: Flow,
     pdu: TargetPdu,
 ) -> Result<TurnEnd, AllocError>
-    requires empty { work.old.out.items ≡ [] }
+    requires empty { work.old.out ≡ [] }
     ensures text { IfOk result (λ ended. turn.RespondsText header.now
         (targets_answer address.now work.old.limits.host carried.now)
         (most_in work.old.limits) flow pdu
-        (record { flow = work.old.flow; bytes = work.old.collected.items }) work.new.out.items
+        (record { flow = work.old.flow; bytes = work.old.collected.items }) work.new.out
         (record { flow = work.new.flow; bytes = work.new.collected.items }) ended) }
     ensures limits { work.new.limits ≡ work.old.limits }
 {
@@ -186,10 +187,10 @@ fn react(
     flow: Flow,
     reaction: Reaction,
 ) -> Result<TurnEnd, AllocError>
-    requires empty { work.old.out.items ≡ [] }
+    requires empty { work.old.out ≡ [] }
     ensures turn { IfOk result (λ ended. turn.ReactionTurn address.now work.old.limits header.now carried.now
         flow reaction
-        (record { flow = work.old.flow; bytes = work.old.collected.items }) work.new.out.items
+        (record { flow = work.old.flow; bytes = work.old.collected.items }) work.new.out
         (record { flow = work.new.flow; bytes = work.new.collected.items }) ended) }
     ensures limits { work.new.limits ≡ work.old.limits }
 {
@@ -211,9 +212,9 @@ fn react(
 
 // Sends a response that carries what the request did, as far as the initiator receives it.
 fn echo(work: &mut Work, flow: Flow, pdu: TargetPdu, carried: &[u8]) -> Result<TurnEnd, AllocError>
-    requires empty { work.old.out.items ≡ [] }
+    requires empty { work.old.out ≡ [] }
     ensures responds { IfOk result (λ ended. turn.Responds flow pdu (take (most_in work.old.limits) carried.now)
-        work.old.collected.items work.new.out.items
+        work.old.collected.items work.new.out
         (record { flow = work.new.flow; bytes = work.new.collected.items }) ended TurnEnd.Next) }
     ensures limits { work.new.limits ≡ work.old.limits }
 {
@@ -233,11 +234,11 @@ fn command_turn<P: Port>(
     step: CommandStep,
 ) -> Result<TurnEnd, AllocError>
     requires logged { P.has_login port.old ≡ true }
-    requires empty { work.old.out.items ≡ [] }
+    requires empty { work.old.out ≡ [] }
     requires suits { SuitsData (length carried.now) step }
     ensures turn { IfOk result (λ ended. turn.CommandTurn P.commands P.refuses work.old.limits command.now early.now
         header.now carried.now step
-        (record { flow = work.old.flow; bytes = work.old.collected.items }) port.old work.new.out.items
+        (record { flow = work.old.flow; bytes = work.old.collected.items }) port.old work.new.out
         (record { flow = work.new.flow; bytes = work.new.collected.items }) port.new ended) }
     ensures once { MayGive P.commands port.old port.new }
     ensures stays { P.has_login port.new ≡ true }
@@ -271,10 +272,10 @@ fn run_command<P: Port>(
     payload: &[u8],
 ) -> Result<TurnEnd, AllocError>
     requires logged { P.has_login port.old ≡ true }
-    requires empty { work.old.out.items ≡ [] }
+    requires empty { work.old.out ≡ [] }
     ensures done { OnOk result (turn.IsDone P.commands P.refuses work.old.limits (received work.old.flow
         command.now.immediate) command.now
-        payload.now 0 port.old port.new work.new.out.items work.new.flow) }
+        payload.now 0 port.old port.new work.new.out work.new.flow) }
     ensures next { IfOk result (λ ended. ended ≡ TurnEnd.Next) }
     ensures once { MayGive P.commands port.old port.new }
     ensures stays { P.has_login port.new ≡ true }
@@ -297,9 +298,9 @@ fn finish<P: Port>(
     asked: u32,
 ) -> Result<TurnEnd, AllocError>
     requires logged { P.has_login port.old ≡ true }
-    requires empty { work.old.out.items ≡ [] }
+    requires empty { work.old.out ≡ [] }
     ensures done { OnOk result (Completes P.commands flow work.old.limits command.now payload asked port.old port.new []
-        work.new.out.items work.new.flow) }
+        work.new.out work.new.flow) }
     ensures next { IfOk result (λ ended. ended ≡ TurnEnd.Next) }
     ensures once { MayGive P.commands port.old port.new }
     ensures stays { P.has_login port.new ≡ true }
@@ -327,9 +328,9 @@ fn refuse_done<P: Port>(
     asked: u32,
 ) -> Result<TurnEnd, AllocError>
     requires logged { P.has_login port.old ≡ true }
-    requires empty { work.old.out.items ≡ [] }
+    requires empty { work.old.out ≡ [] }
     ensures refused { OnOk result (GetsBusy P.refuses flow work.old.limits command.now asked port.old port.new []
-        work.new.out.items work.new.flow) }
+        work.new.out work.new.flow) }
     ensures next { IfOk result (λ ended. ended ≡ TurnEnd.Next) }
     ensures same { port.new ≡ port.old }
     ensures collected { work.new.collected.items ≡ work.old.collected.items }
@@ -360,10 +361,10 @@ fn collect<P: Port>(
     wanted: u32,
 ) -> Result<TurnEnd, AllocError>
     requires logged { P.has_login port.old ≡ true }
-    requires empty { work.old.out.items ≡ [] }
+    requires empty { work.old.out ≡ [] }
     requires more { length carried.now < wanted }
     ensures starts { OnOk result (turn.StartsData P.refuses work.old.limits
-        (received work.old.flow command.now.immediate) command.now wanted carried.now port.old work.new.out.items
+        (received work.old.flow command.now.immediate) command.now wanted carried.now port.old work.new.out
         (record { flow = work.new.flow; bytes = work.new.collected.items }) port.new) }
     ensures next { IfOk result (λ ended. ended ≡ TurnEnd.Next) }
     ensures same { port.new ≡ port.old }
@@ -399,9 +400,9 @@ fn await_data<P: Port>(
     early: &[u8],
 ) -> Result<TurnEnd, AllocError>
     requires logged { P.has_login port.old ≡ true }
-    requires empty { work.old.out.items ≡ [] }
+    requires empty { work.old.out ≡ [] }
     ensures awaits { OnOk result (turn.AwaitsData P.commands P.refuses work.old.limits c.now (carried.now ++ early.now)
-        flow port.old work.new.out.items
+        flow port.old work.new.out
         (record { flow = work.new.flow; bytes = work.new.collected.items }) port.new) }
     ensures next { IfOk result (λ ended. ended ≡ TurnEnd.Next) }
     ensures once { MayGive P.commands port.old port.new }
@@ -433,9 +434,9 @@ fn ask_for(
     have: u32,
     asked: u32,
 ) -> Result<TurnEnd, AllocError>
-    requires empty { work.old.out.items ≡ [] }
+    requires empty { work.old.out ≡ [] }
     requires within { have ≤ wanted }
-    ensures asks { OnOk result (AsksFrom flow work.old.limits command.now wanted have asked [] work.new.out.items
+    ensures asks { OnOk result (AsksFrom flow work.old.limits command.now wanted have asked [] work.new.out
         work.new.flow) }
     ensures next { IfOk result (λ ended. ended ≡ TurnEnd.Next) }
     ensures collected { work.new.collected.items ≡ work.old.collected.items }
@@ -463,9 +464,9 @@ fn data_turn<P: Port>(
     step: DataStep,
 ) -> Result<TurnEnd, AllocError>
     requires logged { P.has_login port.old ≡ true }
-    requires empty { work.old.out.items ≡ [] }
+    requires empty { work.old.out ≡ [] }
     ensures turn { IfOk result (λ ended. turn.DataTurn P.commands P.refuses work.old.limits carried.now step
-        (record { flow = work.old.flow; bytes = work.old.collected.items }) port.old work.new.out.items
+        (record { flow = work.old.flow; bytes = work.old.collected.items }) port.old work.new.out
         (record { flow = work.new.flow; bytes = work.new.collected.items }) port.new ended) }
     ensures once { MayGive P.commands port.old port.new }
     ensures stays { P.has_login port.new ≡ true }
@@ -487,10 +488,10 @@ fn take_data<P: Port>(
     carried: &[u8],
 ) -> Result<TurnEnd, AllocError>
     requires logged { P.has_login port.old ≡ true }
-    requires empty { work.old.out.items ≡ [] }
+    requires empty { work.old.out ≡ [] }
     ensures takes { OnOk result (turn.TakesData P.commands P.refuses work.old.limits c.now (work.old.collected.items ++
         carried.now)
-        work.old.flow port.old work.new.out.items
+        work.old.flow port.old work.new.out
         (record { flow = work.new.flow; bytes = work.new.collected.items }) port.new) }
     ensures next { IfOk result (λ ended. ended ≡ TurnEnd.Next) }
     ensures once { MayGive P.commands port.old port.new }
@@ -509,10 +510,10 @@ fn take_all<P: Port>(
     c: &Collecting,
 ) -> Result<TurnEnd, AllocError>
     requires logged { P.has_login port.old ≡ true }
-    requires empty { work.old.out.items ≡ [] }
+    requires empty { work.old.out ≡ [] }
     ensures takes { OnOk result (turn.TakesData P.commands P.refuses work.old.limits c.now work.old.collected.items
         work.old.flow port.old
-        work.new.out.items (record { flow = work.new.flow; bytes = work.new.collected.items }) port.new) }
+        work.new.out (record { flow = work.new.flow; bytes = work.new.collected.items }) port.new) }
     ensures next { IfOk result (λ ended. ended ≡ TurnEnd.Next) }
     ensures once { MayGive P.commands port.old port.new }
     ensures stays { P.has_login port.new ≡ true }
@@ -538,9 +539,9 @@ fn finish_collected<P: Port>(
     c: &Collecting,
 ) -> Result<TurnEnd, AllocError>
     requires logged { P.has_login port.old ≡ true }
-    requires empty { work.old.out.items ≡ [] }
+    requires empty { work.old.out ≡ [] }
     ensures done { OnOk result (turn.IsDone P.commands P.refuses work.old.limits (reopened work.old.flow) c.now.command
-        (take c.now.wanted work.old.collected.items) c.now.asked port.old port.new work.new.out.items work.new.flow) }
+        (take c.now.wanted work.old.collected.items) c.now.asked port.old port.new work.new.out work.new.flow) }
     ensures next { IfOk result (λ ended. ended ≡ TurnEnd.Next) }
     ensures once { MayGive P.commands port.old port.new }
     ensures stays { P.has_login port.new ≡ true }

@@ -1,7 +1,9 @@
 // Sessions, byte for byte.
+ghost use Rattle.std.specs.Prelude.{None};
+
 use crate::fake::Fake;
 use crate::pdus;
-use ar_frames::{MemSink, MemSource};
+use ar_frames::{MemSink, MemSource, Sink};
 use ar_iscsi::{FeatureEnd, IscsiEnd, LoginEnd, LoginStatus, ReceiveEnd, serve_target};
 use std::alloc::Global;
 use std::process::Abort;
@@ -61,6 +63,51 @@ fn a_read_returns_what_is_expected_in_segments(rt: HostRuntime) {
         pdus::READ_DONE,
     ];
     plays(&rt, alloc, &[pdus::LOGIN, pdus::READ], ENDED, &output);
+}
+
+// Counts the calls that it takes.
+#[derive(Drop)]
+struct Calls {
+    count: u64,
+}
+
+impl Sink for Calls {
+    ghost state = { λ sink. record { taken = None; faults = 0 } };
+
+    fn write(&mut self, from: &[u8]) -> Option<usize> {
+        self.write_parts(from, &[], &[])
+    }
+
+    fn write_parts(&mut self, front: &[u8], middle: &[u8], rest: &[u8]) -> Option<usize> {
+        self.count = self.count.saturating_add(1);
+        Some((front.len() + middle.len()).saturating_add(rest.len()))
+    }
+
+    fn faults(&self) -> u64 {
+        0
+    }
+}
+
+fn are(rt: &impl Abort, calls: u64, wanted: u64) {
+    assert!(rt; calls == wanted, "{calls} calls in place of {wanted}");
+}
+
+// The response to the login, one Data-In PDU, and the other one with the status.
+#[test]
+fn data_are_sent_with_their_header_by_one_call(rt: HostRuntime) {
+    let alloc = rt.alloc();
+    let mut reader = MemSource::new(joined(&rt, alloc, &[pdus::LOGIN, pdus::READ]));
+    let mut writer = Calls { count: 0 };
+    let mut port = Fake::new(alloc);
+    let ended = serve_target(
+        alloc,
+        &mut reader,
+        &mut writer,
+        &mut port,
+        b"127.0.0.1:3260",
+    );
+    ends(&rt, ended, ENDED);
+    are(&rt, writer.count, 3);
 }
 
 #[test]

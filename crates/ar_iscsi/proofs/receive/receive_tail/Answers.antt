@@ -1,8 +1,8 @@
-use Rattle.std.proofs.Common.{◌∙◌, ◌++◌, Bool, refl, take, ap, arith, List, ℕ, length}
+use Rattle.std.proofs.Common.{◌∙◌, ◌++◌, Bool, refl, take, ap, arith, length}
 use Rattle.ar_iscsi.specs.Pdu.{padding_len}
-use Rattle.ar_iscsi.specs.Digest.{EndsWrong, after_data, closed, closes_data}
+use Rattle.ar_iscsi.specs.Digest.{EndsWrong, after_data, closed}
 use Rattle.ar_iscsi.proofs.Receiving.{digested_whole, wrong_data}
-use Rattle.std.proofs.Common.{subst, ◌≡◌}
+use Rattle.std.proofs.Common.{subst}
 use Rattle.ar_iscsi.proofs.receive.receive_tail.Goals as goal
 
 pub returns-in-All : goal.returns-in-All

@@ -1,4 +1,4 @@
-use Rattle.std.proofs.Common.{◌≡◌, ◌∙◌, ℕ, [], length, subst, sym, take}
+use Rattle.std.proofs.Common.{◌≡◌, ◌∙◌, ℕ, length, subst, sym, take}
 use Rattle.ar_iscsi.specs.declared.session.PduResult.{PduResult}
 use Rattle.ar_iscsi.specs.Arrival.{ArrivalTurn, MayUse}
 use Rattle.ar_iscsi.specs.Phase.{AnswersPdu}

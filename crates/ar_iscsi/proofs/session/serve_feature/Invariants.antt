@@ -30,6 +30,6 @@ invariant-loop g l = record {
       });
   same : l.work.limits ≡ l.initial.work.limits;
   room : length l.buffer ≡ most_segment;
-  empty : l.work.out.items ≡ [];
+  empty : l.work.out ≡ [];
   logged : g.P.Port.has_login l.port ≡ true;
 }
