@@ -18,6 +18,9 @@ use ar_scsi::{Command as ScsiCommand, Reply, Status, decode};
 use bytes::Bytes;
 use std::alloc::Global;
 
+// The bytes of the encoding of a command without its data.
+const COMMAND_LEN: usize = 23;
+
 // The encoding of a record. None when out of memory.
 pub(crate) fn encoded(alloc: Global, entry: &Record) -> Option<Vec<u8>>
     requires { IsEncodable (data_of entry.now) }
@@ -40,7 +43,8 @@ pub(crate) fn encoded_command(
     if payload.len() >= 1 << 32 {
         return None;
     }
-    let mut out = Vec::new(alloc);
+    let room = payload.len().saturating_add(COMMAND_LEN);
+    let mut out = Vec::with_capacity(alloc, room).ok()?;
     encode_command(addr, cdb, payload.as_slice(), &mut out).ok()?;
     Some(out)
 }
