@@ -74,9 +74,9 @@ impl Bare {
     // while the workload has as many.
     fn turn(&mut self, moves: Moves, turn: usize) {
         let span = moves.times as usize;
-        self.take(moves.taken, turn);
         for number in 0..moves.fetched {
-            self.fetch(turn.wrapping_add(span.wrapping_mul(number as usize)));
+            let at = turn.wrapping_add(span.wrapping_mul(number as usize));
+            self.fetch(at, moves.part);
         }
         for number in 0..moves.reads {
             self.read(
@@ -91,23 +91,24 @@ impl Bare {
             let behind = moves.kept.wrapping_add(number) as usize;
             let at = turn.wrapping_add(span.wrapping_mul(behind));
             if number < moves.sent {
-                self.send(turn, at);
+                self.send(turn, at, moves.part);
             } else {
                 self.write(at);
             }
         }
-        self.give(moves.given);
     }
 
-    fn take(&mut self, len: usize, turn: usize) {
-        let from = place(self.geometry, DATA_BLOCKS, turn);
-        let len = len.min(self.geometry.block_len());
-        overwrite(&mut self.block, &self.source[from..from + len]);
-    }
-
-    // A block is copied into the answer.
-    fn fetch(&mut self, at: usize) {
+    // How many bytes a part of a block has, where 0 is all of it.
+    fn len_of(&self, part: usize) -> usize
+        ensures { result ≤ block_len_of self.now }
+    {
         let len = self.geometry.block_len();
+        if part == 0 { len } else { part.min(len) }
+    }
+
+    // The first bytes of a block are copied into the answer.
+    fn fetch(&mut self, at: usize, part: usize) {
+        let len = self.len_of(part);
         let from = place(self.geometry, self.count, at);
         overwrite(&mut self.answer, &self.disks[from..from + len]);
     }
@@ -132,17 +133,12 @@ impl Bare {
         self.disks[to..to + self.geometry.block_len()].copy_from_slice(&self.block);
     }
 
-    // The data that come are copied to a place.
-    fn send(&mut self, turn: usize, at: usize) {
-        let len = self.geometry.block_len();
+    // The first bytes of the data that come are copied to a place.
+    fn send(&mut self, turn: usize, at: usize, part: usize) {
+        let len = self.len_of(part);
         let from = place(self.geometry, DATA_BLOCKS, turn);
         let to = place(self.geometry, self.count, at);
         self.disks[to..to + len].copy_from_slice(&self.source[from..from + len]);
-    }
-
-    fn give(&mut self, len: usize) {
-        let len = len.min(self.geometry.block_len());
-        overwrite(&mut self.answer, &self.block[..len]);
     }
 
     /// The bytes that stand in place of the disks.

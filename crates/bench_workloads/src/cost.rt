@@ -7,8 +7,6 @@ use ar_disks::{Geometry, SECTOR_LEN};
 pub struct Moves {
     /// How many operations.
     pub times: u32,
-    /// Bytes that come with a command and are copied into a block, whose other sectors stay.
-    pub taken: usize,
     /// Blocks that are copied from disks into the answer.
     pub fetched: u32,
     /// Blocks that are copied from disks into blocks of their own.
@@ -21,22 +19,21 @@ pub struct Moves {
     pub writes: u32,
     /// Of these, how many are copied from the data that come with a command, the first ones: the others from a block.
     pub sent: u32,
-    /// Bytes that are copied from a block into the answer.
-    pub given: usize,
+    /// Bytes of each block that is copied into the answer, or from the data that come with a command. 0: all of it.
+    pub part: usize,
 }
 
 impl Moves {
     /// Nothing.
     pub const NONE: Moves = Moves {
         times: 0,
-        taken: 0,
         fetched: 0,
         reads: 0,
         kept: 0,
         sums: 0,
         writes: 0,
         sent: 0,
-        given: 0,
+        part: 0,
     };
 }
 
@@ -87,18 +84,13 @@ impl Round {
             Workload::Overwrite | Workload::ParityWrite => alone(self.written(times, 2)),
             Workload::OverwriteCached => self.cached(),
             Workload::SmallWrite => alone(Moves {
-                times,
-                taken: self.payload(),
-                reads: 1,
-                writes: 2,
-                ..Moves::NONE
+                part: self.payload(),
+                ..self.written(times, 2)
             }),
             Workload::Read | Workload::ParityRead => alone(fetched(times)),
             Workload::SmallRead => alone(Moves {
-                times,
-                reads: 1,
-                given: self.payload(),
-                ..Moves::NONE
+                part: self.payload(),
+                ..fetched(times)
             }),
             Workload::DegradedRead => self.degraded_read(),
             Workload::DegradedWrite => self.degraded_write(),

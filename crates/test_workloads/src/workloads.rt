@@ -194,14 +194,14 @@ fn a_cache_that_is_flushed_at_the_end(rt: HostRuntime) {
     );
 }
 
-// The other sectors of the block are read before one of them is changed.
+// One sector is written to the two places of its block, and nothing is read.
 #[test]
 fn one_sector_is_written(rt: HostRuntime) {
     let changed = Moves {
         times: 4,
-        taken: 512,
-        reads: 1,
         writes: 2,
+        sent: 2,
+        part: 512,
         ..Moves::NONE
     };
     has_moves(
@@ -240,17 +240,17 @@ fn holds(rt: &impl Abort, what: &str, bytes: &[u8], byte: u8, wanted: u8) {
 
 // Two mirrored writes of two operations: blocks 0 and 1, and their copies after them.
 #[test]
-fn writes_are_copies_of_what_is_taken(rt: HostRuntime) -> Result<(), AllocError> {
+fn writes_are_copies_of_what_is_sent(rt: HostRuntime) -> Result<(), AllocError> {
     let bare = bare_after(
         rt.alloc(),
         Moves {
             times: 2,
-            taken: 1_024,
             writes: 2,
+            sent: 2,
             ..Moves::NONE
         },
     )?;
-    holds(&rt, "what was taken", bare.disks(), 0x11, 0b0000_1111);
+    holds(&rt, "what was sent", bare.disks(), 0x11, 0b0000_1111);
     holds(&rt, "what was there", bare.disks(), 0xEE, 0b1111_0000);
     Ok(())
 }
@@ -279,30 +279,44 @@ fn kept_blocks_stay_as_they_are(rt: HostRuntime) -> Result<(), AllocError> {
         rt.alloc(),
         Moves {
             times: 2,
-            taken: 1_024,
             kept: 1,
             writes: 2,
             ..Moves::NONE
         },
     )?;
-    holds(&rt, "what was taken", bare.disks(), 0x11, 0b0011_1100);
+    holds(&rt, "the block", bare.disks(), 0x22, 0b0011_1100);
     holds(&rt, "what was there", bare.disks(), 0xEE, 0b1100_0011);
     Ok(())
 }
 
-// What is read is given.
+// A sector of a byte, and behind it one of another.
+fn is_split(rt: &impl Abort, what: &str, bytes: &[u8], first: u8, second: u8) {
+    let is_right = match bytes.get(..1_024) {
+        Some(block) => {
+            block[..512].iter().all(|byte| *byte == first)
+                && block[512..].iter().all(|byte| *byte == second)
+        }
+        None => false,
+    };
+    assert!(rt; is_right, "{what} of {first} and {second}");
+}
+
+// Of a block one sector is fetched, and one is sent to its place.
 #[test]
-fn reads_are_given(rt: HostRuntime) -> Result<(), AllocError> {
+fn parts_of_blocks_are_copied(rt: HostRuntime) -> Result<(), AllocError> {
     let bare = bare_after(
         rt.alloc(),
         Moves {
             times: 1,
-            reads: 1,
-            given: 1_024,
+            fetched: 1,
+            writes: 1,
+            sent: 1,
+            part: 512,
             ..Moves::NONE
         },
     )?;
-    holds(&rt, "the answer", bare.answer(), 0xEE, 1);
+    is_split(&rt, "the answer", bare.answer(), 0xEE, 0x88);
+    is_split(&rt, "the disks", bare.disks(), 0x11, 0xEE);
     Ok(())
 }
 
