@@ -29,7 +29,7 @@ IsHeadAlone batches = (head : Batch) × (batches ≡ head ∷ [])
 abbrev pub BeginsWithHead : List ℕ → List Batch → Type 0
 BeginsWithHead head batches = (more : List Batch) × (batches ≡ (head ∷ []) ∷ more)
 
--- the head of the next generation, before whose log so many units were made
+-- the head of the next generation, with how many units were made before its log
 abbrev pub next_head : HeadData → List ℕ → HeadData
 next_head head makes = record head { generation = head.generation + 1; makes = makes }
 

@@ -25,7 +25,7 @@ pub(crate) struct LogReplay {
 }
 
 impl LogReplay {
-    // That of no record, before which so many units were made.
+    // That of no record: only the units that were made before it count.
     pub fn new(alloc: Global, before: Makes) -> LogReplay
         ensures replayed { IsReplayOf [] result }
         ensures before { result.before ≡ before }

@@ -1,4 +1,4 @@
-// How many units were made at each address of an array, so that one that is made anew has another name. A number has
+// How many units were made at each address of an array, so that the next one there has another name. A number has
 // two bytes, big-endian, as a log's head stores it, so that a head has them as they are:
 //
 //     host 0: LUN 0, LUN 1, .. LUN 7 | host 1: LUN 0, .. | host 2 .. | host 3 ..

@@ -24,7 +24,7 @@ abbrev pub CommandsAreGiven : Type 0
 CommandsAreGiven = (cdb : List ℕ) (command : Command) → reading cdb ≡ Ok command → GivesCdb (request_of cdb)
 
 -- What is equal of two units tells that they are one: of units of different arrays, hosts, LUNs or generations it
--- differs. Of the generation that is told which `told` keeps of it.
+-- differs. Of the generation it tells what `told` keeps.
 abbrev pub TellsUnits : (ℕ → ℕ) → (ℕ → ℕ → ℕ → ℕ → List ℕ) → Type 0
 TellsUnits told named =
     (array other host host' lun lun' generation generation' : ℕ) → array < 2 ^ 32 → other < 2 ^ 32 → host < 256

@@ -24,6 +24,7 @@ returns-clause-serves g c =
           (rw w.self-is at c.see_reply.ensures))
       | else-owes_report w ↦
           rw w.self-is
-          (serves_at_once _ _ _ c.request_of-request.ensures.request (sym c.owes_report.ensures ∙ w.if-owes_report.false)
+          (serves_at_once _ _ _ c.request_of-request.ensures.request
+          (sym c.owes_report.ensures ∙ w.if-owes_report.false)
           (rw w.self-is at c.serve-reply.ensures.answers) (rw w.self-is at c.see_reply.ensures))
     ]
