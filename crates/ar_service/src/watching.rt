@@ -49,8 +49,8 @@ impl<'a, R: Wait + Clock, A: ControlledArray<L, M> + Drop, L: Ledger, M> Watch<'
         }
     }
 
-    // The status, the data of the picture if it is to be drawn, and the inventory if it is to be made. The log's lock is
-    // taken before the array's, so that looks are compared in the order in which they were taken.
+    // The status, the data of the picture if it is to be drawn, and the inventory if it is to be made. The log's lock
+    // is taken before the array's, so that looks are compared in the order in which they were taken.
     fn copied(&self, alloc: Global, draws: bool, lists: bool) -> Result<Moment, AllocError>
         ensures { IfOk result (λ moment. CopiesMoment A.persists draws moment.status moment.picture) }
     {

@@ -5,4 +5,5 @@ use Rattle.ar_service.proofs.attached.end_meant.Given as goal
 abbrev pub invariant-loop-entry : goal.invariant-loop-entry
 invariant-loop-entry l =
     l.entry-items
-    ≡ map (after_order l.fn.host l.fn.number) (take l.entry-index l.initial.entry-items) ++ drop l.entry-index l.initial.entry-items
+    ≡ map (after_order l.fn.host l.fn.number) (take l.entry-index l.initial.entry-items)
+    ++ drop l.entry-index l.initial.entry-items
