@@ -2,7 +2,7 @@
 import threading
 import time
 
-from tests.harness import GOOD, Case, waited
+from tests.harness import CHECK, GOOD, Case, most_resident, waited
 
 # MODE SENSE (6) without block descriptors: the Caching page, whose third byte has WCE in bit 2.
 CACHING_PAGE = bytes.fromhex("1A 08 08 00 18 00")
@@ -64,31 +64,43 @@ class Background(Case):
             self.wants(found, (b"\x08\x12", wanted, GOOD), f"the page with a cache of {cache}")
 
     def test_commands_beside_rests(self):
-        """While maintenance rests, no command waits for it."""
+        """While maintenance rests, for up to 16 ms at a time, no command waits for it."""
         server = self.serve("0:0:8")
-        host = self.kept(server.log_in(0))
-        time.sleep(1)
-        begun = time.monotonic()
-        for _ in range(1000):
-            if not host.is_ready():
-                self.wants(host.tag, None, "a command that isn't answered GOOD")
-        passed = time.monotonic() - begun
-        self.holds(passed < 4, "a thousand commands in less than 4 s", f"{passed:.2f} s")
+        host, took = self.kept(server.log_in(0)), []
+        for _ in range(51):
+            # (a command ends the rest; by the next one there is another)
+            time.sleep(0.03)
+            begun = time.monotonic()
+            self.wants(host.is_ready(), True, "TEST UNIT READY")
+            took.append(time.monotonic() - begun)
+        self.holds(sorted(took)[25] < 0.004, "most commands take less than 4 ms", took)
 
     def test_orders_beside_looks(self):
-        """200 orders and 200 looks at once all end, whichever lock each takes first."""
-        server, looks = self.watched("0:0:24"), []
+        """Orders and looks end, whichever lock each takes first, also where both wait for a host's long command."""
+        words = "--geometry", "paper", "--extents", "64", "0:0:65535"
+        server = self.serve(*words, doors=("operator", "http"), audit="off")
+        host, is_over, said = self.kept(server.log_in(0)), threading.Event(), []
 
         def look():
-            for _ in range(200):
-                looks.append(server.get("/status.json")[0])
+            while not is_over.is_set():
+                said.append(server.get("/status.json")[0])
 
-        looking = threading.Thread(target=look)
-        looking.start()
-        said = server.answers_to("flush\n" * 200).splitlines()
-        looking.join(60)
-        self.wants((len(said), looks), (200, [200] * 200), "answers to orders, and the status of looks")
-        self.stops(server, [0, 0, 0, 0])
+        def order(operator):
+            while not is_over.is_set():
+                said.extend(operator.asks("flush"))
+
+        threads = [threading.Thread(target=look, daemon=True) for _ in range(3)]
+        operators = [self.kept(server.operator()) for _ in range(3)]
+        threads += [threading.Thread(target=order, args=(operator,), daemon=True) for operator in operators]
+        for thread in threads:
+            thread.start()
+        for _ in range(8):
+            self.wants(host.writes(0, bytes(512 * 65535)).status, GOOD, "a WRITE of 32 MiB")
+        is_over.set()
+        for thread in threads:
+            thread.join()
+        self.wants(set(said), {200, "idle"}, "the status of looks, and answers to orders")
+        self.stops(server, [8, 0, 0, 0])
 
     def test_stop_of_an_idle_server(self):
         server = self.serve("0:0:8", doors=("operator", "http", "iscsi"))
@@ -99,7 +111,7 @@ class Background(Case):
         self.holds(passed < 4, "an idle server stops within 4 s", f"{passed:.1f} s")
 
     def test_memory_of_long_reads(self):
-        """Four hosts that read 32 MiB at once, again and again: what is lent for them is used again."""
+        """Four hosts that read 32 MiB at once, again and again, take no more memory after the first time."""
         units = [f"{host}:0:65535" for host in range(4)]
         server = self.serve("--geometry", "paper", "--extents", "64", *units, audit="off")
         hosts, after = [self.kept(server.log_in(number)) for number in range(4)], []
@@ -110,6 +122,16 @@ class Background(Case):
             self.wants([(reply.status, len(reply.data)) for reply in said], [(GOOD, 65535 * 512)] * 4, "long READs")
             after.append(server.resident())
         self.holds(after[-1] - after[0] < 40 * 1024, "no more memory after later rounds, in KiB", after)
+
+    def test_no_memory_for_a_refused_read(self):
+        """A session lends memory for READs of up to 1 MiB: for one of 32 MiB that is refused it allocates none."""
+        server = self.serve("--extents", "16", "0:0:8", audit="off")
+        host = self.kept(server.log_in(0))
+        self.wants(host.is_ready(), True, "TEST UNIT READY")
+        before = most_resident(server.pid)
+        self.wants(host.reads(0, 65535).status, CHECK, "a READ beyond the unit")
+        more = most_resident(server.pid) - before
+        self.holds(more < 16 * 1024, "less than 16 MiB more for a READ that is refused, in KiB", more)
 
 
 class Names(Case):

@@ -19,6 +19,8 @@ class Seats(Case):
     def attends(self, number):
         """The same over iSCSI."""
         initiator = self.server.initiator(number)
+        said = self.server.answers_to("sessions\n").splitlines()[0]
+        self.wants(said, f"host {number} frames 0 read 0 written 0", "it, without what the session before it has done")
         # (its first command reports that the session is new)
         initiator.asks(bytes(6))
         self.wants(initiator.asks(bytes(6))[1].status, 0, f"TEST UNIT READY of initiator {number}, its second")
@@ -173,9 +175,9 @@ class Orders(Case):
 
     def test_refused_disk_leaves_the_fuse(self):
         server = self.serve("--disks", "12", "--extents", "2", "0:0:32")
-        said = server.answers_to("fail 3 0\nadd\n")
+        said = server.answers_to("fail 0 0\nadd\n")
         self.holds(said.startswith("ok\nrefused E"), "a thirteenth disk is refused", said)
-        self.fails_alone(server, 3)
+        self.fails_alone(server, 0)
 
     def longest_wait_beside(self, server, host, order):
         """Gives this order while a host asks without a pause; its longest command, and the order's seconds."""
