@@ -43,12 +43,17 @@ impl Book {
 
     def finds(self, wanted, *lines):
         text = self.TICKING + "".join(f"    {line}\n" for line in lines) + "}\n"
-        found = dict(steps.looks_at(list(steps.functions_in("planted.rt", text))))
+        found = dict(steps.looks_at(list(steps.functions_in("planted.rt", text)), {}))
         self.wants(found.pop("scan of planted.rt"), None, "the function that ticks")
         self.wants(list(found.values()), [wanted], "what is wrong with the planted one")
 
     def test_all_counted(self):
         self.finds(None, "fn hole(&self, steps: &mut Steps) -> u32 {", "    self.scan(steps).unwrap_or(0)", "}")
+
+    def test_own_count(self):
+        own = ["fn count(&self) -> u32 {", "    0", "}", "fn hole(&self, steps: &mut Steps) -> u32 {"]
+        self.finds(None, *own, "    self.count()", "}")
+        self.finds("walks a list by a method", *own, "    self.iter().count() as u32", "}")
 
     def test_scan_by_find(self):
         wanted = "walks a list by a method"

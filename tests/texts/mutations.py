@@ -17,8 +17,9 @@ blank lines between them. An entry, whose first line is missing in a file of its
 'refused' names a function and the clause, or the goal of a loop or a call, that the check says is not proved; each
 'old' stands at one place of the file or, after a line 'in: memory::MemDisk::new', of that function. In an entry it is
 found by its tokens where it doesn't stand there as it is, and `$a` is any name, the same in 'old' and 'new': so an
-entry survives another layout and another name. Mutations of different functions are tried together, since a function is
-proved from the contracts of those that it calls; one that isn't refused so is tried again alone.
+entry survives another layout and another name. A text goes on in lines that begin with four spaces. Mutations of
+different functions are tried together, since a function is proved from the contracts of those that it calls; one that
+isn't refused so is tried again alone.
 """
 import glob
 import os
@@ -46,6 +47,7 @@ class Mutation:
     changes: list = field(default_factory=list)  # (file, function or None, old, new)
     places: set = field(default_factory=set)  # the functions that it changes
     is_edit: bool = False  # whether it is a file of must-fail, whose texts stand as they are
+    unread: str = ""  # a line that means nothing
 
     def function(self):
         return self.refused.partition(", ")[0]
@@ -65,9 +67,16 @@ class Mutation:
 
 def parsed(name, lines):
     """The mutation that these lines describe."""
-    mutation, file, function, old = Mutation(name), None, None, None
+    mutation, file, function, old, last = Mutation(name), None, None, None, ""
     for line in lines:
         key, _, value = line.partition(": ")
+        if line.startswith("    ") and last == "old":
+            old += " " + line.strip()
+            continue
+        if line.startswith("    ") and last.startswith("new"):
+            mutation.changes[-1] = (*mutation.changes[-1][:3], mutation.changes[-1][3] + " " + line.strip())
+            continue
+        last = key
         if key == "breaks":
             mutation.breaks = value
         elif key == "refused":
@@ -80,6 +89,8 @@ def parsed(name, lines):
             old = value
         elif key in ("new", "new:"):
             mutation.changes.append((file, function, old, value))
+        elif line.strip():
+            mutation.unread = line.strip()
     return mutation
 
 
@@ -332,6 +343,8 @@ def read(name, _crates):
             fault = "its name is another's, too"
         elif not mutation.breaks:
             fault = "it doesn't say what breaks"
+        elif mutation.unread:
+            fault = f"it has a line that means nothing: {mutation.unread}"
         elif not applied(mutation, folder):
             fault = "an 'old' text isn't in its file once"
         seen.add(mutation.name)

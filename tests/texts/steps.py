@@ -4,8 +4,9 @@ In ar_index and ar_book a function counts its steps if it takes `steps: &mut Ste
 count of its own (`Steps::new`). Each of its loops ticks, also one that is a value; it ticks if it calls itself, or does
 so by others; it walks no list or range by a method; and it calls only functions that count too, or that do none of this
 in them and in what they call. It goes by the names of functions: where two have one name, both are meant. What may be a
-recursion it knows more exactly: a call without `steps` is of no function that counts; one by `self`, or by a parameter,
-is of its type; and one by any other value is followed only with `steps`. Look-ups in a map aren't looked at.
+recursion it knows more exactly: a call without `steps` is of no function that counts; one by `self`, by a parameter, or
+by a field or an item of one is of its type; and one by any other value is followed only with `steps`. A method that has
+the name of a walk but is one of these crates is a walk only of what a call returned. Look-ups in a map are left out.
 """
 import glob
 import os
@@ -16,7 +17,10 @@ from tests.texts import report
 
 CRATES = ["ar_index", "ar_book"]
 # Loops that needn't tick, and why.
-EXCEPT = {"refresh_blank": "its bound counts the groups that it refreshes, and says so"}
+EXCEPT = {
+    "refresh_blank": "its bound counts the groups that it refreshes, and says so",
+    "first": "each round counts at the chunk that it looks at",
+}
 TICK = "steps.tick()"
 LOOP = re.compile(r"\b(?:for|while|loop)\b(?!<)")
 # Methods that go through the items of a list, a range or another iterator.
@@ -29,6 +33,9 @@ WALKS = r"""
 WALK = re.compile(rf"(?:\.|::)(?:{'|'.join(WALKS)})(?:::<[^>]*>)?\(|\.(?:min|max)\(\)")
 CALL = re.compile(r"(?:(\.?[\w\])?]+)(\.|::))?\b(\w+)(?:::<[^>]*>)?\(")
 PARAMETER = re.compile(r"\b(\w+): &?(?:'\w+ )?(?:mut )?(\w+)")
+# A field of a struct, and the type of it or, if it is a list, of its items; a field, or an item of one, before a call.
+FIELD = re.compile(r"^    (?:pub(?:\([^)]*\))? )?(\w+): (?:Vec<)?(\w+)>?,$", re.M)
+BY_FIELD = re.compile(r"\.(\w+)(?:\[\w+\])?$")
 
 
 def inside(text, at, opening="{", closing="}"):
@@ -65,8 +72,15 @@ class Function:
         self.starts = "Steps::new" in self.text
         self.ticks = TICK in self.text
         self.loops = list(LOOP.finditer(self.text))
-        self.walks = bool(self.loops or WALK.search(self.text))
         self.recurs = False
+
+    def walks_by_method(self, by_name):
+        """Whether it goes through a list, a range or another iterator by a method."""
+        for found in WALK.finditer(self.text):
+            name = re.search(r"\w+", found[0])[0]
+            if name not in by_name or self.text[: found.start()].endswith(")"):
+                return True
+        return False
 
     def silent_loops(self):
         """The loops without a tick."""
@@ -74,7 +88,7 @@ class Function:
             if TICK not in body_of_loop(self.text, found.end()):
                 yield self.text[found.start() :].split("\n")[0].strip()
 
-    def called(self, by_name):
+    def called(self, by_name, fields):
         """The functions that it may call, each as precisely as its text says which."""
         for found in CALL.finditer(self.text):
             receiver, by, name = found[1], found[2], found[3]
@@ -86,6 +100,8 @@ class Function:
                     is_meant = other.owner == (self.owner if receiver == "Self" else receiver)
                 elif receiver in self.types:
                     is_meant = other.owner == self.types[receiver]
+                elif (field := BY_FIELD.search(self.text[: found.end(1)])) and field[1] in fields:
+                    is_meant = other.owner in fields[field[1]]
                 else:
                     is_meant = passes
                 if is_meant and other.counts == passes:
@@ -119,12 +135,9 @@ def functions_in(where, text):
         at += 1
 
 
-def find_recursion(functions):
+def find_recursion(functions, by_name, fields):
     """Notes which functions call themselves, directly or by others."""
-    by_name = {}
-    for it in functions:
-        by_name.setdefault(it.name, []).append(it)
-    called = {it: set(it.called(by_name)) for it in functions}
+    called = {it: set(it.called(by_name, fields)) for it in functions}
     for it in functions:
         reached, left = set(), list(called[it])
         while left:
@@ -135,11 +148,15 @@ def find_recursion(functions):
         it.recurs = it in reached
 
 
-def looks_at(functions):
-    """What is looked at in these functions, and what is wrong with it or None."""
-    find_recursion(functions)
+def looks_at(functions, fields):
+    """What is looked at in these functions of structs with these fields, and what is wrong with it or None."""
+    by_name = {}
+    for it in functions:
+        by_name.setdefault(it.name, []).append(it)
+    find_recursion(functions, by_name, fields)
+    walks = {it: it.walks_by_method(by_name) for it in functions}
     # The functions that work without counting, or call one that does.
-    hidden = {it.name for it in functions if not it.counts and (it.walks or it.starts or it.recurs)}
+    hidden = {it.name for it in functions if not it.counts and (walks[it] or it.loops or it.starts or it.recurs)}
     grown = True
     while grown:
         more = {it.name for it in functions if not it.counts and it.calls & hidden}
@@ -150,18 +167,21 @@ def looks_at(functions):
             faults += ["starts a count of its own"] * it.starts
             faults += [f"has a loop without a tick: {line}" for line in it.silent_loops() if it.name not in EXCEPT]
             faults += ["calls itself without a tick"] * (it.recurs and not it.ticks)
-            faults += ["walks a list by a method"] * bool(WALK.search(it.text))
+            faults += ["walks a list by a method"] * walks[it]
             yield f"{it.name} of {it.where}", "; ".join(faults) or None
 
 
 def looks():
     paths = [path for crate in CRATES for path in sorted(glob.glob(f"crates/{crate}/src/*.rt", root_dir=ROOT))]
-    functions = []
+    functions, fields = [], {}
     for path in paths:
         if not path.endswith("/steps.rt"):
             with open(os.path.join(ROOT, path), encoding="utf-8") as file:
-                functions += functions_in(path, file.read())
-    yield from looks_at(functions)
+                text = file.read()
+            functions += functions_in(path, text)
+            for name, of in FIELD.findall(text):
+                fields.setdefault(name, set()).add(of)
+    yield from looks_at(functions, fields)
 
 
 def main(_words):
