@@ -291,12 +291,12 @@ fn kept_blocks_stay_as_they_are(rt: HostRuntime) -> Result<(), AllocError> {
 
 // A sector of a byte, and behind it one of another.
 fn is_split(rt: &impl Abort, what: &str, bytes: &[u8], first: u8, second: u8) {
-    let is_right = match bytes.get(..1_024) {
-        Some(block) => {
-            block[..512].iter().all(|byte| *byte == first)
-                && block[512..].iter().all(|byte| *byte == second)
+    let mut sectors = bytes.chunks_exact(512);
+    let is_right = match (sectors.next(), sectors.next()) {
+        (Some(front), Some(back)) => {
+            front.iter().all(|byte| *byte == first) && back.iter().all(|byte| *byte == second)
         }
-        None => false,
+        _ => false,
     };
     assert!(rt; is_right, "{what} of {first} and {second}");
 }
