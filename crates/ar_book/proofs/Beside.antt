@@ -1,68 +1,55 @@
 -- The lowest hole outside one group.
-use Rattle.std.proofs.Common.{◌≡◌, ℕ, ◌+◌, ◌<◌, ◌≤◌, length, subst, sym, inl, inr, arith}
-use Rattle.std.specs.Option.{unwrap_or}
+use Rattle.std.proofs.Common.{◌≡◌, ◌≢◌, ℕ, suc, ◌+◌, ◌-◌, ◌*◌, ◌^◌, ◌<◌, ◌≤◌, length, ap, subst, sym, inl, inr, arith}
 use Rattle.std.specs.Prelude.{Option, None, Some, IfSome, IfNone}
+use Rattle.std.proofs.Math.Nat.{pow-succ'}
 use Rattle.std.proofs.lemmas.Bool.{cases_lt}
 use Rattle.ar_book.specs.declared.class.Class.{Class}
 use Rattle.ar_book.specs.declared.class.Slot.{Slot}
-use Rattle.ar_book.specs.Tables.{Tables, group_in, slots_of, used}
+use Rattle.ar_book.specs.Tables.{Tables, group_in, class_of, slots_of, used}
 use Rattle.ar_book.specs.Book.{TablesAgree}
 use Rattle.ar_book.specs.Choices.{IsHole, IsHoleOf}
-use Rattle.ar_book.specs.Cleaning.{IsHoleBeside, IsOpenBut, IsOpenBeside, IsLowestHoleBeside}
+use Rattle.ar_book.specs.Cleaning.{IsHoleBeside, IsOpenAfter, IsOpenBeside, IsLowestHoleBeside}
 use Rattle.ar_book.proofs.Searches.{some_hole, hole_counts}
 
--- none of the groups below a number has such a hole, and no more steps were taken than that
-pub record NoneBelow (t : Tables) (c : Class) (g number before steps : ℕ) : Type 0 where
-  pub none : (s : Slot) → s.group < number → IsHoleBeside t c g s → ⊥
-  pub few : steps ≤ before + number
-  pub on : before ≤ steps
-
--- at first, below the lowest group with a hole
-pub none_at_first : (t : Tables) (c : Class) (g steps number : ℕ) (o : Option ℕ)
-    → number ≡ unwrap_or o (length t.groups)
-    → IfSome o (λ m. (s : Slot) → IsHole t c s → m ≤ s.group) → IfNone o ((s : Slot) → IsHole t c s → ⊥)
-    → NoneBelow t c g number steps steps
-none_at_first t c g steps number o is least none =
-    record { none = by o is least none; few = omega arith; on = omega arith }
-  where
-    by : (o : Option ℕ) → number ≡ unwrap_or o (length t.groups)
-        → IfSome o (λ m. (s : Slot) → IsHole t c s → m ≤ s.group) → IfNone o ((s : Slot) → IsHole t c s → ⊥)
-        → (s : Slot) → s.group < number → IsHoleBeside t c g s → ⊥
-    by None is least none s below hole = none s hole.hole
-    by (Some m) is least none s below hole = let le = least s hole.hole in absurd (omega arith)
+-- one step more
+pub one_more : (before steps n : ℕ) → before ≤ steps → 2 ^ (steps - before) ≤ n → 2 ^ (steps + 1 - before) ≤ 2 * n
+one_more before steps n on h =
+    let e : steps + 1 - before ≡ suc (steps - before) = omega arith in
+    omega (arith, ap (λ k. 2 ^ k) e, pow-succ' 2 (steps - before))
 
 module _ (t : Tables) (ok : TablesAgree t) (c : Class) (g : ℕ) where
-  -- a group with such a hole has fewer blocks than slots
-  opens : (s : Slot) → IsHoleBeside t c g s → IsOpenBut t c g s.group
-  opens s h = record {
-    class = h.hole.class;
-    fewer = subst (λ d. used (group_in t.groups s.group) < slots_of t.geometry d) h.hole.class
-        (hole_counts t ok s.group s.slot h.hole.group
-        (record {
-          slot = subst (λ d. s.slot < slots_of t.geometry d) (sym h.hole.class) h.hole.slot;
-          empty = h.hole.empty;
-        }));
-    beside = h.beside;
-  }
-
-  pub none_further : (number before steps : ℕ) → (IsOpenBut t c g number → ⊥) → NoneBelow t c g number before steps
-      → NoneBelow t c g (number + 1) before (steps + 1)
-  none_further number before steps shut old = record {
-    none = λ s below hole. elim (cases_lt s.group number) [
-      | inl under ↦ old.none s under hole
-      | inr le ↦ shut (subst (IsOpenBut t c g) (let e : s.group ≡ number = omega arith in e) (opens s hole))
-    ];
-    few = omega (arith, old.few);
-    on = omega (arith, old.on);
-  }
-
-  pub open_here : (number before steps : ℕ) → number < length t.groups → IsOpenBut t c g number
-      → NoneBelow t c g number before steps → IsOpenBeside t c g number
-  open_here number before steps there has old = record {
+  -- the lowest group with a hole, if that is another
+  pub lowest_beside : (m : ℕ) → m < length t.groups → class_of t m ≡ c → (((i : ℕ) → IsHoleOf t m i → ⊥) → ⊥)
+      → ((s : Slot) → IsHole t c s → m ≤ s.group) → m ≢ g → IsOpenBeside t c g m
+  lowest_beside m there class some least other = record {
     there = there;
-    has = has;
-    least = λ s hole. elim (cases_lt s.group number) [ inl under ↦ absurd (old.none s under hole) | inr le ↦ le ];
+    has = record {
+      class = class;
+      fewer = elim (cases_lt (used (group_in t.groups m)) (slots_of t.geometry c)) [
+        | inl few ↦ few
+        | inr full ↦
+            let slots : slots_of t.geometry (class_of t m) ≡ slots_of t.geometry c = ap (slots_of t.geometry) class in
+            absurd (some (λ i h. let few = hole_counts t ok m i there h in absurd (omega arith)))
+      ];
+      beside = other;
+    };
+    least = λ s h. least s h.hole;
   }
+
+  -- and if it is this one, the lowest after it
+  module _ (first : (s : Slot) → IsHole t c s → g ≤ s.group) where
+    pub after_beside : (o : Option ℕ) → IfSome o (IsOpenAfter t c g) → IfSome o (IsOpenBeside t c g)
+    after_beside None a = tt
+    after_beside (Some m) a = record {
+      there = a.there;
+      has = record { class = a.class; fewer = a.fewer; beside = let ne : m ≢ g = omega (arith, a.after) in ne };
+      least = λ s h. let le = first s h.hole in let ne = h.beside in a.least s h.hole (omega arith);
+    }
+
+    pub none_after : (o : Option ℕ) → IfNone o ((s : Slot) → IsHole t c s → g < s.group → ⊥)
+        → IfNone o ((s : Slot) → IsHoleBeside t c g s → ⊥)
+    none_after (Some m) a = tt
+    none_after None a = λ s h. let le = first s h.hole in let ne = h.beside in a s h.hole (omega arith)
 
   -- the group has a hole
   pub beside_some : (number : ℕ) → IsOpenBeside t c g number → ((i : ℕ) → IsHoleOf t number i → ⊥) → ⊥

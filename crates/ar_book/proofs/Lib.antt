@@ -35,3 +35,4 @@ pub mod FillCounts
 pub mod FillPlaces
 pub mod Counted
 pub mod Emptiest
+pub mod Masks

@@ -1,5 +1,5 @@
 -- The choices at the root of the tree are those of plain searches over the groups.
-use Rattle.std.proofs.Common.{◌≡◌, ℕ, zero, suc, ◌+◌, ◌<◌, ◌≤◌, Bool, true, false, cond, ◌&&◌, Option, None, Some}
+use Rattle.std.proofs.Common.{◌≡◌, ℕ, zero, suc, ◌+◌, ◌-◌, ◌<◌, ◌≤◌, Bool, true, false, cond, ◌&&◌, Option, None, Some}
 use Rattle.std.proofs.Common.{is_some, IsSome, IfSome, IfNone, List, [], ◌∷◌, length, take, drop, get_or, count_by}
 use Rattle.std.proofs.Common.{refl, sym, ap, subst, ◌∙◌, inl, inr, true≢false, arith}
 use Rattle.std.specs.Prelude.{nat_lt}
@@ -7,7 +7,7 @@ use Rattle.std.specs.Option.{option_or}
 use Rattle.std.proofs.lemmas.Bool.{cases_lt, and_parts, and_from}
 use Rattle.std.proofs.lemmas.Bool.Decides.{Decides-ltb}
 use Rattle.std.proofs.lemmas.Option.{none-some, same_Some}
-use Rattle.std.proofs.lemmas.List.{length-take-le, get_or-take, get_or-drop}
+use Rattle.std.proofs.lemmas.List.{length-take-le, length-drop, get_or-take, get_or-drop}
 use Rattle.std.proofs.lemmas.List.Sums.{sum_by-take-drop, sum_by-cons, count_by-le-length}
 use Rattle.ar_disks.specs.declared.address.Addr.{Addr}
 use Rattle.ar_disks.specs.declared.address.Key.{Key}
@@ -18,9 +18,10 @@ use Rattle.ar_index.specs.Choices.{place_in, nothing, join, search_all}
 use Rattle.ar_book.specs.declared.class.Class.{Class}
 use Rattle.ar_book.specs.declared.class.Class.TheVariants.{Free, Mirrored, Parity}
 use Rattle.ar_book.specs.declared.class.Slot.{Slot}
-use Rattle.ar_book.specs.Tables.{GroupState, Tables, group_in, class_of, slots_of, used, is_free, free_groups}
+use Rattle.ar_book.specs.Tables.{GroupState, Tables, no_group, group_in, class_of, slots_of, used, is_free, free_groups}
 use Rattle.ar_book.specs.Choices.{IsHole, IsHoleOf, IsLowestFree}
 use Rattle.ar_book.specs.Book.{TablesAgree}
+use Rattle.ar_book.specs.Cleaning.{IsOpenAfter}
 use Rattle.ar_book.specs.Index.{age_of, choices_by, choices_in, leaves_from, leaves_of, open_in}
 use Rattle.ar_book.proofs.CountLemmas.{all_used, none_used}
 use Rattle.ar_book.proofs.PlaceLemmas.{slots_within}
@@ -98,6 +99,15 @@ module _ (g : Geometry) (place : Addr → ℕ) (age : Key → Age) (q : Choices 
           ≡ cond b (Some n) (q (search_all place (leaves_from g place age (suc n) gs)))
       pick true = refl
       pick false = refl
+
+-- the choices of the groups from a place on
+leaves_drop : (g : Geometry) (place : Addr → ℕ) (age : Key → Age) (k n : ℕ) (gs : List GroupState)
+    → drop k (leaves_from g place age n gs) ≡ leaves_from g place age (n + k) (drop k gs)
+leaves_drop g place age zero n gs = ap (λ m. leaves_from g place age m gs) (let e : n ≡ n + 0 = omega arith in e)
+leaves_drop g place age (suc k) n [] = refl
+leaves_drop g place age (suc k) n (x ∷ gs) =
+    leaves_drop g place age k (suc n) gs
+    ∙ ap (λ m. leaves_from g place age m (drop k gs)) (let e : suc n + k ≡ n + suc k = omega arith in e)
 
 -- whether the two are one class that has slots
 abbrev opens_by : Class → Class → Bool
@@ -295,6 +305,65 @@ module _ (t : Tables) (ok : TablesAgree t) where
         ≡ o → IfNone o ((s : Slot) → IsHole t c s → ⊥)
     open_never None e = open_none e
     open_never (Some m) e = tt
+
+  -- the lowest after one group
+  module _ (c : Class) (g : ℕ) where
+    abbrev later : Option ℕ
+    later = open_in c (search_all (place_in t.units) (drop (g + 1) (leaves_of t.geometry t.units t.groups)))
+
+    abbrev rest : List GroupState
+    rest = drop (g + 1) t.groups
+
+    found_after : later ≡ first_where (opens t.geometry c) (g + 1) rest
+    found_after =
+        ap (λ l. open_in c (search_all (place_in t.units) l))
+        (leaves_drop t.geometry (place_in t.units) (age_of t.units) (g + 1) 0 t.groups
+        ∙ ap (λ n. leaves_from t.geometry (place_in t.units) (age_of t.units) n rest)
+        (let e : 0 + (g + 1) ≡ g + 1 = omega arith in e))
+        ∙ search_first t.geometry (place_in t.units) (age_of t.units) (open_in c) (opens t.geometry c) (open_nothing c)
+        (open_joins (place_in t.units) c) (open_own t.geometry (place_in t.units) (age_of t.units) c) (g + 1) rest
+
+    group_after : (i : ℕ) → group_in rest i ≡ group_in t.groups (g + 1 + i)
+    group_after i = get_or-drop (g + 1) t.groups i no_group
+
+    -- a group after it that doesn't pass has no hole
+    shut : (s : Slot) → IsHole t c s → g < s.group → opens t.geometry c (group_in rest (s.group - (g + 1))) ≡ false → ⊥
+    shut s h past fails =
+        let place : g + 1 + (s.group - (g + 1)) ≡ s.group = omega arith in
+        true≢false (sym (hole_opens c s h)
+        ∙ ap (λ x. opens t.geometry c x) (sym (group_after (s.group - (g + 1)) ∙ ap (group_in t.groups) place)) ∙ fails)
+
+    after_found : (m : ℕ) → later ≡ Some m → IsOpenAfter t c g m
+    after_found m e =
+        let f = first_found (opens t.geometry c) (g + 1) rest m (sym found_after ∙ e) in
+        let here : group_in rest f.place ≡ group_in t.groups m =
+        group_after f.place ∙ ap (group_in t.groups) (sym f.is) in
+        let p = and_parts _ _ (ap (opens t.geometry c) (sym here) ∙ f.passes) in
+        let class = opens_class c (class_of t m) p.0 in
+        let len = length-drop (g + 1) t.groups in
+        record {
+          there = omega (arith, f.is, f.inside, len);
+          class = class;
+          fewer = subst (λ d. used (group_in t.groups m) < slots_of t.geometry d) class
+              ((Decides-ltb (used (group_in t.groups m)) (end m)).0 p.1);
+          after = omega (arith, f.is);
+          least = λ s h past. elim (cases_lt s.group m) [
+            | inl low ↦ absurd (shut s h past (f.least (s.group - (g + 1)) (omega (arith, f.is))))
+            | inr le ↦ le
+          ];
+        }
+
+    pub after_some : (o : Option ℕ) → later ≡ o → IfSome o (IsOpenAfter t c g)
+    after_some None e = tt
+    after_some (Some m) e = after_found m e
+
+    pub after_none : (o : Option ℕ) → later ≡ o → IfNone o ((s : Slot) → IsHole t c s → g < s.group → ⊥)
+    after_none (Some m) e = tt
+    after_none None e = λ s h past.
+        let len = length-drop (g + 1) t.groups in
+        shut s h past
+        (first_none (opens t.geometry c) (g + 1) rest (sym found_after ∙ e) (s.group - (g + 1))
+        (omega (arith, h.group, len)))
 
 -- the lowest free group
 module _ (t : Tables) where

@@ -77,3 +77,11 @@ pub record IsOpenBeside (t : Tables) (c : Class) (g number : ℕ) : Type 0 where
   pub there : number < length t.groups
   pub has : IsOpenBut t c g number
   pub least : (s : Slot) → IsHoleBeside t c g s → number ≤ s.group
+
+-- the lowest group of a class with a hole, among those after one group
+pub record IsOpenAfter (t : Tables) (c : Class) (g number : ℕ) : Type 0 where
+  pub there : number < length t.groups
+  pub class : class_of t number ≡ c
+  pub fewer : used (group_in t.groups number) < slots_of t.geometry c
+  pub after : g < number
+  pub least : (s : Slot) → IsHole t c s → g < s.group → number ≤ s.group

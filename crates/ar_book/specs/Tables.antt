@@ -1,6 +1,7 @@
 -- The book's tables as plain data, and how they are read. A number that isn't in them reads as an empty entry.
-use Rattle.std.specs.Prelude.{ℕ, ◌+◌, ◌-◌, ◌*◌, ◌/◌, ◌<◌, Bool, true, false, List, [], length, slice_index_or, sum_by}
-use Rattle.std.specs.Prelude.{count_by, Option, None, Some, is_some}
+use Rattle.std.specs.Prelude.{◌≡◌, ℕ, ◌+◌, ◌-◌, ◌*◌, ◌/◌, ◌<◌, ◌≤◌, Bool, true, false, if◌then◌else◌, List, [], length}
+use Rattle.std.specs.Prelude.{slice_index_or, sum_by, count_by, Option, None, Some, is_some}
+use Rattle.std.specs.Int.{bit_at}
 use Rattle.std.specs.Option.{unwrap_or}
 use Rattle.std.specs.Map.{lookup, values_of}
 use Rattle.ar_disks.specs.Addresses.{same_addr}
@@ -21,6 +22,12 @@ pub record GroupState : Type 0 where
   pub class : Class
   pub members : Members
   pub slots : List (Option Key)
+
+-- the slots of a group are counted, and marked in a mask: bit i is 1 if slot i is empty, or past the last
+pub record IsMarked (slots : List (Option Key)) (used empty : ℕ) : Type 0 where
+  pub count : used ≡ count_by is_some slots
+  pub few : length slots ≤ 48
+  pub each : (i : ℕ) → i < 64 → bit_at empty i ≡ (if is_some (slice_index_or slots i None) then 0 else 1)
 
 -- a unit: its length in sectors, for each block its home and its write sequence number (stamp), and whether a UNIT
 -- ATTENTION is pending since it was extended

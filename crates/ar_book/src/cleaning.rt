@@ -3,13 +3,13 @@
 // Both are counted as groups change, so no call walks over them. Kept in the search tree, the emptiest group would be
 // found in no step, but each write to a new slot, and each move, would climb to the root for it, and took up to 1.8
 // times as many instructions.
-ghost use Rattle.std.specs.Prelude.{◌≡◌, ◌+◌, ◌*◌, ◌/◌, ◌<◌, ◌≤◌, ℕ, true, false, length, IfSome, IfNone};
+ghost use Rattle.std.specs.Prelude.{◌≡◌, ◌+◌, ◌-◌, ◌*◌, ◌/◌, ◌^◌, ◌<◌, ◌≤◌, ℕ, length, IfSome, IfNone};
 ghost use Rattle.ar_disks.specs.Geometry.{rows_of};
 ghost use Rattle.ar_book.specs.Book.{TablesAgree};
 ghost use Rattle.ar_book.specs.Tables.{used, group_in, slots_of};
 ghost use Rattle.ar_book.specs.Fills.{counted_as};
 ghost use Rattle.ar_book.specs.Cleaning.{holes_of, CanBeEmptied, IsEmptiest, IsFirstBlock};
-ghost use Rattle.ar_book.specs.Cleaning.{IsOpenBut, IsOpenBeside, IsLowestHoleBeside};
+ghost use Rattle.ar_book.specs.Cleaning.{IsHoleBeside, IsOpenBeside, IsLowestHoleBeside};
 
 use crate::group::slots_of;
 use crate::{Book, Class, Slot};
@@ -67,12 +67,14 @@ impl Book {
         unreachable!()
     }
 
-    /// The lowest hole of a class outside `group`, which can be emptied into such holes. Counts a step for each group
-    /// from the lowest with a hole on, and for each slot of the last one up to the hole.
+    /// The lowest hole of a class outside `group`, which can be emptied into such holes. Counts one step, and if
+    /// `group` is the lowest with a hole, one for each node of the search tree above its leaf: at most 12 for up to
+    /// 4,096 groups.
     pub fn hole_beside(&self, class: Class, group: u32, steps: &mut Steps) -> Slot
         requires { CanBeEmptied self.now class group }
         ensures hole { IsLowestHoleBeside self.now class group result }
-        ensures few { steps.new.count ≤ steps.old.count + (length self.now.groups + 3 * rows_of self.now.geometry) }
+        ensures few { length self.now.groups ≤ 4096 → steps.new.count ≤ steps.old.count + 13 }
+        ensures height { 2 ^ (steps.new.count - steps.old.count) ≤ 6 * length self.now.groups }
         ensures on { steps.old.count ≤ steps.new.count }
     {
         let number = self.open_beside(class, group, steps);
@@ -89,28 +91,32 @@ impl Book {
     fn open_beside(&self, class: Class, group: u32, steps: &mut Steps) -> u32
         requires { CanBeEmptied self.now class group }
         ensures found { IsOpenBeside self.now class group result }
-        ensures few { steps.new.count ≤ steps.old.count + length self.now.groups }
+        ensures few { length self.now.groups ≤ 4096 → steps.new.count ≤ steps.old.count + 12 }
+        ensures height { 2 ^ (steps.new.count - steps.old.count) ≤ 3 * length self.now.groups }
         ensures on { steps.old.count ≤ steps.new.count }
         ensures sound { TablesAgree self.now }
     {
-        let lowest = self.open(class).unwrap_or(self.groups());
-        for number in lowest..self.groups() {
-            steps.tick();
-            if self.is_open_but(class, group, number) {
-                return number;
-            }
+        match self.open_but(class, group, steps) {
+            Some(number) => number,
+            None => unreachable!(),
         }
-        unreachable!()
     }
 
-    // Whether group `number` is of `class`, has a hole, and isn't `group`.
-    fn is_open_but(&self, class: Class, group: u32, number: u32) -> bool
-        requires { number < length self.now.groups }
-        ensures yes { result ≡ true → IsOpenBut self.now class group number }
-        ensures no { result ≡ false → IsOpenBut self.now class group number → ⊥ }
+    // The same, or None if no other group of the class has a hole.
+    fn open_but(&self, class: Class, group: u32, steps: &mut Steps) -> Option<u32>
+        requires { group < length self.now.groups }
+        ensures found { IfSome result (IsOpenBeside self.now class group) }
+        ensures none { IfNone result ((slot : Slot) → IsHoleBeside self.now class group slot → ⊥) }
+        ensures few { length self.now.groups ≤ 4096 → steps.new.count ≤ steps.old.count + 12 }
+        ensures height { 2 ^ (steps.new.count - steps.old.count) ≤ 3 * length self.now.groups }
+        ensures on { steps.old.count ≤ steps.new.count }
+        ensures sound { TablesAgree self.now }
     {
-        number != group
-            && self.class(number) == class
-            && self.used(number) < slots_of(self.geometry, class)
+        let lowest = self.open(class)?;
+        if lowest == group {
+            self.open_after(class, group, steps)
+        } else {
+            Some(lowest)
+        }
     }
 }

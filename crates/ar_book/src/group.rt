@@ -1,4 +1,5 @@
-// A group counts its occupied slots, and is free as soon as its last block leaves.
+// A group counts its occupied slots, and is free as soon as its last block leaves. A mask of its empty slots has the
+// lowest of them at once.
 ghost use Rattle.std.specs.Prelude.{◌≡◌, ℕ, ◌+◌, ◌<◌, ◌≤◌, ◌*◌, is_some, count_by, slice_set, length, slice_index_or};
 ghost use Rattle.std.specs.Prelude.{Some, None, IfSome, IfNone, IfOk, IsSome};
 ghost use Rattle.ar_disks.specs.Members.{with_member, stands_on};
@@ -7,6 +8,7 @@ ghost use Rattle.ar_book.specs.Changes.{with_key, with_hole, free_group};
 ghost use Rattle.ar_book.specs.Fills.{count_of};
 
 use crate::Class;
+use crate::mask::{clear_bit, lowest_bit, set_bit};
 use ar_disks::{Geometry, Key, Members, Place};
 use ar_index::Steps;
 use std::alloc::{AllocError, Global};
@@ -39,17 +41,18 @@ pub struct Group {
     members: Members,
     slots: Vec<Option<Key>>,
     used: usize,
+    // Bit i is set if slot i is empty, or past the last.
+    empty: u64,
 }
 
 impl Model for Group {
-    ghost use Rattle.std.specs.Prelude.{◌≡◌, count_by, is_some};
-    ghost use Rattle.ar_book.specs.Tables.{GroupState};
+    ghost use Rattle.ar_book.specs.Tables.{GroupState, IsMarked};
 
     ghost Value = { GroupState };
 
     ghost view = { λ g. record { class = g.class; members = g.members; slots = g.slots.items } };
 
-    ghost invariant = { λ g. g.used ≡ count_by is_some g.slots.items };
+    ghost invariant = { λ g. IsMarked g.slots.items g.used g.empty };
 }
 
 // Sets the block of a slot. Of `used` occupied slots before, returns how many are occupied then.
@@ -71,6 +74,7 @@ fn put(slots: &mut Vec<Option<Key>>, used: usize, slot: u16, key: Option<Key>) -
 impl Group {
     /// A free group of `members`, with `slots` empty slots.
     pub(crate) fn new(alloc: Global, members: Members, slots: u16) -> Result<Group, AllocError>
+        requires { slots ≤ 48 }
         ensures { IfOk result (λ g. g ≡ free_group members slots) }
     {
         Ok(Group {
@@ -78,6 +82,7 @@ impl Group {
             members,
             slots: vec![in alloc; None; slots as usize]?,
             used: 0,
+            empty: u64::MAX,
         })
     }
 
@@ -159,22 +164,16 @@ impl Group {
         &self.slots
     }
 
-    /// The lowest empty slot below `end`. Counts a step for each slot up to it.
+    /// The lowest empty slot below `end`. Counts one step.
     pub(crate) fn first_hole(&self, end: u16, steps: &mut Steps) -> Option<u16>
         ensures found { IfSome result (λ i. (i < end) × (slice_index_or self.now.slots i None ≡ None)) }
         ensures least { IfSome result (λ i. (j : ℕ) → j < i → IsSome (slice_index_or self.now.slots j None)) }
         ensures none { IfNone result ((j : ℕ) → j < end → IsSome (slice_index_or self.now.slots j None)) }
-        ensures counted { IfSome result (λ i. steps.new.count ≡ steps.old.count + i + 1) }
-        ensures few { steps.new.count ≤ steps.old.count + end }
-        ensures on { steps.old.count ≤ steps.new.count }
+        ensures counted { steps.new.count ≡ steps.old.count + 1 }
     {
-        for slot in 0..end {
-            steps.tick();
-            if self.key(slot).is_none() {
-                return Some(slot);
-            }
-        }
-        None
+        steps.tick();
+        let slot = lowest_bit(self.empty);
+        if slot < end { Some(slot) } else { None }
     }
 
     /// Puts the block `key` into a slot.
@@ -183,6 +182,7 @@ impl Group {
         ensures { self.new ≡ with_key self.old slot key }
     {
         self.used = put(&mut self.slots, self.used, slot, Some(key));
+        self.empty = clear_bit(self.empty, slot);
     }
 
     /// Empties a slot. The group is free if no slot is occupied then.
@@ -191,6 +191,7 @@ impl Group {
         ensures { self.new ≡ with_hole self.old slot }
     {
         self.used = put(&mut self.slots, self.used, slot, None);
+        self.empty = set_bit(self.empty, slot);
         if self.used == 0 {
             self.class = Class::Free;
         }

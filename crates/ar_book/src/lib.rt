@@ -11,6 +11,7 @@ mod group;
 mod group_list;
 mod groups;
 mod index;
+mod mask;
 mod moving;
 mod oldest;
 mod places;

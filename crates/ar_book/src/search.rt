@@ -1,11 +1,12 @@
-// A hole is an empty slot of a group in use. The search tree names the lowest group that has one, so that only its
-// slots are scanned, however many groups there are.
-ghost use Rattle.std.specs.Prelude.{◌≡◌, ◌+◌, ◌*◌, ◌<◌, ◌≤◌, ℕ, length, IfSome, IfNone};
+// A hole is an empty slot of a group in use. The search tree names the lowest group that has one, and the mask of that
+// group its lowest, so that no search walks over groups or slots.
+ghost use Rattle.std.specs.Prelude.{◌≡◌, ◌+◌, ◌-◌, ◌*◌, ◌^◌, ◌<◌, ◌≤◌, ℕ, length, IfSome, IfNone};
 ghost use Rattle.std.specs.Option.{option_map};
-ghost use Rattle.ar_disks.specs.Geometry.{rows_of};
 ghost use Rattle.ar_book.specs.declared.class.Slot.{Slot};
 ghost use Rattle.ar_book.specs.Tables.{class_of, group_in, free_groups, used};
 ghost use Rattle.ar_book.specs.Choices.{IsHole, IsHoleOf, IsUpTo, HasUnplacedBlock, IsFullMirrored};
+ghost use Rattle.ar_book.specs.Book.{TablesAgree};
+ghost use Rattle.ar_book.specs.Cleaning.{IsOpenAfter};
 ghost use Rattle.ar_book.specs.Index.{open_in, oldest_in};
 
 use crate::group::slots_of;
@@ -62,29 +63,27 @@ impl Book {
         self.scan(group, &mut Steps::new())
     }
 
-    // The same, with a step counted for each slot up to it.
+    // The same, with one step counted.
     pub(crate) fn scan(&self, group: u32, steps: &mut Steps) -> Option<u16>
         requires { group < length self.now.groups }
         ensures found { IfSome result (IsHoleOf self.now group) }
         ensures least { IfSome result (λ slot. (i : ℕ) → IsHoleOf self.now group i → slot ≤ i) }
         ensures none { IfNone result ((i : ℕ) → IsHoleOf self.now group i → ⊥) }
-        ensures counted { IfSome result (λ slot. steps.new.count ≡ steps.old.count + slot + 1) }
-        ensures few { steps.new.count ≤ steps.old.count + 3 * rows_of self.now.geometry }
-        ensures on { steps.old.count ≤ steps.new.count }
+        ensures counted { steps.new.count ≡ steps.old.count + 1 }
     {
         let group = self.groups.at(group);
         group.first_hole(slots_of(self.geometry, group.class()), steps)
     }
 
-    /// The lowest hole of a class: the lowest empty slot of the lowest group of the class that has one. Counts a step
-    /// for each slot of that group up to the hole, and none if there is no hole.
+    /// The lowest hole of a class: the lowest empty slot of the lowest group of the class that has one. Counts one
+    /// step, and none if there is no hole.
     pub fn hole(&self, class: Class, steps: &mut Steps) -> Option<Slot>
         ensures found { IfSome result (IsHole self.now class) }
         ensures least { IfSome result (λ slot. (other : Slot) → IsHole self.now class other → IsUpTo slot other) }
         ensures none { IfNone result ((other : Slot) → IsHole self.now class other → ⊥) }
-        ensures counted { IfSome result (λ slot. steps.new.count ≡ steps.old.count + slot.slot + 1) }
+        ensures counted { IfSome result (λ _. steps.new.count ≡ steps.old.count + 1) }
         ensures still { IfNone result (steps.new.count ≡ steps.old.count) }
-        ensures few { steps.new.count ≤ steps.old.count + 3 * rows_of self.now.geometry }
+        ensures few { steps.new.count ≤ steps.old.count + 1 }
         ensures on { steps.old.count ≤ steps.new.count }
     {
         let group = self.open(class)?;
@@ -99,8 +98,25 @@ impl Book {
         ensures some { IfSome result (λ group. ((i : ℕ) → IsHoleOf self.now group i → ⊥) → ⊥) }
         ensures least { IfSome result (λ group. (other : Slot) → IsHole self.now class other → group ≤ other.group) }
         ensures none { IfNone result ((other : Slot) → IsHole self.now class other → ⊥) }
+        ensures sound { TablesAgree self.now }
     {
         open_of(&self.index.best(), class)
+    }
+
+    // The lowest group of a class, among those after `group`, that has a hole. Counts a step for each node of the
+    // search tree above that group's leaf.
+    pub(crate) fn open_after(&self, class: Class, group: u32, steps: &mut Steps) -> Option<u32>
+        requires { group < length self.now.groups }
+        ensures found { IfSome result (IsOpenAfter self.now class group) }
+        ensures none { IfNone result ((other : Slot) → IsHole self.now class other → group < other.group → ⊥) }
+        ensures few { length self.now.groups ≤ 4096 → steps.new.count ≤ steps.old.count + 12 }
+        ensures height { 2 ^ (steps.new.count - steps.old.count) ≤ 3 * length self.now.groups }
+        ensures on { steps.old.count ≤ steps.new.count }
+    {
+        let choices = self
+            .index
+            .best_after(group as usize, self.units.map(), steps);
+        open_of(&choices, class)
     }
 
     /// The lowest mirrored group, which is full. It exists if a block has no home, no group has a hole, and one group

@@ -83,7 +83,7 @@ pub free_few : (xs : List Choices) → free_in xs ≤ length xs
 free_few xs = count_by-le-length (λ c. is_some c.free) xs
 
 -- as many leaves stand under a node as its height has it
-under_power : (h : ℕ) → leaves_under h ≡ 2 ^ h
+pub under_power : (h : ℕ) → leaves_under h ≡ 2 ^ h
 under_power zero = refl
 under_power (suc h) = ap (λ n. 2 * n) (under_power h) ∙ sym (pow-succ' 2 h)
 

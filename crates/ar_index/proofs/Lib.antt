@@ -1,3 +1,4 @@
+pub mod After
 pub mod Climb
 pub mod Empty
 pub mod Joins

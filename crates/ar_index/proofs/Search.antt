@@ -11,7 +11,7 @@ use Rattle.ar_index.specs.Tree.{node_at, IsTree, leaves_under}
 use Rattle.ar_index.proofs.Joins.{join_nothing, search_both}
 
 -- the place further on by a number of places
-further : (a b : ℕ) (xs : List Choices) → drop b (drop a xs) ≡ drop (a + b) xs
+pub further : (a b : ℕ) (xs : List Choices) → drop b (drop a xs) ≡ drop (a + b) xs
 further zero b xs = ap (λ n. drop n xs) (let e : b ≡ 0 + b = omega arith in e)
 further (suc a) b [] = nil b ∙ sym (nil (suc a + b))
   where
@@ -21,7 +21,7 @@ further (suc a) b [] = nil b ∙ sym (nil (suc a + b))
 further (suc a) b (x ∷ xs) =
     further a b xs ∙ ap (λ n. drop n (x ∷ xs)) (let e : suc (a + b) ≡ suc a + b = omega arith in e)
 
-some_leaf : (h : ℕ) → 0 < leaves_under h
+pub some_leaf : (h : ℕ) → 0 < leaves_under h
 some_leaf zero = omega arith
 some_leaf (suc h) = let r = some_leaf h in omega arith
 
@@ -33,7 +33,7 @@ inner i w size some h =
 
 module _ (place : Addr → ℕ) (size : ℕ) (nodes : List Choices) (tree : IsTree place size nodes) where
   -- a node is the search over the leaves under it
-  subtree : (h i : ℕ) → 0 < i → i * leaves_under h + leaves_under h ≤ 2 * size
+  pub subtree : (h i : ℕ) → 0 < i → i * leaves_under h + leaves_under h ≤ 2 * size
       → node_at nodes i ≡ search_all place (take (leaves_under h) (drop (i * leaves_under h) nodes))
   subtree zero i some inside =
       let one : i * 1 ≡ i = omega arith in

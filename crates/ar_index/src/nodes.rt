@@ -4,12 +4,13 @@
 //                1                  node 0 is unused
 //            2       3              1 is the root
 //          4   5   6   7            size to 2 * size - 1 are the leaves of groups 0, 1, ..
-ghost use Rattle.std.specs.Prelude.{◌≡◌, ℕ, ◌+◌, ◌-◌, ◌*◌, ◌/◌, ◌^◌, ◌<◌, ◌≤◌, length, drop, slice_set, IfOk, OnErr};
-ghost use Rattle.ar_index.specs.Choices.{place_in, nothing, older, with_oldest, IsChangedTo};
+ghost use Rattle.std.specs.Prelude.{◌≡◌, ◌≢◌, ℕ, ◌+◌, ◌-◌, ◌*◌, ◌/◌, ◌%◌, ◌^◌, ◌<◌, ◌≤◌, length, drop, slice_set};
+ghost use Rattle.std.specs.Prelude.{IfOk, OnErr};
+ghost use Rattle.ar_index.specs.Choices.{place_in, nothing, join, older, search_all, with_oldest, IsChangedTo};
 ghost use Rattle.ar_index.specs.Tree as spec;
 ghost use Rattle.ar_index.specs.declared.choices.Change.{Change};
 ghost use Rattle.ar_index.specs.Tree.{HasJoinedNumbers, IsJoinedAt, AreJoinedAfter, HaveChanged, HaveStayed, IsTree};
-ghost use Rattle.ar_index.specs.Tree.{IsGrown, leaves_in};
+ghost use Rattle.ar_index.specs.Tree.{IsGrown, leaves_in, leaves_under};
 
 use crate::choices::Change;
 use crate::{Age, Choices, Steps};
@@ -183,6 +184,50 @@ pub(crate) fn put_oldest<V>(
 {
     let change = set_oldest_at(nodes, size + leaf, oldest);
     climb(nodes, size, leaf, change, units, steps);
+}
+
+// Joins the choices of a left child's sibling to those found in leaves before it; a right child has none after it.
+fn join_right<V>(
+    nodes: &[Choices],
+    node: usize,
+    found: &Choices,
+    units: &IndexMap<Addr, V>,
+) -> Choices
+    requires { node % 2 ≡ 0 → node + 1 < length nodes.now }
+    ensures left { node % 2 ≡ 0
+        → result ≡ join (place_in units.now.entries) found.now (spec.node_at nodes.now (node + 1)) }
+    ensures right { node % 2 ≢ 0 → result ≡ found.now }
+{
+    if node % 2 == 0 {
+        Choices::join(found, &nodes[node + 1], units)
+    } else {
+        *found
+    }
+}
+
+/// The choices among the leaves after one, in a tree of `size` leaves. A step is a node above that leaf.
+pub(crate) fn after<V>(
+    nodes: &[Choices],
+    size: usize,
+    leaf: usize,
+    units: &IndexMap<Addr, V>,
+    steps: &mut Steps,
+) -> Choices
+    requires tree { IsTree (place_in units.now.entries) size nodes.now }
+    requires height { (h : ℕ) × (leaves_under h ≡ size) }
+    requires there { leaf < size }
+    ensures after { result ≡ search_all (place_in units.now.entries) (drop (leaf + 1) (drop size nodes.now)) }
+    ensures few { 2 ^ (steps.new.count - steps.old.count) ≤ size + leaf }
+    ensures on { steps.old.count ≤ steps.new.count }
+{
+    let mut found = Choices::nothing();
+    let mut node = size + leaf;
+    while node > 1 {
+        steps.tick();
+        found = join_right(nodes, node, &found, units);
+        node /= 2;
+    }
+    found
 }
 
 // A copy of the tree with `more` leaves: first the `size` ones of this tree, then blank ones.

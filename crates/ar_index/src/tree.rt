@@ -1,12 +1,12 @@
 // The search tree: its leaves are the choices of the groups, in order, and its root those among them all. There are
 // fewer than twice as many leaves as groups; those past the last group are blank.
-ghost use Rattle.std.specs.Prelude.{◌≡◌, ℕ, ◌+◌, ◌-◌, ◌^◌, ◌<◌, ◌≤◌, true, cond, length, [], ◌∷◌, ◌++◌, slice_index_or};
-ghost use Rattle.std.specs.Prelude.{slice_set, OnOk, OnErr};
+ghost use Rattle.std.specs.Prelude.{◌≡◌, ℕ, ◌+◌, ◌-◌, ◌*◌, ◌^◌, ◌<◌, ◌≤◌, true, cond, length, [], ◌∷◌, ◌++◌};
+ghost use Rattle.std.specs.Prelude.{drop, slice_index_or, slice_set, OnOk, OnErr};
 ghost use Rattle.ar_disks.specs.declared.address.Addr.{Addr};
 ghost use Rattle.ar_index.specs.Choices.{place_in, nothing, is_nothing, search_all, with_oldest};
 ghost use Rattle.ar_index.specs.Tree.{leaves, free_in, HaveChanged, HaveStayed, IsRight};
 
-use crate::nodes::{make_room, node_at, put, put_oldest};
+use crate::nodes::{after, make_room, node_at, put, put_oldest};
 use crate::{Age, Choices, Steps};
 use ar_disks::Addr;
 use indexmap::IndexMap;
@@ -114,6 +114,24 @@ impl Tree {
             return Choices::nothing();
         }
         node_at(&self.nodes, 1)
+    }
+
+    /// The choices among the groups after one: those of a plain scan from the next to the last. A step is a node above
+    /// its leaf. There are at most 12 for up to 4,096 groups.
+    pub fn best_after<V>(
+        &self,
+        leaf: usize,
+        units: &IndexMap<Addr, V>,
+        steps: &mut Steps,
+    ) -> Choices
+        requires there { leaf < length (leaves self.now) }
+        requires right { IsRight (place_in units.now.entries) self.now }
+        ensures after { result ≡ search_all (place_in units.now.entries) (drop (leaf + 1) (leaves self.now)) }
+        ensures height { 2 ^ (steps.new.count - steps.old.count) ≤ 3 * length (leaves self.now) }
+        ensures few { length (leaves self.now) ≤ 4096 → steps.new.count ≤ steps.old.count + 12 }
+        ensures on { steps.old.count ≤ steps.new.count }
+    {
+        after(&self.nodes, self.size, leaf, units, steps)
     }
 
     /// Sets the choices of one group. A step is a node that is joined: each that changes, and at most one that doesn't,

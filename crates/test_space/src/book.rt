@@ -291,6 +291,37 @@ fn holes_of_a_group(rt: HostRuntime) {
     );
 }
 
+// A group of 48 slots, the most.
+#[test]
+fn holes_of_the_largest_group(rt: HostRuntime) {
+    let parity = Class::Parity;
+    run(
+        &rt,
+        Geometry::PAPER,
+        3,
+        &[
+            (Call::Make(FIRST, 12_288), Answer::Done),
+            (Call::Hole(parity), Answer::Nothing),
+            (Call::Open(parity), Answer::Number(0)),
+            (Call::PlaceAll(FIRST, 0, 47, parity), Answer::Slot(0, 46)),
+            (Call::Hole(parity), Answer::Slot(0, 47)),
+            (Call::Place(FIRST, 47, parity), Answer::Slot(0, 47)),
+            (Call::Hole(parity), Answer::Nothing),
+            (Call::LowestHole(0), Answer::Nothing),
+            (Call::Release(FIRST, 47), Answer::Done),
+            (Call::Hole(parity), Answer::Slot(0, 47)),
+            (Call::Release(FIRST, 31), Answer::Done),
+            (Call::Release(FIRST, 32), Answer::Done),
+            (Call::Hole(parity), Answer::Slot(0, 31)),
+            (Call::Place(FIRST, 50, parity), Answer::Slot(0, 31)),
+            (Call::Hole(parity), Answer::Slot(0, 32)),
+            (Call::Release(FIRST, 0), Answer::Done),
+            (Call::LowestHole(0), Answer::Number(0)),
+            (Call::Used(0), Answer::Number(45)),
+        ],
+    );
+}
+
 // Asks once more where memory was refused, which has left everything as it was.
 fn ask_again(
     rt: &impl Abort,

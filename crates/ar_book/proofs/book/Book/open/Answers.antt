@@ -2,6 +2,7 @@ use Rattle.std.proofs.Common.{◌≡◌, ◌∙◌, ℕ, ◌<◌, ◌≤◌, IfS
 use Rattle.ar_index.specs.Choices.{place_in, search_all}
 use Rattle.ar_book.specs.declared.class.Slot.{Slot}
 use Rattle.ar_book.specs.Tables.{Tables, class_of}
+use Rattle.ar_book.specs.Book.{TablesAgree}
 use Rattle.ar_book.specs.Choices.{IsHole, IsHoleOf}
 use Rattle.ar_book.specs.Index.{open_in}
 use Rattle.ar_book.proofs.Searches.{open_there, open_class, open_some, open_least, open_never}
@@ -58,3 +59,6 @@ returns-clause-none c =
     (sym c.self.invariant.leaves)
     ∙ ap (open_in c.args.class) (sym (c.best.ensures (place_in c.self.inside.units.entries) c.self.invariant.right))
     ∙ sym c.open_of.ensures))
+
+pub returns-clause-sound : goal.returns-clause-sound
+returns-clause-sound c = subst TablesAgree c.self.view_is c.self.invariant.kept.tables
