@@ -1,8 +1,8 @@
 -- Rows that agree, and what reads and writes leave of them.
-use Rattle.std.proofs.Common.{◌≡◌, ◌≢◌, ℕ, ◌<◌, List, sym, ◌∙◌, ap, subst}
+use Rattle.std.proofs.Common.{◌≡◌, ◌≢◌, ℕ, ◌<◌, List, length, sym, ◌∙◌, ap, subst}
 use Rattle.ar_disks.specs.declared.address.Members.{Members}
 use Rattle.ar_disks.specs.declared.geometry.Geometry.{Geometry}
-use Rattle.ar_disks.specs.Block.{xor}
+use Rattle.ar_disks.specs.Block.{xor, part_at}
 use Rattle.ar_disks.specs.Geometry.{block_len_of}
 use Rattle.ar_disks.specs.Members.{member}
 use Rattle.ar_extents.specs.declared.health.Health.TheVariants.{Broken as AllBroken}
@@ -16,6 +16,7 @@ use Rattle.ar_parity.specs.Others.{low_other, high_other}
 use Rattle.ar_parity.specs.Group.{Stands, RowAgrees, KeepsButRow}
 use Rattle.ar_disks.specs.Endings.{OnDone}
 use Rattle.ar_parity.proofs.Sums.{sum_of_others, back_from_sum}
+use Rattle.ar_parity.proofs.PartSums.{part_at-xor, part_at-whole}
 
 -- of a member that is lost anything may be said
 pub lost_stands : (s : SetState) (m : Members) (row i : ℕ) (bytes : List ℕ) → IsLost s (member m i)
@@ -58,55 +59,79 @@ pub broken_agrees : (s : SetState) (m : Members) (row : ℕ) (blocks : Blocks) �
     → AddUp (block_len_of s.geometry) blocks → RowAgrees s m row blocks
 broken_agrees s m row blocks is up = record { add_up = up; stand = λ i lt. broken_stands s m row i (block blocks i) is }
 
--- two of the blocks beside a lost one, read in turn and added
-two_sum : (s t : SetState) (m : Members) (row lost beside low high : ℕ) (x y : List ℕ) → lost < 4 → beside < 4
+-- parts of two of the blocks beside a lost one, read in turn and added
+two_sum : (s t : SetState) (m : Members) (row lost beside low high first n : ℕ) (x y : List ℕ) → lost < 4 → beside < 4
     → beside ≢ lost
     → low ≡ low_other lost beside → high ≡ high_other lost beside → low < 4 → high < 4 → Follows s t
     → Keeps Anywhere s t
-    → ((b : List ℕ) → Stands s m row low b → x ≡ b) → ((b : List ℕ) → Stands t m row high b → y ≡ xor x b)
-    → (blocks : Blocks) → RowAgrees s m row blocks → y ≡ xor (block blocks beside) (block blocks lost)
-two_sum s t m row lost beside low high x y ll lb ne is_low is_high ll_low ll_high st keeps first second blocks agrees =
-    let one = first (block blocks low) (agrees.stand low ll_low) in
-    let two = second (block blocks high)
+    → ((b : List ℕ) → Stands s m row low b → x ≡ part_at b first n)
+    → ((b : List ℕ) → Stands t m row high b → y ≡ xor x (part_at b first n))
+    → (blocks : Blocks) → RowAgrees s m row blocks
+    → y ≡ part_at (xor (block blocks beside) (block blocks lost)) first n
+two_sum s t m row lost beside low high first n x y ll lb ne is_low is_high ll_low ll_high st keeps one two blocks
+    agrees =
+    let of_low = one (block blocks low) (agrees.stand low ll_low) in
+    let of_high = two (block blocks high)
     (stands_read s t m row high (block blocks high) st keeps (agrees.stand high ll_high)) in
     let sum = sum_of_others (block_len_of s.geometry) blocks lost beside agrees.add_up ll lb (λ e. ne (sym e)) in
-    two ∙ ap (λ z. xor z (block blocks high)) one
-    ∙ ap (λ i. xor (block blocks i) (block blocks high)) is_low
+    of_high ∙ ap (λ z. xor z (part_at (block blocks high) first n)) of_low
+    ∙ sym (part_at-xor (block blocks low) (block blocks high) first n)
+    ∙ ap (λ z. part_at z first n)
+    (ap (λ i. xor (block blocks i) (block blocks high)) is_low
     ∙ ap (λ i. xor (block blocks (low_other lost beside)) (block blocks i)) is_high
-    ∙ sum
+    ∙ sum)
 
 -- the third one, added to that sum
-three_sum : (s t : SetState) (m : Members) (row lost third : ℕ) (x y : List ℕ) → third < 4 → Follows s t
+three_sum : (s t : SetState) (m : Members) (row lost third first n : ℕ) (x y : List ℕ) → third < 4 → Follows s t
     → Keeps Anywhere s t
-    → ((blocks : Blocks) → RowAgrees s m row blocks → x ≡ xor (block blocks third) (block blocks lost))
-    → ((b : List ℕ) → Stands t m row third b → y ≡ xor x b)
-    → (blocks : Blocks) → RowAgrees s m row blocks → y ≡ block blocks lost
-three_sum s t m row lost third x y lt st keeps first second blocks agrees =
+    → ((blocks : Blocks) → RowAgrees s m row blocks
+    → x ≡ part_at (xor (block blocks third) (block blocks lost)) first n)
+    → ((b : List ℕ) → Stands t m row third b → y ≡ xor x (part_at b first n))
+    → (blocks : Blocks) → RowAgrees s m row blocks → y ≡ part_at (block blocks lost) first n
+three_sum s t m row lost third first n x y lt st keeps two last blocks agrees =
     let up = agrees.add_up in
-    second (block blocks third) (stands_read s t m row third (block blocks third) st keeps (agrees.stand third lt))
-    ∙ ap (λ z. xor z (block blocks third)) (first blocks agrees)
-    ∙ back_from_sum (block_len_of s.geometry) (block blocks lost) (block blocks third) (up.lengths lost)
-    (up.lengths third)
+    let sum : List ℕ = xor (block blocks third) (block blocks lost) in
+    last (block blocks third) (stands_read s t m row third (block blocks third) st keeps (agrees.stand third lt))
+    ∙ ap (λ z. xor z (part_at (block blocks third) first n)) (two blocks agrees)
+    ∙ sym (part_at-xor sum (block blocks third) first n)
+    ∙ ap (λ z. part_at z first n)
+    (back_from_sum (block_len_of s.geometry) (block blocks lost) (block blocks third) (up.lengths lost)
+    (up.lengths third))
 
 -- and so where the last read answers that it is done
-pub two_sum_done : (o : Completion) (s t : SetState) (m : Members) (row lost beside low high : ℕ) (x y : List ℕ)
-    → lost < 4 → beside < 4 → beside ≢ lost
+pub two_sum_done : (o : Completion) (s t : SetState) (m : Members) (row lost beside low high first n : ℕ)
+    (x y : List ℕ) → lost < 4 → beside < 4 → beside ≢ lost
     → low ≡ low_other lost beside → high ≡ high_other lost beside → low < 4 → high < 4 → Follows s t
     → Keeps Anywhere s t
-    → ((b : List ℕ) → Stands s m row low b → x ≡ b) → OnDone o ((b : List ℕ) → Stands t m row high b → y ≡ xor x b)
-    → OnDone o ((blocks : Blocks) → RowAgrees s m row blocks → y ≡ xor (block blocks beside) (block blocks lost))
-two_sum_done Done s t m row lost beside low high x y ll lb ne is_low is_high ll_low ll_high st keeps first second =
-    two_sum s t m row lost beside low high x y ll lb ne is_low is_high ll_low ll_high st keeps first second
-two_sum_done Broken s t m row lost beside low high x y ll lb ne is_low is_high ll_low ll_high st keeps first second = tt
+    → ((b : List ℕ) → Stands s m row low b → x ≡ part_at b first n)
+    → OnDone o ((b : List ℕ) → Stands t m row high b → y ≡ xor x (part_at b first n))
+    → OnDone o ((blocks : Blocks) → RowAgrees s m row blocks
+    → y ≡ part_at (xor (block blocks beside) (block blocks lost)) first n)
+two_sum_done Done s t m row lost beside low high first n x y ll lb ne is_low is_high ll_low ll_high st keeps one two =
+    two_sum s t m row lost beside low high first n x y ll lb ne is_low is_high ll_low ll_high st keeps one two
+two_sum_done Broken s t m row lost beside low high first n x y ll lb ne is_low is_high ll_low ll_high st keeps one
+    two = tt
 
-pub three_sum_done : (o : Completion) (s t : SetState) (m : Members) (row lost third : ℕ) (x y : List ℕ) → third < 4
-    → Follows s t → Keeps Anywhere s t
-    → ((blocks : Blocks) → RowAgrees s m row blocks → x ≡ xor (block blocks third) (block blocks lost))
-    → OnDone o ((b : List ℕ) → Stands t m row third b → y ≡ xor x b)
-    → OnDone o ((blocks : Blocks) → RowAgrees s m row blocks → y ≡ block blocks lost)
-three_sum_done Done s t m row lost third x y lt st keeps first second =
-    three_sum s t m row lost third x y lt st keeps first second
-three_sum_done Broken s t m row lost third x y lt st keeps first second = tt
+pub three_sum_done : (o : Completion) (s t : SetState) (m : Members) (row lost third first n : ℕ) (x y : List ℕ)
+    → third < 4 → Follows s t → Keeps Anywhere s t
+    → ((blocks : Blocks) → RowAgrees s m row blocks
+    → x ≡ part_at (xor (block blocks third) (block blocks lost)) first n)
+    → OnDone o ((b : List ℕ) → Stands t m row third b → y ≡ xor x (part_at b first n))
+    → OnDone o ((blocks : Blocks) → RowAgrees s m row blocks → y ≡ part_at (block blocks lost) first n)
+three_sum_done Done s t m row lost third first n x y lt st keeps two last =
+    three_sum s t m row lost third first n x y lt st keeps two last
+three_sum_done Broken s t m row lost third first n x y lt st keeps two last = tt
+
+-- all of a part is the block
+pub whole_sum : (o : Completion) (s : SetState) (m : Members) (row lost : ℕ) (x : List ℕ)
+    → length x ≡ block_len_of s.geometry
+    → OnDone o ((blocks : Blocks) → RowAgrees s m row blocks → x ≡ part_at (block blocks lost) 0 (length x))
+    → OnDone o ((blocks : Blocks) → RowAgrees s m row blocks → x ≡ block blocks lost)
+whole_sum Done s m row lost x len part = λ blocks agrees.
+    part blocks agrees
+    ∙ ap (λ n. part_at (block blocks lost) 0 n) (len ∙ sym (agrees.add_up.lengths lost))
+    ∙ part_at-whole (block blocks lost)
+whole_sum Broken s m row lost x len part = tt
 
 -- a row beside the one that was written agrees on what it agreed on
 pub other_row_agrees : (a b : SetState) (m : Members) (row r : ℕ) (blocks : Blocks) → Follows a b

@@ -1,4 +1,5 @@
 pub mod Sums
+pub mod PartSums
 pub mod Agrees
 pub mod Updates
 pub mod SlotLemmas

@@ -1,6 +1,7 @@
 -- What calls on a parity group return.
 use Rattle.std.specs.Prelude.{◌≡◌, ◌≢◌, ℕ, List}
 use Rattle.ar_disks.specs.declared.address.Members.{Members}
+use Rattle.ar_disks.specs.Block.{with_sectors}
 use Rattle.ar_disks.specs.Members.{member}
 use Rattle.ar_extents.specs.declared.health.Health.TheVariants.{Broken as AllBroken}
 use Rattle.ar_extents.specs.Set.{SetState, content}
@@ -21,6 +22,12 @@ ReportsFailure s Broken = s.health ≡ AllBroken
 pub record UpdatesStripe (old new : SetState) (m : Members) (row position : ℕ) (bytes : List ℕ) : Type 0 where
   pub agrees : (blocks : Blocks) → RowAgrees old m row blocks
       → RowAgrees new m row (changed blocks position (parity_position row) bytes)
+
+-- the same of a block of which a part is overwritten, from sector `first` on
+pub record UpdatesPart (old new : SetState) (m : Members) (row position first : ℕ) (bytes : List ℕ) : Type 0 where
+  pub agrees : (blocks : Blocks) → RowAgrees old m row blocks
+      → RowAgrees new m row
+      (changed blocks position (parity_position row) (with_sectors (block blocks position) first bytes))
 
 -- The member's row has the block that agrees with the three others, and health is unchanged.
 pub record IsRebuilt (old new : SetState) (m : Members) (position row : ℕ) : Type 0 where

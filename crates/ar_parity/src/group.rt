@@ -11,12 +11,10 @@ ghost use Rattle.ar_parity.specs.Group.{RowAgrees, Holds, StopsOpening};
 ghost use Rattle.ar_disks.specs.Endings.{OnDone};
 ghost use Rattle.ar_parity.specs.Call.{UpdatesStripe};
 
-use crate::degraded::sum_of_three;
-use crate::slots::{data_at, row_of_slot};
-use crate::update::change;
+use crate::parts::{get_part, put_part};
 use crate::zero::zero_row;
 use ar_disks::{Completion, Disk, Members, Scratch};
-use ar_extents::{DiskSet, Got};
+use ar_extents::DiskSet;
 
 /// Writes zeros to every row of the members that aren't missing, in order of the rows: every slot then holds zeros.
 ///
@@ -74,13 +72,7 @@ pub fn get<D: Disk>(
 
     ensures scratch { scratch.new.geometry ≡ scratch.old.geometry }
 {
-    let row = row_of_slot(slot);
-    let position = data_at(slot);
-    match set.get(members.at(position), row, into) {
-        Got::Read => Completion::Done,
-        Got::Missing => sum_of_three(set, members, position, row, into, scratch.first.bytes_mut()),
-        Got::Broken => Completion::Broken,
-    }
+    get_part(set, members, slot, 0, into, scratch)
 }
 
 /// Writes `from`, a block of the set's length, to slot `slot`, below three times the rows of an extent, and updates the
@@ -111,12 +103,5 @@ pub fn put<D: Disk>(
 
     ensures scratch { scratch.new.geometry ≡ scratch.old.geometry }
 {
-    change(
-        set,
-        members,
-        data_at(slot),
-        row_of_slot(slot),
-        from,
-        scratch,
-    )
+    put_part(set, members, slot, 0, from, scratch)
 }

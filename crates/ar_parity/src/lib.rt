@@ -16,6 +16,6 @@ mod zero;
 pub use ar_extents::RowOutcome;
 pub use group::{get, open_zero, put};
 pub use laws::{parity_accesses, redundancy};
-pub use parts::get_part;
+pub use parts::{get_part, put_part};
 pub use rebuild::rebuild_row;
 pub use stripe::put_stripe;

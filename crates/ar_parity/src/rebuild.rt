@@ -11,7 +11,7 @@ ghost use Rattle.ar_parity.specs.Row.{Blocks};
 ghost use Rattle.ar_parity.specs.Group.{RowAgrees};
 ghost use Rattle.ar_parity.specs.Call.{Rebuilds};
 
-use crate::degraded::sum_of_three;
+use crate::degraded::lost_block;
 use ar_disks::{Completion, Disk, Members, Scratch};
 use ar_extents::{DiskSet, PutNew, RowOutcome};
 
@@ -42,7 +42,7 @@ pub fn rebuild_row<D: Disk>(
 
     ensures scratch { scratch.new.geometry ≡ scratch.old.geometry }
 {
-    match sum_of_three(
+    match lost_block(
         set,
         members,
         position,

@@ -1,13 +1,17 @@
 // The write of a whole stripe. Its parity comes from the new blocks alone, so nothing is read.
-ghost use Rattle.std.specs.Prelude.{◌≡◌, ◌<◌, length};
+ghost use Rattle.std.specs.Prelude.{◌≡◌, ◌≢◌, ℕ, ◌<◌, length};
 ghost use Rattle.ar_disks.specs.Geometry.{rows_of, block_len_of};
+ghost use Rattle.ar_disks.specs.Members.{member};
+ghost use Rattle.ar_extents.specs.Set.{content};
+ghost use Rattle.ar_extents.specs.Follows.{Follows};
 ghost use Rattle.ar_extents.specs.Groups.{IsGroup, outcome_of};
 ghost use Rattle.ar_extents.specs.Plans.{CarriesOut, each_of};
-ghost use Rattle.ar_parity.specs.Plans.{stripe_writes};
-ghost use Rattle.ar_parity.specs.Group.{HoldsStripe};
+ghost use Rattle.ar_parity.specs.Plans.{stripe_writes, write_two};
+ghost use Rattle.ar_parity.specs.Group.{HoldsStripe, Stands};
+ghost use Rattle.ar_parity.specs.Call.{ReportsFailure};
 
 use crate::slots::{data_at, parity_at};
-use crate::update::write_both;
+use crate::steps::write;
 use ar_disks::{Completion, Disk, Members, add_both_into};
 use ar_extents::DiskSet;
 
@@ -58,4 +62,36 @@ pub fn put_stripe<D: Disk>(
         third,
         first,
     )
+}
+
+// Writes a block of a stripe, and then another, each unless its member is missing.
+fn write_both<D: Disk>(
+    set: &mut DiskSet<D>,
+    members: &Members,
+    position: u8,
+    parity: u8,
+    row: u16,
+    from: &[u8],
+    sum: &[u8],
+) -> Completion
+    requires group { IsGroup set.old members.now }
+    requires below { position < 4 }
+    requires parity_below { parity < 4 }
+    requires apart { position ≢ parity }
+    requires row { row < rows_of set.old.geometry }
+    requires whole { length from.now ≡ block_len_of set.old.geometry }
+    requires sum_whole { length sum.now ≡ block_len_of set.old.geometry }
+
+    ensures answer { ReportsFailure set.new result }
+    ensures block { Stands set.new members.now row position from.now }
+    ensures parity { Stands set.new members.now row parity sum.now }
+    ensures others { (i : ℕ) → i < 4 → i ≢ position → i ≢ parity
+        → content set.new (member members.now i) row ≡ content set.old (member members.now i) row }
+    ensures follows { Follows set.old set.new }
+    ensures plan { CarriesOut (write_two members.now position parity row) set.old set.new }
+{
+    match write(set, members, position, row, from) {
+        Completion::Done => write(set, members, parity, row, sum),
+        Completion::Broken => Completion::Broken,
+    }
 }

@@ -1,3 +1,6 @@
+use Rattle.std.proofs.Common.{length, ap, sym, ◌∙◌}
+use Rattle.ar_disks.specs.Block.{xor, part_at}
+use Rattle.ar_parity.specs.Row.{block}
 use Rattle.ar_parity.proofs.Agrees.{three_sum_done}
 use Rattle.ar_disks.specs.Members.{member}
 use Rattle.ar_extents.specs.Groups.{IsMember}
@@ -19,9 +22,12 @@ add_beside-requires-clause-beside g c = record {
 pub returns-in-Done-clause-block : goal.returns-in-Done-clause-block
 returns-in-Done-clause-block g c =
     three_sum_done c.add_beside.result c.args.set.now c.sum_of_two.new.set c.args.members.now c.args.row c.args.lost
-    c.another-third.result
+    c.another-third.result c.args.first (length c.add_beside.new.into)
     c.sum_of_two.new.into c.add_beside.new.into c.another-third.ensures.below
-    c.in-Done.ensures.works.follows c.in-Done.ensures.keeps c.in-Done.ensures.sum c.add_beside.ensures.bytes
+    c.in-Done.ensures.works.follows c.in-Done.ensures.keeps
+    (λ blocks agrees. c.in-Done.ensures.sum blocks agrees
+    ∙ ap (λ n. part_at (xor (block blocks c.another-third.result) (block blocks c.args.lost)) c.args.first n)
+    (sym c.add_beside.auto.into)) c.add_beside.ensures.bytes
 
 pub returns-in-Done-clause-works : goal.returns-in-Done-clause-works
 returns-in-Done-clause-works g c =

@@ -1,3 +1,5 @@
+use Rattle.std.proofs.Common.{length, ap, sym, ◌∙◌}
+use Rattle.ar_disks.specs.Block.{part_at}
 use Rattle.ar_parity.proofs.Agrees.{two_sum_done}
 use Rattle.ar_disks.specs.Members.{member}
 use Rattle.ar_extents.specs.Groups.{IsMember}
@@ -28,10 +30,13 @@ pub returns-in-Done-clause-sum : goal.returns-in-Done-clause-sum
 returns-in-Done-clause-sum g c =
     two_sum_done c.add_beside.result c.args.set.now c.read_beside.new.set c.args.members.now c.args.row c.args.lost
     c.args.beside
-    c.lowest_beside-low.result c.highest_beside-high.result c.read_beside.new.into c.add_beside.new.into
+    c.lowest_beside-low.result c.highest_beside-high.result c.args.first (length c.add_beside.new.into)
+    c.read_beside.new.into c.add_beside.new.into
     c.requires.lost_below c.requires.below c.requires.apart c.lowest_beside-low.ensures.position
     c.highest_beside-high.ensures.position c.lowest_beside-low.ensures.below c.highest_beside-high.ensures.below
-    c.in-Done.ensures.works.follows c.in-Done.ensures.keeps c.in-Done.ensures.bytes c.add_beside.ensures.bytes
+    c.in-Done.ensures.works.follows c.in-Done.ensures.keeps
+    (λ b stands. c.in-Done.ensures.bytes b stands
+    ∙ ap (λ n. part_at b c.args.first n) (sym c.add_beside.auto.into)) c.add_beside.ensures.bytes
 
 pub returns-in-Done-clause-works : goal.returns-in-Done-clause-works
 returns-in-Done-clause-works g c =

@@ -13,7 +13,7 @@ pub returns-in-Missing-clause-plan : goal.returns-in-Missing-clause-plan
 returns-in-Missing-clause-plan g c =
     read_carried c.args.members.now c.args.slot _ _ _ _ _ c.data_at-position.ensures.position c.row_of_slot-row.ensures
     c.at.ensures
-    (falls_back _ _ _ _ _ _ c.in-Missing.ensures.made (all_read _ _ _ _ c.part_of_lost.ensures.made))
+    (falls_back _ _ _ _ _ _ c.in-Missing.ensures.made (all_read _ _ _ _ c.sum_of_three.ensures.made))
 
 pub returns-in-Broken-clause-plan : goal.returns-in-Broken-clause-plan
 returns-in-Broken-clause-plan g c =

@@ -11,7 +11,7 @@ returns-in-Missing g c =
     let m = c.args.members.now in
     let other = c.requires.beside in
     let tried = attempt_at (λ p. read_at p c.args.row) _ _ (member m c.args.position) _ _ c.at.ensures
-    (unread _ _ _ _ c.in-Missing.is c.get.ensures.made) in
+    (unread _ _ _ _ c.in-Missing.is c.get_part.ensures.made) in
     record {
       answer = unread_beside (member m other.lost) (member m c.args.position) c.args.row _ _ other.is_lost
           (λ same. c.requires.group.apart c.args.position other.lost c.requires.below other.below other.apart
