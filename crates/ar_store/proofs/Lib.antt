@@ -18,6 +18,7 @@ pub mod Costs
 pub mod SqueezeCosts
 pub mod Planned
 pub mod Deciding
+pub mod Gaps
 pub mod Overwriting
 pub mod PutPlans
 pub mod OnePlan

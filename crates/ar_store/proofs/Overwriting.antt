@@ -1,32 +1,19 @@
--- Where a mirrored block is overwritten in part: in its home, as a put of the whole block would be.
-use Rattle.std.proofs.Common.{◌≡◌, inl, ℕ, ◌+◌, ◌*◌, ◌≤◌, ◌++◌, true, List, length, take, drop, None, Some, refl, sym}
-use Rattle.std.proofs.Common.{replicate, ◌-◌, ap, ◌∙◌, arith}
-use Rattle.std.proofs.lemmas.List.{length-append, length-take-le, length-drop, drop-replicate, take-replicate}
-use Rattle.ar_disks.specs.Block.{zeros, part_at, with_sectors}
+-- Where a block is overwritten in part: in its home, as a put of the whole block would be.
+use Rattle.std.proofs.Common.{◌≡◌, ◌⊎◌, inl, inr, ℕ, ◌+◌, ◌-◌, ◌*◌, ◌<◌, ◌≤◌, true, take, drop, replicate}
+use Rattle.std.proofs.Common.{None, Some, refl, sym, ap, ◌∙◌, true≢false, arith}
+use Rattle.std.proofs.lemmas.List.{drop-replicate, take-replicate}
+use Rattle.ar_disks.specs.Block.{zeros, part_at}
 use Rattle.ar_disks.specs.declared.address.Key.{Key}
 use Rattle.ar_book.specs.declared.class.Class.TheVariants.{Mirrored}
 use Rattle.ar_book.specs.declared.class.Level.{Level}
 use Rattle.ar_book.specs.declared.class.Level.TheVariants.{Unplaced, Mirrored as MirroredLevel, Parity as ParityLevel}
 use Rattle.ar_book.specs.declared.class.Slot.{Slot}
-use Rattle.ar_book.specs.Tables.{Tables, home, level, class_of}
-use Rattle.ar_book.proofs.Homes.{home_level}
+use Rattle.ar_book.specs.Tables.{Tables, home, level, free_groups}
 use Rattle.ar_store.specs.Store.{StoreState}
-use Rattle.ar_store.specs.Placing.{LeadsHome, is_mirrored_level, is_mirrored_home}
+use Rattle.ar_store.specs.Placing.{HasNoHole, LeadsHome, is_in_place_at, is_put_in_place}
 use Rattle.ar_store.specs.Plans.{CarriesOutSearch}
-use Rattle.ar_store.proofs.Ways.{nowhere, unplaced_not_mirrored}
-use Rattle.ar_store.proofs.Planned.{high_class}
-
-pub length-with_sectors : (block bytes : List ℕ) (first : ℕ) → 512 * first + length bytes ≤ length block
-    → length (with_sectors block first bytes) ≡ length block
-unfolding with_sectors
-length-with_sectors block bytes first fits =
-    omega (
-      arith,
-      length-append (take (512 * first) block) (bytes ++ drop (512 * first + length bytes) block),
-      length-append bytes (drop (512 * first + length bytes) block),
-      length-take-le (512 * first) block (omega arith),
-      length-drop (512 * first + length bytes) block,
-    )
+use Rattle.ar_store.proofs.Gaps.{lacks_then}
+use Rattle.ar_store.proofs.Ways.{nowhere}
 
 -- a part of zeros
 pub part_at_zeros : (n first len : ℕ) → 512 * first + len ≤ n → part_at (zeros n) first len ≡ zeros len
@@ -37,28 +24,27 @@ part_at_zeros n first len fits =
     ∙ ap (λ l. take len l) (drop-replicate (512 * first) n 0)
     ∙ take-replicate len (n - 512 * first) 0 (omega arith)
 
-is_high : (l : Level) → is_mirrored_level l ≡ true → l ≡ MirroredLevel
-is_high Unplaced is = absurd (cc)
-is_high MirroredLevel is = refl
-is_high ParityLevel is = absurd (cc)
+-- the levels of blocks that are overwritten in place
+by_level : (l : Level) (t : Tables) → is_in_place_at l t ≡ true
+    → (l ≡ MirroredLevel) ⊎ ((l ≡ ParityLevel) × HasNoHole t Mirrored × (free_groups t < 2))
+by_level Unplaced t is = absurd (true≢false (sym is))
+by_level MirroredLevel t is = inl refl
+by_level ParityLevel t is = let lacks = lacks_then t is in inr (refl, lacks.0, lacks.1)
 
--- a mirrored block has a home
-pub mirrored_somewhere : (t : Tables) (k : Key) → is_mirrored_home t k ≡ true → home t k ≡ None → ⊥
-mirrored_somewhere t k is none = unplaced_not_mirrored (sym (nowhere t k none) ∙ is_high (level t k) is)
+-- such a block has a home
+pub never_unplaced : (t : Tables) (k : Key) → is_put_in_place t k ≡ true → level t k ≡ Unplaced → ⊥
+never_unplaced t k is at = true≢false (sym is ∙ ap (λ (l : Level). is_in_place_at l t) at)
 
--- in a mirrored group
-pub mirrored_group : (t : Tables) (k : Key) (s : Slot) → is_mirrored_home t k ≡ true → home t k ≡ Some s
-    → class_of t s.group ≡ Mirrored
-mirrored_group t k s is there =
-    high_class (class_of t s.group) (sym (home_level t k s there) ∙ is_high (level t k) is)
+pub somewhere : (t : Tables) (k : Key) → is_put_in_place t k ≡ true → home t k ≡ None → ⊥
+somewhere t k is none = never_unplaced t k is (nowhere t k none)
 
 -- a put would overwrite it there, and needs no search for a slot
-pub leads_home : (t : Tables) (k : Key) (s : Slot) → is_mirrored_home t k ≡ true → home t k ≡ Some s
+pub leads_home : (t : Tables) (k : Key) (s : Slot) → is_put_in_place t k ≡ true → home t k ≡ Some s
     → LeadsHome t k t s
-leads_home t k s is there = record { same = refl; home = there; when = inl (is_high (level t k) is) }
+leads_home t k s is there = record { same = refl; home = there; when = by_level (level t k) t is }
 
-pub no_search : (a : StoreState) (k : Key) → is_mirrored_home a.book k ≡ true → CarriesOutSearch a k a
+pub no_search : (a : StoreState) (k : Key) → is_put_in_place a.book k ≡ true → CarriesOutSearch a k a
 no_search a k is = inl (record {
-  needs = record { way = λ at none full few. unplaced_not_mirrored (sym at ∙ is_high (level a.book k) is) };
+  needs = record { way = λ at none full few. never_unplaced a.book k is at };
   same = refl;
 })

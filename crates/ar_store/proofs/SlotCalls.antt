@@ -66,10 +66,10 @@ module _ (s : StoreState) (slot : Slot) (m : Members) (space : IsSpace s) (has :
       subst (λ (x : Members). WritesSlot (class_in s slot.group) s.disks b x slot.slot) is_m
       (subst (λ (x : Class). WritesSlot x s.disks b m slot.slot) is_c writes)
 
-  -- what a mirrored slot holds, as its group holds it
-  pub held_mirrored : (block : List ℕ) → Mirrored ≡ class_in s slot.group → SlotHolds s slot block
-      → MirrorHolds s.disks m slot.slot block
-  held_mirrored block is_c held =
+  -- what a slot holds, as its group holds it
+  pub held_in : (c : Class) (block : List ℕ) → c ≡ class_in s slot.group → SlotHolds s slot block
+      → ClassHolds c s.disks m slot.slot block
+  held_in c block is_c held =
       subst (λ (x : Class). ClassHolds x s.disks m slot.slot block) (sym is_c)
       (subst (λ (x : Members). ClassHolds (class_in s slot.group) s.disks x slot.slot block) (sym is_m) held)
 

@@ -1,8 +1,10 @@
 -- Where a put writes its block, and how that changes the tables.
-use Rattle.std.specs.Prelude.{◌≡◌, ◌≢◌, ◌⊎◌, ℕ, ◌<◌, ◌≤◌, Bool, true, false, length, None, Some}
+use Rattle.std.specs.Prelude.{◌≡◌, ◌≢◌, ◌⊎◌, ℕ, zero, suc, ◌<◌, ◌≤◌, nat_lt, Bool, true, false, ◌&&◌, ◌||◌}
+use Rattle.std.specs.Prelude.{if◌then◌else◌, List, [], ◌∷◌, length, Option, None, Some}
 use Rattle.std.specs.Map.{keys_of}
 use Rattle.ar_disks.specs.declared.address.Addr.{Addr}
 use Rattle.ar_disks.specs.declared.address.Key.{Key}
+use Rattle.ar_disks.specs.declared.geometry.Geometry.{Geometry}
 use Rattle.ar_book.specs.declared.class.Class.{Class}
 use Rattle.ar_book.specs.declared.class.Class.TheVariants.{Mirrored, Parity}
 use Rattle.ar_book.specs.declared.class.Level.{Level}
@@ -12,19 +14,38 @@ use Rattle.ar_extents.specs.declared.health.Health.TheVariants.{Broken as AllBro
 use Rattle.ar_store.specs.Store.{StoreState}
 use Rattle.ar_store.specs.declared.way.Way.{Way}
 use Rattle.ar_store.specs.declared.way.Way.TheVariants.{Home, Hole, Broken}
-use Rattle.ar_book.specs.Tables.{Tables, HasSlot, key_at, home, level, slots_of, free_groups, unit_in, reserved}
+use Rattle.ar_book.specs.Tables.{GroupState, Tables, HasSlot, key_at, home, level, slots_of, free_groups, unit_in}
+use Rattle.ar_book.specs.Tables.{reserved}
 use Rattle.ar_book.specs.Changes.{assigned, stamped, opened, slot_at, moved_first}
+use Rattle.ar_book.specs.Cleaning.{same_class}
 use Rattle.ar_book.specs.Choices.{IsHole, IsUpTo, IsLowestFree, IsFullMirrored}
 
--- the level is that of mirrored blocks
-abbrev pub is_mirrored_level : Level → Bool
-is_mirrored_level Unplaced = false
-is_mirrored_level MirroredLevel = true
-is_mirrored_level ParityLevel = false
+-- one of the first `n` slots of a group is empty
+abbrev pub has_gap : ℕ → List (Option Key) → Bool
+has_gap zero slots = false
+has_gap (suc n) [] = true
+has_gap (suc n) (None ∷ slots) = true
+has_gap (suc n) (Some k ∷ slots) = has_gap n slots
 
--- the block is mirrored, so that a put overwrites it in place
-abbrev pub is_mirrored_home : Tables → Key → Bool
-is_mirrored_home t k = is_mirrored_level (level t k)
+-- one of the groups is of a class, and has an empty slot
+abbrev pub offers_hole : Geometry → Class → List GroupState → Bool
+offers_hole geometry c [] = false
+offers_hole geometry c (g ∷ groups) =
+    (same_class c g.class && has_gap (slots_of geometry c) g.slots) || offers_hole geometry c groups
+
+-- no mirrored group has a hole, and none is opened for one, as a group must stay free
+abbrev pub lacks_mirrored_slot : Tables → Bool
+lacks_mirrored_slot t = if offers_hole t.geometry Mirrored t.groups then false else nat_lt (free_groups t) 2
+
+-- a block at a level is overwritten in place
+abbrev pub is_in_place_at : Level → Tables → Bool
+is_in_place_at Unplaced t = false
+is_in_place_at MirroredLevel t = true
+is_in_place_at ParityLevel t = lacks_mirrored_slot t
+
+-- a put overwrites the block in place: it is mirrored, or at the parity level, and there is no mirrored slot for it
+abbrev pub is_put_in_place : Tables → Key → Bool
+is_put_in_place t k = is_in_place_at (level t k) t
 
 -- the first hole of a class in slot order
 pub record IsLowestHole (t : Tables) (c : Class) (s : Slot) : Type 0 where

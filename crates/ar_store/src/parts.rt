@@ -1,8 +1,9 @@
-// Reads and writes of a part of a block, which needn't be read or written whole. A part is written in place, so of
-// mirrored blocks alone: a block at another level moves when it is written.
+// Reads and writes of a part of a block, which needn't be read or written whole. A part is written in place: so of
+// mirrored blocks, and of those at the parity level that stay there, as there is no mirrored slot for them.
 
 use crate::Store;
 use crate::space::Space;
+use crate::way::lacks_mirrored_slot;
 use ar_book::{Class, Level, Slot};
 use ar_disks::{Completion, Disk, Key, zero};
 use ar_extents::Health;
@@ -16,17 +17,19 @@ impl<D: Disk> Store<D> {
     ghost use Rattle.ar_extents.specs.Plans.{CarriesOut};
     ghost use Rattle.ar_book.specs.Tables.{HasBlock};
     ghost use Rattle.ar_store.specs.Slots.{stands, AllStand, OthersStand};
-    ghost use Rattle.ar_store.specs.Placing.{Puts, is_mirrored_home};
+    ghost use Rattle.ar_store.specs.Placing.{Puts, is_put_in_place};
     ghost use Rattle.ar_store.specs.Plans.{get_plan, CarriesOutPut};
     ghost use Rattle.ar_store.specs.Calls.{StoreFollows, BreaksPut, LeavesZeros};
 
-    /// Whether the block of `key` is mirrored, so that `put_part` can overwrite a part of it.
-    pub fn is_in_place(&self, key: Key) -> bool
-        ensures { result ≡ is_mirrored_home self.now.book key }
+    /// Whether a put overwrites the block of `key` in place, so that `put_part` can overwrite a part of it. It walks
+    /// over no groups and no slots.
+    pub fn puts_in_place(&self, key: Key) -> bool
+        ensures { result ≡ is_put_in_place self.now.book key }
     {
         match self.space.book.level(key) {
+            Level::Unplaced => false,
             Level::Mirrored => true,
-            Level::Unplaced | Level::Parity => false,
+            Level::Parity => lacks_mirrored_slot(&self.space.book),
         }
     }
 
@@ -55,12 +58,12 @@ impl<D: Disk> Store<D> {
         }
     }
 
-    /// Overwrites a part of the block of `key`, which is mirrored, with `from`, from sector `first` on. Callers pass
-    /// whole sectors. The result, the accesses and the changes of the tables are those of a `put` of the block with
-    /// that part overwritten.
+    /// Overwrites a part of the block of `key`, which a put overwrites in place, with `from`, from sector `first` on.
+    /// Callers pass whole sectors. The result, the accesses and the changes of the tables are those of a `put` of the
+    /// block with that part overwritten.
     pub fn put_part(&mut self, key: Key, first: usize, from: &[u8]) -> Completion
         requires block { HasBlock self.old.book key }
-        requires mirrored { is_mirrored_home self.old.book key ≡ true }
+        requires in_place { is_put_in_place self.old.book key ≡ true }
         requires within { 512 * first + length from.now ≤ block_len_of self.old.disks.geometry }
 
         ensures outcome { result ≡ outcome_of self.new.disks.health }
@@ -131,12 +134,11 @@ impl<D: Disk> Space<D> {
         }
     }
 
-    // Overwrites a part of a mirrored block in its home, and gives the block the next write sequence number.
+    // Overwrites a part of a block in its home, and gives the block the next write sequence number.
     fn rewrite_part(&mut self, key: Key, slot: Slot, first: usize, from: &[u8]) -> Completion
         requires ready { IsReady self.old }
         requires block { HasBlock self.old.book key }
         requires home { home self.old.book key ≡ Some slot }
-        requires mirrored { class_in (store_in self.old) slot.group ≡ Class.Mirrored }
         requires within { 512 * first + length from.now ≤ block_len_of self.old.disks.geometry }
 
         ensures outcome { result ≡ outcome_of self.new.disks.health }
@@ -160,11 +162,10 @@ impl<D: Disk> Space<D> {
         }
     }
 
-    // Overwrites a part of the block that a mirrored slot holds.
+    // Overwrites a part of the block that a slot holds.
     fn write_part_at(&mut self, slot: Slot, first: usize, from: &[u8]) -> Completion
         requires ready { IsReady self.old }
         requires slot { HasSlot self.old.book slot }
-        requires mirrored { class_in (store_in self.old) slot.group ≡ Class.Mirrored }
         requires held { HoldsBlock (store_in self.old) slot }
         requires within { 512 * first + length from.now ≤ block_len_of self.old.disks.geometry }
 
@@ -178,6 +179,19 @@ impl<D: Disk> Space<D> {
         ensures stays { Stays self.old self.new }
     {
         let members = self.book.members(slot.group);
-        ar_mirror::put_part(&mut self.disks, &members, slot.slot, first, from)
+        match self.book.class(slot.group) {
+            Class::Free => unreachable!(),
+            Class::Mirrored => {
+                ar_mirror::put_part(&mut self.disks, &members, slot.slot, first, from)
+            }
+            Class::Parity => ar_parity::put_part(
+                &mut self.disks,
+                &members,
+                slot.slot,
+                first,
+                from,
+                &mut self.scratch,
+            ),
+        }
     }
 }

@@ -10,7 +10,7 @@ ghost use Rattle.ar_store.specs.Slots.{AllStand};
 ghost use Rattle.ar_store.specs.Plans.{CarriesOutSearch};
 ghost use Rattle.ar_store.specs.Calls.{IsZerosOnWay};
 ghost use Rattle.ar_store.specs.Placing.{Leads, IsReadyFor, MayOpen, WantsGroup, MayHavePrepared, IsMirroredHole};
-ghost use Rattle.ar_store.specs.Placing.{HasNoMirroredHole, HasNoHole, IsWayIn, HasNoWay};
+ghost use Rattle.ar_store.specs.Placing.{HasNoMirroredHole, HasNoHole, IsWayIn, HasNoWay, lacks_mirrored_slot};
 ghost use Rattle.ar_store.specs.Spaces.{store_in, IsReady, Stays};
 
 use crate::space::Space;
@@ -96,4 +96,17 @@ fn mirrored_hole(book: &mut Book) -> Option<Slot>
     }
     let group = book.open_group(Class::Mirrored, &mut Steps::new())?;
     Some(Slot { group, slot: 0 })
+}
+
+// Whether there is no mirrored hole, and no group is opened for one.
+pub(crate) fn lacks_mirrored_slot(book: &Book) -> bool
+    ensures { result ≡ lacks_mirrored_slot book.now }
+{
+    if book.free_groups() >= 2 {
+        return false;
+    }
+    match book.hole(Class::Mirrored, &mut Steps::new()) {
+        Some(_) => false,
+        None => true,
+    }
 }

@@ -6,6 +6,7 @@ ghost use Rattle.ar_extents.specs.Set.{HasExtent};
 
 use crate::fixtures::{Shape, byte_of, filled, fused_disk};
 use crate::rig::Group;
+use crate::sectors::{Part, get_sector, read_sectors, write_sectors};
 use crate::slots::{open_group, read_slot, rebuild, write_slot};
 use ar_disks::{Disk, FuseDisk, Geometry, Place};
 use ar_extents::{DiskRefusal, DiskSet, Got, Health, Put, PutNew};
@@ -47,6 +48,12 @@ pub enum Call {
     Write(u16, u8),
     /// Reads a slot of the group.
     Read(u16),
+    /// Overwrites sectors of a slot of the group.
+    WritePart(Part, u8),
+    /// Reads sectors of a slot of the group.
+    ReadPart(Part),
+    /// Reads a sector of a row of an extent.
+    GetSector(Place, u16, u16),
     /// Rebuilds a row of the group's member at a position.
     Rebuild(u8, u16),
 }
@@ -118,6 +125,9 @@ pub fn make_call(
         Call::Open => open_group(set, alloc, group)?,
         Call::Write(slot, byte) => write_slot(set, alloc, group, slot, byte)?,
         Call::Read(slot) => read_slot(set, alloc, group, slot)?,
+        Call::WritePart(part, byte) => write_sectors(set, alloc, group, part, byte)?,
+        Call::ReadPart(part) => read_sectors(set, alloc, group, part)?,
+        Call::GetSector(place, row, sector) => get_sector(set, alloc, place, row, sector)?,
         Call::Rebuild(position, row) => rebuild(set, alloc, group, position, row)?,
     })
 }
@@ -130,7 +140,8 @@ pub fn read(bytes: &[u8]) -> Answer {
     }
 }
 
-fn has_row(set: &DiskSet<FuseDisk>, place: Place, row: u16) -> bool
+/// Whether the set has such a row.
+pub fn has_row(set: &DiskSet<FuseDisk>, place: Place, row: u16) -> bool
     ensures extent { OnTrue result (HasExtent set.now place) }
     ensures row { OnTrue result (row < rows_of set.now.geometry) }
 {

@@ -15,6 +15,10 @@ mod mirror;
 #[cfg(test)]
 mod parity;
 #[cfg(test)]
+mod parts;
+#[cfg(test)]
 mod rig;
+#[cfg(test)]
+mod sectors;
 #[cfg(test)]
 mod slots;

@@ -10,8 +10,8 @@ use std::alloc::Global;
 use std::process::Abort;
 use std::test::Fail;
 
-// Four disks of one extent, of which one passes this many calls.
-fn one_extent(geometry: Geometry, lost: usize, calls: u64) -> Case
+/// Four disks of one extent, of which one passes this many calls.
+pub fn one_extent(geometry: Geometry, lost: usize, calls: u64) -> Case
     requires { lost < 4 }
 {
     let mut fuses = [WHOLE; 4];
@@ -24,8 +24,8 @@ fn one_extent(geometry: Geometry, lost: usize, calls: u64) -> Case
     }
 }
 
-// The one extent of a disk.
-fn at(disk: u8) -> Place {
+/// The one extent of a disk.
+pub fn at(disk: u8) -> Place {
     Place { disk, extent: 0 }
 }
 

@@ -14,8 +14,8 @@ use ar_disks::{Completion, FuseDisk, Members, Place, Scratch};
 use ar_extents::{DiskSet, Health, RowOutcome};
 use std::alloc::{AllocError, Global};
 
-// A group of the first four disks: the last extent of disks 0 and 2, and the first of disks 1 and 3.
-fn members_of(set: &DiskSet<FuseDisk>) -> Members
+/// A group of the first four disks: the last extent of disks 0 and 2, and the first of disks 1 and 3.
+pub fn members_of(set: &DiskSet<FuseDisk>) -> Members
     ensures { IsGroup set.now result }
 {
     let _count = set.count();
@@ -137,7 +137,8 @@ fn read_parity(
     Ok(outcome(met))
 }
 
-fn outcome(met: Completion) -> Answer {
+/// What a call reported.
+pub fn outcome(met: Completion) -> Answer {
     match met {
         Completion::Done => Answer::Done,
         Completion::Broken => Answer::Broken,

@@ -1,14 +1,15 @@
 // A store of one unit, calls of it, and their answers.
-ghost use Rattle.std.specs.Prelude.{◌≡◌, ◌<◌, None};
+ghost use Rattle.std.specs.Prelude.{◌≡◌, ◌<◌, None, true};
 ghost use Rattle.std.specs.Bool.{OnTrue};
 ghost use Rattle.ar_disks.specs.Geometry.{rows_of};
 ghost use Rattle.ar_extents.specs.Set.{HasExtent};
 ghost use Rattle.ar_book.specs.Tables.{home, HasBlock};
+ghost use Rattle.ar_store.specs.Placing.{is_put_in_place};
 
 use crate::fixtures::{Shape, byte_of, filled, fused_disk, fused_disks};
 use ar_balance::{Balance, balance_one};
 use ar_book::{Class, Level, Slot};
-use ar_disks::{Addr, Block, Completion, Disk, FuseDisk, Host, Key, Place};
+use ar_disks::{Addr, Block, Completion, Disk, FuseDisk, Host, Key, Place, SECTOR_LEN};
 use ar_extents::{DiskRefusal, Got, Health};
 use ar_index::Steps;
 use ar_moves::{Move, clean_one, demote_one};
@@ -34,6 +35,10 @@ pub enum Call {
     Put(u32, u8),
     /// Writes each block of it in order, with bytes counted up from this one.
     PutEach(u8),
+    /// Overwrites a sector of a block of it, which has to be in place.
+    PutSector(u32, u8, u8),
+    /// Asks whether a put overwrites a block in place.
+    InPlace(u32),
     /// Reads a block of it.
     Get(u32),
     /// Reads each, and looks for bytes counted up from this one.
@@ -173,6 +178,7 @@ fn make_call(
         Call::Remove => Answer::Is(store.drop_unit(unit()).is_ok()),
         Call::Mark => mark(store),
         Call::Put(rb, byte) => put(rt, store, alloc, rb, byte),
+        Call::PutSector(rb, sector, byte) => put_sector(rt, store, alloc, rb, sector, byte),
         Call::PutEach(first) => put_each(rt, store, alloc, first),
         Call::Get(rb) => get(rt, store, alloc, rb),
         Call::GetEach(first) => get_each(rt, store, alloc, first),
@@ -199,6 +205,7 @@ fn make_call(
 fn ask(store: &Store<FuseDisk>, call: Call) -> Answer {
     match call {
         Call::Home(rb) => store.book().home(key(rb)).map_or(Answer::Nowhere, at),
+        Call::InPlace(rb) => Answer::Is(store.puts_in_place(key(rb))),
         Call::Level(rb) => Answer::Stands(store.book().level(key(rb))),
         Call::Group(number) => group(store, number),
         Call::Room => Answer::Count(store.book().room()),
@@ -279,6 +286,36 @@ fn is_homeless(store: &Store<FuseDisk>, key: Key) -> bool
     ensures unplaced { OnTrue result (home store.now.book key ≡ None) }
 {
     is_block(store, key) && store.book().home(key).is_none()
+}
+
+// Whether the unit has the block, and a put overwrites it in place.
+fn is_in_place(store: &Store<FuseDisk>, key: Key) -> bool
+    ensures block { OnTrue result (HasBlock store.now.book key) }
+    ensures in_place { OnTrue result (is_put_in_place store.now.book key ≡ true) }
+{
+    is_block(store, key) && store.puts_in_place(key)
+}
+
+fn put_sector(
+    rt: &impl Abort,
+    store: &mut Store<FuseDisk>,
+    alloc: Global,
+    rb: u32,
+    sector: u8,
+    byte: u8,
+) -> Answer {
+    let geometry = store.disks().geometry();
+    let from = filled(rt, alloc, geometry, byte);
+    let first = usize::from(sector);
+    let key = key(rb);
+    if first * SECTOR_LEN + SECTOR_LEN > geometry.block_len() {
+        return Answer::Unfit;
+    }
+    if is_in_place(store, key) {
+        answer_of(store.put_part(key, first, from.sector(0)))
+    } else {
+        Answer::Unfit
+    }
 }
 
 fn make_all(store: &mut Store<FuseDisk>) -> Answer {

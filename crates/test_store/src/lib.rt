@@ -18,6 +18,8 @@ mod moves;
 #[cfg(test)]
 mod parity;
 #[cfg(test)]
+mod parts;
+#[cfg(test)]
 mod placing;
 #[cfg(test)]
 mod refusals;

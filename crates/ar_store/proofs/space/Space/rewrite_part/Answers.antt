@@ -20,7 +20,6 @@ write_part_at-requires g c =
     record {
       ready = c.requires.ready;
       slot = home_slot book space.tables c.args.key c.args.slot c.requires.home;
-      mirrored = c.requires.mirrored;
       held = space.named c.args.slot c.args.key (home_key book space.tables c.args.key c.args.slot c.requires.home);
       within = c.requires.within;
     }

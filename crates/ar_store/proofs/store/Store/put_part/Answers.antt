@@ -10,14 +10,14 @@ use Rattle.ar_store.specs.declared.way.Way.{Way}
 use Rattle.ar_store.specs.declared.way.Way.TheVariants.{Home, Broken as NoWay}
 use Rattle.ar_store.specs.Store.{StoreState}
 use Rattle.ar_store.specs.Slots.{stands, OthersStand}
-use Rattle.ar_store.specs.Placing.{Puts, LeavesOpened, is_mirrored_home}
+use Rattle.ar_store.specs.Placing.{Puts, LeavesOpened, is_put_in_place}
 use Rattle.ar_store.specs.Calls.{BreaksPut, StoreFollows, LeavesZeros}
 use Rattle.ar_store.specs.Plans.{CarriesOutPut}
 use Rattle.ar_store.specs.Spaces.{store_in}
 use Rattle.ar_store.proofs.Changes.{units_refl}
 use Rattle.ar_store.proofs.Fills.{accessed_refl, none_stands, done_not_broken}
 use Rattle.ar_store.proofs.Fields.{ready_in, fields_stay, free_then, way_sound}
-use Rattle.ar_store.proofs.Overwriting.{mirrored_somewhere, mirrored_group, leads_home, no_search}
+use Rattle.ar_store.proofs.Overwriting.{somewhere, leads_home, no_search}
 use Rattle.ar_store.proofs.Ways.{puts_way}
 use Rattle.ar_store.proofs.Zeros.{zeros_put}
 use Rattle.ar_store.proofs.Planned.{put_way, leaves_opened}
@@ -26,7 +26,7 @@ use Rattle.ar_store.proofs.store.Store.put_part.Goals as goal
 
 pub unreachable-requires : goal.unreachable-requires
 unreachable-requires g c =
-    mirrored_somewhere c.args.self.now.book c.args.key c.requires.mirrored
+    somewhere c.args.self.now.book c.args.key c.requires.in_place
     (ap (λ (s : StoreState). home s.book c.args.key) (sym c.self.view_is) ∙ sym c.home.ensures ∙ c.in_default-home.is)
 
 pub rewrite_part-requires : goal.rewrite_part-requires
@@ -38,8 +38,6 @@ rewrite_part-requires g c =
       ready = ready_in a c.self.inside.block c.self.invariant;
       block = subst (λ (s : StoreState). HasBlock s.book c.args.key) (sym view) c.requires.block;
       home = there;
-      mirrored = mirrored_group a.book c.args.key c.in-Some.slot
-          (subst (λ (s : StoreState). is_mirrored_home s.book c.args.key ≡ true) (sym view) c.requires.mirrored) there;
       within = subst (λ (s : StoreState). 512 * c.args.first + length c.args.from.now
           ≤ block_len_of s.disks.geometry) (sym view) c.requires.within;
     }
@@ -62,7 +60,7 @@ returns g c =
     let follows = wrote.stays.accessed.follows in
     let way : Way = Home c.in-Some.slot in
     let there = sym c.home.ensures ∙ c.in-Some.is in
-    let is = subst (λ (s : StoreState). is_mirrored_home s.book k ≡ true) (sym view) c.requires.mirrored in
+    let is = subst (λ (s : StoreState). is_put_in_place s.book k ≡ true) (sym view) c.requires.in_place in
     let leads = leads_home a.book k c.in-Some.slot is there in
     let search = no_search (store_in a) k is in
     let before : a.disks.health ≢ Broken = λ broken. c.in_default.not-Broken (c.health.ensures.same ∙ broken) in
