@@ -12,13 +12,15 @@ use Rattle.ar_extents.specs.declared.log.AccessKind.{AccessKind}
 use Rattle.ar_extents.specs.declared.log.AccessKind.TheVariants.{Read, Write}
 use Rattle.ar_extents.specs.Plans.{NoneFaults}
 use Rattle.ar_book.specs.declared.class.Class.TheVariants.{Mirrored}
+use Rattle.ar_book.specs.declared.class.Level.{Level}
 use Rattle.ar_book.specs.declared.class.Level.TheVariants.{Mirrored as MirroredLevel, Parity as ParityLevel}
 use Rattle.ar_book.specs.Tables.{Tables, level, free_groups}
 use Rattle.ar_book.specs.Changes.{stamped}
 use Rattle.ar_book.proofs.AfterStamp.{stamped_level}
 use Rattle.ar_store.specs.Store.{StoreState}
-use Rattle.ar_store.specs.Placing.{HasNoHole, Puts, is_mirrored_home, is_mirrored_level}
+use Rattle.ar_store.specs.Placing.{HasNoHole, Puts, is_in_place_at, is_put_in_place}
 use Rattle.ar_store.specs.Plans.{MakesAccesses}
+use Rattle.ar_store.proofs.Gaps.{lacks_of}
 use Rattle.ar_store.proofs.PutCosts.{put_to_mirrored, put_to_parity}
 use Rattle.ar_store.proofs.SqueezeCosts.{made_none, made_then}
 use Rattle.ar_store.proofs.Ways.{parity_not_mirrored, unplaced_not_parity}
@@ -173,11 +175,16 @@ either_true : (b : Bool) → b || true ≡ true
 either_true true = refl
 either_true false = refl
 
--- a mirrored block is overwritten in place where nothing can be cached
+-- a block that a put overwrites in place is so in part where nothing can be cached
+through_in_place : (a : ArrayState) (k : Key) → WritesThrough a → is_put_in_place a.store.book k ≡ true
+    → in_place_at a k ≡ true
+through_in_place a k through is = ap (λ n. (n == 0) && is_put_in_place a.store.book k) through.capacity ∙ is
+
+-- and so is a mirrored one
 mirrored_in_place : (a : ArrayState) (k : Key) → WritesThrough a → level a.store.book k ≡ MirroredLevel
     → in_place_at a k ≡ true
 mirrored_in_place a k through at =
-    ap (λ n. (n == 0) && is_mirrored_home a.store.book k) through.capacity ∙ ap is_mirrored_level at
+    through_in_place a k through (ap (λ (l : Level). is_in_place_at l a.store.book) at)
 
 -- mirrored blocks stay mirrored, and each costs two writes, whether it is given whole or in part
 pub mirrored_write : (addr : Addr) (lba count : ℕ) (fua : Bool) (old new : ArrayState)
@@ -195,12 +202,16 @@ mirrored_write addr lba count fua old new =
     (λ a k through at. ap (λ b. is_whole (geometry_of old) lba count k || b) (mirrored_in_place a k through at)
     ∙ either_true (is_whole (geometry_of old) lba count k))
 
--- the block is given whole and at the parity level, and there is no mirrored slot for it
-record StaysLow (g : Geometry) (lba count : ℕ) (t : Tables) (k : Key) : Type 0 where
-  whole : is_whole g lba count k ≡ true
+-- the block is at the parity level, and there is no mirrored slot for it
+record StaysLow (t : Tables) (k : Key) : Type 0 where
   at_level : level t k ≡ ParityLevel
   none : HasNoHole t Mirrored
   few : free_groups t < 2
+
+low_in_place : (a : ArrayState) (k : Key) → WritesThrough a → StaysLow a.store.book k → in_place_at a k ≡ true
+low_in_place a k through low =
+    through_in_place a k through
+    (ap (λ (l : Level). is_in_place_at l a.store.book) low.at_level ∙ lacks_of a.store.book low.none low.few)
 
 stamped_none : (t : Tables) (k : Key) → HasNoHole t Mirrored → HasNoHole (stamped t k) Mirrored
 stamped_none t k none = record {
@@ -211,15 +222,13 @@ stamped_none t k none = record {
 pub parity_write : (addr : Addr) (lba count : ℕ) (fua : Bool) (old new : ArrayState)
     → StoresBlocks addr lba count fua old new
     → NoneFaults old.store.disks new.store.disks → WritesThrough old
-    → All (λ key. is_whole (geometry_of old) lba count key ≡ true) (keys_in (geometry_of old) addr lba count)
     → StayAtParity old.store.book (keys_in (geometry_of old) addr lba count)
     → MakesAccesses (for_each (keys_in (geometry_of old) addr lba count) (Read ∷ Read ∷ Write ∷ Write ∷ []))
     old.store.disks new.store.disks
-parity_write addr lba count fua old new stores calm through whole stay =
-    through_write (StaysLow (geometry_of old) lba count) (Read ∷ Read ∷ Write ∷ Write ∷ [])
+parity_write addr lba count fua old new stores calm through stay =
+    through_write StaysLow (Read ∷ Read ∷ Write ∷ Write ∷ [])
     (λ t k new low puts. puts.parity low.at_level low.none low.few)
     (λ t k j low. record {
-      whole = low.whole;
       at_level = stamped_level t k j
           ∙ low.at_level;
       none = stamped_none t k low.none;
@@ -229,9 +238,9 @@ parity_write addr lba count fua old new stores calm through whole stay =
     (record { low = λ high. parity_not_mirrored (sym low.at_level ∙ high); none = low.none; few = low.few })
     (record { way = λ unplaced n full few. unplaced_not_parity (sym unplaced ∙ low.at_level) }))
     addr lba count fua old new
-    (λ a k through low. ap (λ b. b || in_place_at a k) low.whole) stores calm through
+    (λ a k through low. ap (λ b. is_whole (geometry_of old) lba count k || b) (low_in_place a k through low)
+    ∙ either_true (is_whole (geometry_of old) lba count k)) stores calm through
     (λ i d lt. record {
-      whole = whole i d lt;
       at_level = stay.at_level i d lt;
       none = stay.none;
       few = stay.few;

@@ -94,10 +94,10 @@ pub fn reads_are_accounted_for()
 {}
 
 /// The cost of a WRITE: where no disk faults, a GOOD one makes for each of its blocks, in ascending order, the reads
-/// that the block's home plans if it is covered in part, not cached and has a home, and none if it is mirrored and
-/// there is no cache (`in_place_at`); and then a put of each block that is destaged for it: the one that it evicts, and
-/// its own if it is written through. With FORCE UNIT ACCESS it then puts each of its blocks that is cached. There is no
-/// other access. The function does nothing.
+/// that the block's home plans if it is covered in part, not cached and has a home, and none if a put overwrites it in
+/// place and there is no cache (`in_place_at`); and then a put of each block that is destaged for it: the one that it
+/// evicts, and its own if it is written through. With FORCE UNIT ACCESS it then puts each of its blocks that is cached.
+/// There is no other access. The function does nothing.
 pub fn writes_are_accounted_for()
     ensures { (old new : ArrayState) (host : Host) (lun : ℕ) (cdb payload : List ℕ) (reply : Reply) (lba count : ℕ)
         (fua : Bool)
@@ -108,8 +108,8 @@ pub fn writes_are_accounted_for()
 {}
 
 /// The cost of a WRITE in numbers, of blocks that have homes, on healthy disks and without a cache: two writes for each
-/// of its blocks if these are mirrored, whether it covers them whole or in part; two reads and two writes for each if
-/// it covers them whole and they stay at the parity level. The function does nothing.
+/// of its blocks if these are mirrored; two reads and two writes for each if they stay at the parity level. It is the
+/// same whether it covers them whole or in part. The function does nothing.
 pub fn write_accesses()
     ensures mirrored { (old new : ArrayState) (host : Host) (lun : ℕ) (cdb payload : List ℕ) (reply : Reply)
         (lba count : ℕ) (fua : Bool)
@@ -126,8 +126,6 @@ pub fn write_accesses()
         → reading cdb ≡ Ok (Command.Write lba count fua) → reply.status ≡ Good
         → NoneFaults old.store.disks new.store.disks
         → WritesThrough old
-        → All (λ key. is_whole (geometry_of old) lba count key ≡ true)
-        (keys_in (geometry_of old) (addr_in host lun) lba count)
         → StayAtParity old.store.book (keys_in (geometry_of old) (addr_in host lun) lba count)
         → MakesAccesses
         (for_each (keys_in (geometry_of old) (addr_in host lun) lba count) (Read ∷ Read ∷ Write ∷ Write ∷ []))

@@ -9,7 +9,7 @@ use Rattle.ar_disks.specs.declared.geometry.Geometry.{Geometry}
 use Rattle.ar_disks.specs.Geometry.{sectors_of}
 use Rattle.ar_extents.specs.Changes.{is_broken_set}
 use Rattle.ar_store.specs.Store.{StoreState}
-use Rattle.ar_store.specs.Placing.{is_mirrored_home}
+use Rattle.ar_store.specs.Placing.{is_put_in_place}
 use Rattle.ar_cache.specs.Backing.{InTurn, StopsInTurn}
 use Rattle.ar_cache.specs.Cache.{CacheState, TakesIn, cached, last_keys, pushed_out, put_through, with_entries}
 use Rattle.ar_cache.specs.Cache.{without_key}
@@ -91,10 +91,10 @@ pub record BreaksForced (old : ArrayState) (key : Key) (new : ArrayState) : Type
 abbrev pub is_whole : Geometry → ℕ → ℕ → Key → Bool
 is_whole g lba count key = nat_le lba (key.rb * sectors_of g) && nat_le ((key.rb + 1) * sectors_of g) (lba + count)
 
--- whether sectors of a block are overwritten on the disks without the block being read: it is mirrored, and nothing is
--- ever cached
+-- whether sectors of a block are overwritten on the disks without the block being read: a put overwrites it in place,
+-- and nothing is ever cached
 abbrev pub in_place_at : ArrayState → Key → Bool
-in_place_at s key = (s.cache.capacity == 0) && is_mirrored_home s.store.book key
+in_place_at s key = (s.cache.capacity == 0) && is_put_in_place s.store.book key
 
 -- a block that is given whole or overwritten in place was put, and nothing more; another was read, and then put
 abbrev pub Replaces : {S : Type 0} → (S → Key → S → Type 0) → (S → Key → S → Type 0) → Bool → S → Key → S → Type 0

@@ -1,7 +1,7 @@
 // The store as the backing of the cache.
 ghost use Rattle.std.specs.Prelude.{◌≡◌};
 ghost use Rattle.ar_extents.specs.Changes.{is_broken_set};
-ghost use Rattle.ar_store.specs.Placing.{is_mirrored_home};
+ghost use Rattle.ar_store.specs.Placing.{is_put_in_place};
 ghost use Rattle.ar_store.specs.Slots.{stands};
 ghost use Rattle.ar_volume.specs.Image.{knows_in};
 ghost use Rattle.ar_store.specs.Calls.{StoreFollows};
@@ -27,7 +27,7 @@ impl<D: Disk> Backing for Behind<D> {
 
     ghost geometry = { λ b. b.store.disks.geometry };
 
-    ghost in_place = { λ b. is_mirrored_home b.store.book };
+    ghost in_place = { λ b. is_put_in_place b.store.book };
 
     ghost is_broken = { λ b. is_broken_set b.store.disks.health };
 
@@ -54,7 +54,7 @@ impl<D: Disk> Backing for Behind<D> {
     }
 
     fn is_in_place(&self, key: Key) -> bool {
-        self.store.is_in_place(key)
+        self.store.puts_in_place(key)
     }
 
     fn put_part(&mut self, key: Key, first: usize, from: &[u8]) -> Completion {

@@ -7,7 +7,7 @@ returns c = record {
   mirrored = λ old new host lun cdb payload reply lba count fua steps is good none through all.
       mirrored_write (addr_in host lun) lba count fua old new (steps.answers.stored lba count fua is good) none through
       all;
-  parity = λ old new host lun cdb payload reply lba count fua steps is good none through whole all.
+  parity = λ old new host lun cdb payload reply lba count fua steps is good none through all.
       parity_write (addr_in host lun) lba count fua old new (steps.answers.stored lba count fua is good) none through
-      whole all;
+      all;
 }
