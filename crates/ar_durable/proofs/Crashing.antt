@@ -22,9 +22,9 @@ use Rattle.ar_journal.specs.declared.files.JournalFiles.{JournalFiles}
 use Rattle.ar_journal.proofs.Naming.{chosen_named}
 use Rattle.ar_journal.proofs.Reading.{leaves_read}
 use Rattle.ar_journal.proofs.Writing.{leaves_journal}
-use Rattle.ar_history.specs.declared.entry.Entry.{Entry}
-use Rattle.ar_history.specs.History.{IsLegal, replay}
-use Rattle.ar_history.specs.Kept.{KeptState, SameLength}
+use Rattle.ar_served.specs.declared.entry.Entry.{Entry}
+use Rattle.ar_served.specs.History.{IsLegal, replay}
+use Rattle.ar_served.specs.Kept.{KeptState, SameLength}
 use Rattle.ar_record.specs.Reading.{all_decoded}
 use Rattle.ar_record.specs.Record.{RecordData}
 use Rattle.ar_record.specs.Replay.{unit_of}

@@ -6,11 +6,11 @@ use Rattle.ar_scsi.specs.declared.reply.Reply.{Reply}
 use Rattle.ar_volume.specs.Image.{is_broken}
 use Rattle.ar_volume.specs.Sectors.{Address}
 use Rattle.ar_core.specs.Step.{is_busy}
-use Rattle.ar_history.specs.declared.entry.Entry.{Entry}
-use Rattle.ar_history.specs.declared.entry.Entry.TheVariants as entries
-use Rattle.ar_history.specs.Kept.{KeptState}
-use Rattle.ar_history.specs.Served.{DiscardsSectors}
-use Rattle.ar_history.specs.Serving.{is_recorded}
+use Rattle.ar_served.specs.declared.entry.Entry.{Entry}
+use Rattle.ar_served.specs.declared.entry.Entry.TheVariants as entries
+use Rattle.ar_served.specs.Kept.{KeptState}
+use Rattle.ar_served.specs.Served.{DiscardsSectors}
+use Rattle.ar_served.specs.Serving.{is_recorded}
 use Rattle.ar_record.specs.Record.{Unmap}
 use Rattle.ar_record.specs.Replay.{own_of}
 use Rattle.ar_recovery.specs.Logging.{records_of}

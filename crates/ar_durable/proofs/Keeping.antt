@@ -24,10 +24,10 @@ use Rattle.ar_log.proofs.Standing.{batches_of_stands}
 use Rattle.ar_journal.specs.Journal.{ClosesJournal, IsReady, batches_now}
 use Rattle.ar_journal.specs.declared.journal.Journal.{Journal}
 use Rattle.ar_journal.proofs.Naming.{chosen_named}
-use Rattle.ar_history.specs.declared.entry.Entry.{Entry}
-use Rattle.ar_history.specs.declared.entry.Entry.TheVariants as entries
-use Rattle.ar_history.specs.History.{IsLegal}
-use Rattle.ar_history.specs.Kept.{exchange_of, history_entry}
+use Rattle.ar_served.specs.declared.entry.Entry.{Entry}
+use Rattle.ar_served.specs.declared.entry.Entry.TheVariants as entries
+use Rattle.ar_served.specs.History.{IsLegal}
+use Rattle.ar_served.specs.Kept.{exchange_of, history_entry}
 use Rattle.ar_record.specs.Encoding.{encoding_of}
 use Rattle.ar_record.specs.Reading.{all_decoded, decoded, with_record}
 use Rattle.ar_record.specs.Record.{RecordData, Make, Grow, Remove, Command, AddDisk, IsEncodable}

@@ -6,7 +6,7 @@ use Rattle.std.proofs.lemmas.List.{map_push, take_more}
 use Rattle.ar_unit.specs.Unit.{UnitEntry}
 use Rattle.ar_volume.specs.Sectors.{Address}
 use Rattle.ar_log.specs.Codec.{Batch, items_of}
-use Rattle.ar_history.specs.declared.entry.Entry.{Entry}
+use Rattle.ar_served.specs.declared.entry.Entry.{Entry}
 use Rattle.ar_record.specs.Reading.{all_decoded, decoded, with_record}
 use Rattle.ar_record.proofs.Records.{all_decoded-append}
 use Rattle.ar_record.specs.Record.{RecordData}

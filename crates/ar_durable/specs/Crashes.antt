@@ -1,8 +1,8 @@
 -- What a crash leaves of the history of an array with a store.
 use Rattle.std.specs.Prelude.{◌≡◌, ◌⊎◌, ◌++◌, ℕ, Bool, true, false, List, [], ◌∷◌, IsTrue}
-use Rattle.ar_history.specs.declared.entry.Entry.{Entry}
-use Rattle.ar_history.specs.History.{replay}
-use Rattle.ar_history.specs.Kept.{KeptState, SameLength}
+use Rattle.ar_served.specs.declared.entry.Entry.{Entry}
+use Rattle.ar_served.specs.History.{replay}
+use Rattle.ar_served.specs.Kept.{KeptState, SameLength}
 use Rattle.ar_log.specs.Log.{batches_of}
 use Rattle.ar_log.specs.declared.log.Log.{Log}
 use Rattle.ar_journal.specs.Journal.{IsClean, IsReady, LeavesJournal, chosen, first_of, second_of}

@@ -5,8 +5,8 @@ use Rattle.std.specs.declared.alloc.Global.{Global}
 use Rattle.ar_core.specs.declared.event.OutcomeOf.{OutcomeOf}
 use Rattle.ar_core.specs.declared.event.OutcomeOf.TheVariants.{Make, Grow, Remove}
 use Rattle.ar_log.specs.Codec.{Batch}
-use Rattle.ar_history.specs.declared.entry.Entry.{Entry}
-use Rattle.ar_history.specs.Kept.{KeptState}
+use Rattle.ar_served.specs.declared.entry.Entry.{Entry}
+use Rattle.ar_served.specs.Kept.{KeptState}
 use Rattle.ar_record.specs.Encoding.{encoding_of}
 use Rattle.ar_record.specs.Record.{RecordData, IsEncodable}
 use Rattle.ar_record.specs.Replay.{unit_of}

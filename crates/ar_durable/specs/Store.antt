@@ -12,8 +12,8 @@ use Rattle.ar_checkpoint.specs.Successor.{log_records}
 use Rattle.ar_record.specs.Record.{RecordData}
 use Rattle.ar_record.specs.Replay.{unit_of}
 use Rattle.ar_volume.specs.Sectors.{Address}
-use Rattle.ar_history.specs.declared.entry.Entry.{Entry}
-use Rattle.ar_history.specs.History.{replay}
+use Rattle.ar_served.specs.declared.entry.Entry.{Entry}
+use Rattle.ar_served.specs.History.{replay}
 
 -- the journal, the records that wait for a commit, each as its bytes, and the medium that isn't appended to: the
 -- journal's spare or that of a successor which is being made

@@ -4,11 +4,11 @@ ghost use Rattle.std.specs.Prelude.{◌≡◌, ◌≤◌, ◌∷◌, [], count_b
 ghost use Rattle.ar_core.specs.declared.event.EventOf.TheVariants as events;
 ghost use Rattle.ar_core.specs.Step.{addr_in};
 ghost use Rattle.ar_extents.specs.Set.{CanCount};
-ghost use Rattle.ar_history.specs.History.{is_command};
-ghost use Rattle.ar_history.specs.Kept.{HistoryAgrees};
-ghost use Rattle.ar_history.specs.Seat.{SeatState};
-ghost use Rattle.ar_history.specs.Served.{AnswersCommand, DestagesPart, DiscardsSectors, Maintains, Operates};
-ghost use Rattle.ar_history.specs.Served.{acknowledges, after_refusal, asks_commit};
+ghost use Rattle.ar_served.specs.History.{is_command};
+ghost use Rattle.ar_served.specs.Kept.{HistoryAgrees};
+ghost use Rattle.ar_served.specs.Seat.{SeatState};
+ghost use Rattle.ar_served.specs.Served.{AnswersCommand, DestagesPart, DiscardsSectors, Maintains, Operates};
+ghost use Rattle.ar_served.specs.Served.{acknowledges, after_refusal, asks_commit};
 ghost use Rattle.ar_durable.specs.Crashes.{AreCommitted, KeepsCommitted};
 ghost use Rattle.ar_durable.specs.Durable.{AreRecords};
 ghost use Rattle.ar_durable.specs.Store.{Lasts};
@@ -23,14 +23,13 @@ use ar_checkpoint::CheckpointError;
 use ar_compaction::{MAX_NAME, StoreHead};
 use ar_core::{Array, NewDisk, Outcome, PartFlush};
 use ar_disks::{Addr, Disk, Host};
-use ar_history::{
-    CountedArray, Counts, LiveArray, OperationOf, Seat, StoreState, StoreStatus, Task,
-};
+use ar_history::{CountedArray, LiveArray};
 use ar_log::LogError;
 use ar_media::Media;
 use ar_record::Record;
 use ar_recovery::is_recorded;
 use ar_scsi::Reply;
+use ar_served::{Counts, OperationOf, Seat, StoreState, StoreStatus, Task};
 use bytes::Bytes;
 use log::{Log, error, info, warn};
 use std::alloc::Global;

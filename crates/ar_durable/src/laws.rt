@@ -1,7 +1,7 @@
 // What holds of any run of calls, a crash at any moment of it, and the start after it.
 ghost use Rattle.std.specs.Prelude.{◌≡◌, ◌∷◌, List, ℕ, Some, slice_get};
-ghost use Rattle.ar_history.specs.Kept.{KeptState};
-ghost use Rattle.ar_history.specs.declared.entry.Entry.{Entry};
+ghost use Rattle.ar_served.specs.Kept.{KeptState};
+ghost use Rattle.ar_served.specs.declared.entry.Entry.{Entry};
 ghost use Rattle.ar_log.specs.Log.{batches_of};
 ghost use Rattle.ar_recovery.specs.Recovering.{IsRecovered};
 ghost use Rattle.ar_checkpoint.specs.Successor.{log_records};

@@ -2,8 +2,8 @@
 ghost use Rattle.std.specs.Prelude.{◌≡◌, ◌&&◌};
 ghost use Rattle.ar_scsi.specs.Reading.{reading};
 ghost use Rattle.ar_core.specs.Step.{is_write};
-ghost use Rattle.ar_history.specs.Served.{acknowledges, is_forced};
-ghost use Rattle.ar_history.specs.Serving.{is_recorded};
+ghost use Rattle.ar_served.specs.Served.{acknowledges, is_forced};
+ghost use Rattle.ar_served.specs.Serving.{is_recorded};
 ghost use Rattle.ar_record.specs.Replay.{changes_unit};
 ghost use Rattle.ar_record.specs.Record.{Command, IsEncodable, data_of};
 ghost use Rattle.ar_durable.specs.Durable.{EncodesTo, NotesIf, is_grown, is_made, is_removed};

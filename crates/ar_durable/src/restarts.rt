@@ -1,7 +1,7 @@
 // An array from a store that an earlier program left: its records are executed again, batch by batch.
 ghost use Rattle.std.specs.Prelude.{◌≡◌, ◌∷◌, [], IfOk, IfSome, IsTrue, OnOk, length};
 ghost use Rattle.ar_extents.specs.Set.{CanCount};
-ghost use Rattle.ar_history.specs.Kept.{HistoryAgrees};
+ghost use Rattle.ar_served.specs.Kept.{HistoryAgrees};
 ghost use Rattle.ar_log.specs.Codec.{items_of};
 ghost use Rattle.ar_log.specs.Log.{batches_of};
 ghost use Rattle.ar_journal.specs.Files.{AreDurable};

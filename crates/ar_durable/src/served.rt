@@ -1,14 +1,14 @@
 // A durable array as all that serve it use it.
 ghost use Rattle.ar_core.specs.declared.event.EventOf.TheVariants as events;
 ghost use Rattle.ar_extents.specs.Set.{CanCount};
-ghost use Rattle.ar_history.specs.Served.{Operates};
+ghost use Rattle.ar_served.specs.Served.{Operates};
 
 use crate::DurableArray;
 use ar_core::{Allocation, Array, Outcome, PartFlush};
 use ar_disks::{Addr, Disk, Host};
-use ar_history::{Counts, OperableArray, Seat, ServedArray, StoreStatus, Task, is_idle};
 use ar_media::Media;
 use ar_scsi::Reply;
+use ar_served::{Counts, OperableArray, Seat, ServedArray, StoreStatus, Task, is_idle};
 use bytes::Bytes;
 use log::Log;
 use std::sync::ledger::Ledger;

@@ -12,19 +12,20 @@ use Rattle.ar_core.specs.Events.{Event, Outcome}
 use Rattle.ar_core.specs.Step.{Steps, is_busy}
 use Rattle.ar_core.specs.declared.event.EventOf.TheVariants as events
 use Rattle.ar_core.specs.declared.event.OutcomeOf.TheVariants as outcomes
-use Rattle.ar_history.specs.declared.entry.Entry.{Entry}
-use Rattle.ar_history.specs.declared.entry.Entry.TheVariants as entries
-use Rattle.ar_history.specs.declared.entry.Exchange.{Exchange}
-use Rattle.ar_history.specs.declared.operation.OperationOf.{OperationOf}
-use Rattle.ar_history.specs.declared.operation.OperationOf.TheVariants.{Make, Grow, Remove, AddDisk, DiskOut, Replace}
-use Rattle.ar_history.specs.Counts.{CountsCommand}
-use Rattle.ar_history.specs.History.{is_command}
-use Rattle.ar_history.specs.Kept.{KeptState, HistoryAgrees, StaysKept, exchange_of, history_entry}
-use Rattle.ar_history.specs.Operations.{entry_asked, event_of, is_done}
-use Rattle.ar_history.specs.Seat.{SeatState}
-use Rattle.ar_history.specs.Served.{AnswersCommand}
-use Rattle.ar_history.specs.Serving.{IsRecorded, IsUnrecorded, ServesHost, ServesCommand, BeginsByPlace, DoesCommand}
-use Rattle.ar_history.specs.Serving.{Allocates, is_recorded}
+use Rattle.ar_served.specs.declared.entry.Entry.{Entry}
+use Rattle.ar_served.specs.declared.entry.Entry.TheVariants as entries
+use Rattle.ar_served.specs.declared.entry.Exchange.{Exchange}
+use Rattle.ar_served.specs.declared.operation.OperationOf.{OperationOf}
+use Rattle.ar_served.specs.declared.operation.OperationOf.TheVariants.{Make, Grow, Remove, AddDisk, DiskOut, Replace}
+use Rattle.ar_served.specs.Counts.{CountsCommand}
+use Rattle.ar_served.specs.History.{is_command}
+use Rattle.ar_served.specs.Kept.{KeptState, HistoryAgrees, StaysKept, exchange_of, history_entry}
+use Rattle.ar_served.specs.Operations.{event_of}
+use Rattle.ar_history.specs.Recording.{entry_asked, is_done, IsRecorded, IsUnrecorded, ServesHost}
+use Rattle.ar_served.specs.Seat.{SeatState}
+use Rattle.ar_served.specs.Served.{AnswersCommand}
+use Rattle.ar_served.specs.Serving.{ServesCommand, BeginsByPlace, DoesCommand}
+use Rattle.ar_served.specs.Serving.{Allocates, is_recorded}
 use Rattle.ar_history.proofs.Changing.{done_count, done_recorded, not_done_recorded}
 use Rattle.ar_history.proofs.Commands.{command_entry, count_command}
 

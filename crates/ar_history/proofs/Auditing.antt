@@ -6,17 +6,17 @@ use Rattle.std.proofs.lemmas.Bool.{eqb-true}
 use Rattle.std.proofs.lemmas.List.Sums.{sum_by-append}
 use Rattle.std.proofs.lemmas.List.{append-nil, take_at, take_all, length-take-le}
 use Rattle.std.proofs.lemmas.Option.{slice_get_past, slice_get_within, slice_get_cases}
-use Rattle.ar_history.specs.declared.entry.Entry.{Entry}
-use Rattle.ar_history.specs.declared.entry.Entry.TheVariants.{Make, Grow, Remove, Cmd, Unmap}
-use Rattle.ar_history.specs.declared.entry.Exchange.{Exchange}
+use Rattle.ar_served.specs.declared.entry.Entry.{Entry}
+use Rattle.ar_served.specs.declared.entry.Entry.TheVariants.{Make, Grow, Remove, Cmd, Unmap}
+use Rattle.ar_served.specs.declared.entry.Exchange.{Exchange}
 use Rattle.ar_disks.specs.declared.address.Host.{Host}
 use Rattle.ar_unit.specs.Unit.{answer}
 use Rattle.ar_history.specs.declared.audit.Report.{Report}
 use Rattle.ar_history.specs.declared.audit.Mismatch.{Mismatch}
-use Rattle.ar_history.specs.History.{IsLegal, part, replay, is_command}
+use Rattle.ar_served.specs.History.{IsLegal, part, replay, is_command}
 use Rattle.ar_history.specs.Audit.{DiffersAt, IsHostsPart, IsTranscriptIsolated, IsExecutedAt, command_of, Agrees}
 use Rattle.ar_history.specs.Audit.{Departs}
-use Rattle.ar_history.specs.Seat.{SeatState}
+use Rattle.ar_served.specs.Seat.{SeatState}
 
 -- the element after a list
 behind : {X : Type 0} (xs : List X) (y : X) (rest : List X) → slice_get (xs ++ y ∷ rest) (length xs) ≡ Some y

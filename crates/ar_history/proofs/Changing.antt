@@ -21,11 +21,11 @@ use Rattle.ar_core.specs.Events.{Event, Outcome}
 use Rattle.ar_core.specs.Step.{Steps, Answers, is_quiet, entry_at}
 use Rattle.ar_core.specs.declared.event.EventOf.TheVariants as events
 use Rattle.ar_core.specs.declared.event.OutcomeOf.TheVariants as outcomes
-use Rattle.ar_history.specs.declared.entry.Entry.{Entry}
-use Rattle.ar_history.specs.declared.entry.Entry.TheVariants as entries
-use Rattle.ar_history.specs.History.{address_in, replay, Fits, is_command}
-use Rattle.ar_history.specs.Kept.{HistoryAgrees, history_entry}
-use Rattle.ar_history.specs.Operations.{entry_asked, is_done}
+use Rattle.ar_served.specs.declared.entry.Entry.{Entry}
+use Rattle.ar_served.specs.declared.entry.Entry.TheVariants as entries
+use Rattle.ar_served.specs.History.{address_in, replay, Fits, is_command}
+use Rattle.ar_served.specs.Kept.{HistoryAgrees, history_entry}
+use Rattle.ar_history.specs.Recording.{entry_asked, is_done}
 use Rattle.ar_history.proofs.Keeping.{one_at, kept_same, kept_more}
 
 -- a quiet event is no entry

@@ -24,15 +24,16 @@ use Rattle.ar_core.specs.Step.{Steps, is_busy, addr_in, entry_at}
 use Rattle.ar_core.specs.declared.event.EventOf.TheVariants.{Cmd as CmdEvent, Unmap as UnmapEvent}
 use Rattle.ar_core.specs.declared.event.OutcomeOf.TheVariants.{Cmd as CmdOutcome, Unmap as UnmapOutcome}
 use Rattle.ar_core.proofs.Causes.{was_sound}
-use Rattle.ar_history.specs.declared.counts.Counts.{Counts}
-use Rattle.ar_history.specs.declared.entry.Entry.{Entry}
-use Rattle.ar_history.specs.declared.entry.Entry.TheVariants.{Cmd, Unmap}
-use Rattle.ar_history.specs.History.{replay, is_command, before_last}
-use Rattle.ar_history.specs.Kept.{KeptState, SameLength, HistoryAgrees, with_attention, replayed_unit, exchange_of}
-use Rattle.ar_history.specs.Seat.{SeatState}
-use Rattle.ar_history.specs.declared.entry.Exchange.{Exchange}
-use Rattle.ar_history.specs.Serving.{IsRecorded, IsUnrecorded, ServesCommand, ServesHost, Begins, is_recorded}
-use Rattle.ar_history.specs.Serving.{ServesUnmap, unmap_entry}
+use Rattle.ar_served.specs.declared.counts.Counts.{Counts}
+use Rattle.ar_served.specs.declared.entry.Entry.{Entry}
+use Rattle.ar_served.specs.declared.entry.Entry.TheVariants.{Cmd, Unmap}
+use Rattle.ar_served.specs.History.{replay, is_command}
+use Rattle.ar_history.specs.Recording.{before_last, IsRecorded, IsUnrecorded, ServesHost}
+use Rattle.ar_served.specs.Kept.{KeptState, SameLength, HistoryAgrees, with_attention, replayed_unit, exchange_of}
+use Rattle.ar_served.specs.Seat.{SeatState}
+use Rattle.ar_served.specs.declared.entry.Exchange.{Exchange}
+use Rattle.ar_served.specs.Serving.{ServesCommand, Begins, is_recorded}
+use Rattle.ar_served.specs.Serving.{ServesUnmap, unmap_entry}
 use Rattle.ar_history.proofs.Keeping.{kept_more}
 
 abbrev no_entry : List UnitEntry

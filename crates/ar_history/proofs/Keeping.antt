@@ -15,9 +15,9 @@ use Rattle.ar_volume.proofs.Images.{image_absent}
 use Rattle.ar_core.specs.Events.{Event, Outcome}
 use Rattle.ar_core.specs.Step.{Steps, entry_at}
 use Rattle.ar_core.proofs.Causes.{was_sound}
-use Rattle.ar_history.specs.declared.entry.Entry.{Entry}
-use Rattle.ar_history.specs.History.{address_in, unit_entry, entries_at, replay, Fits, IsLegal}
-use Rattle.ar_history.specs.Kept.{SameLength, HistoryAgrees}
+use Rattle.ar_served.specs.declared.entry.Entry.{Entry}
+use Rattle.ar_served.specs.History.{address_in, unit_entry, entries_at, replay, Fits, IsLegal}
+use Rattle.ar_served.specs.Kept.{SameLength, HistoryAgrees}
 
 -- what one entry is to the unit at an address
 abbrev pub one_at : Address → Entry → List UnitEntry

@@ -28,10 +28,11 @@ use Rattle.ar_core.specs.Step.{Steps, Obeys, MovesNothing, is_busy, is_write, ad
 use Rattle.ar_core.specs.declared.event.EventOf.TheVariants.{Cmd as CmdEvent}
 use Rattle.ar_core.specs.declared.event.OutcomeOf.TheVariants.{Cmd as CmdOutcome}
 use Rattle.ar_history.proofs.Commands.{busy_is}
-use Rattle.ar_history.specs.declared.counts.Counts.{Counts}
-use Rattle.ar_history.specs.Kept.{KeptState}
-use Rattle.ar_history.specs.Seat.{SeatState}
-use Rattle.ar_history.specs.Serving.{IsUncopied, Begins, BeginsByPlace, DoesCommand, LeavesStorage}
+use Rattle.ar_served.specs.declared.counts.Counts.{Counts}
+use Rattle.ar_served.specs.Kept.{KeptState}
+use Rattle.ar_served.specs.Seat.{SeatState}
+use Rattle.ar_served.specs.Serving.{IsUncopied, Begins, BeginsByPlace, DoesCommand}
+use Rattle.ar_history.specs.Recording.{LeavesStorage}
 
 -- no growth is reported where the reply has bytes
 tells_none : (u : UnitState) (cdb bytes : List ℕ) → (answer u cdb bytes).reply.payload ≢ []

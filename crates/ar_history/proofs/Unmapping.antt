@@ -12,10 +12,10 @@ use Rattle.ar_unit.proofs.Laws.{unmap-not_busy}
 use Rattle.ar_volume.specs.Image.{ArrayState, is_broken}
 use Rattle.ar_volume.specs.Sectors.{address_of}
 use Rattle.ar_core.specs.Step.{is_busy}
-use Rattle.ar_history.specs.declared.entry.Entry.{Entry}
-use Rattle.ar_history.specs.History.{replay}
-use Rattle.ar_history.specs.Kept.{replayed_unit}
-use Rattle.ar_history.specs.Serving.{ServesUnmap}
+use Rattle.ar_served.specs.declared.entry.Entry.{Entry}
+use Rattle.ar_served.specs.History.{replay}
+use Rattle.ar_served.specs.Kept.{replayed_unit}
+use Rattle.ar_served.specs.Serving.{ServesUnmap}
 
 -- a status that isn't BUSY
 isnt_busy : (status : Status) → status ≢ Busy → is_busy status ≡ false

@@ -3,11 +3,11 @@ use Rattle.std.specs.Prelude.{◌≡◌, ◌≢◌, ℕ, ◌<◌, ◌≤◌, Boo
 use Rattle.std.specs.Prelude.{◌∷◌, ◌++◌, take, slice_get, length}
 use Rattle.ar_disks.specs.declared.address.Host.{Host}
 use Rattle.ar_unit.specs.Unit.{answer}
-use Rattle.ar_history.specs.declared.entry.Exchange.{Exchange}
-use Rattle.ar_history.specs.declared.entry.Entry.{Entry}
-use Rattle.ar_history.specs.declared.entry.Entry.TheVariants.{Make, Grow, Remove, Cmd, Unmap}
-use Rattle.ar_history.specs.History.{part, replay}
-use Rattle.ar_history.specs.Seat.{SeatState}
+use Rattle.ar_served.specs.declared.entry.Exchange.{Exchange}
+use Rattle.ar_served.specs.declared.entry.Entry.{Entry}
+use Rattle.ar_served.specs.declared.entry.Entry.TheVariants.{Make, Grow, Remove, Cmd, Unmap}
+use Rattle.ar_served.specs.History.{part, replay}
+use Rattle.ar_served.specs.Seat.{SeatState}
 
 -- the first position where two lists differ; it can be the end of one of them
 pub record DiffersAt (position : ℕ) (one other : List Exchange) : Type 0 where

@@ -1,12 +1,13 @@
 pub mod Audit
-pub mod Counts
-pub mod History
-pub mod Kept
-pub mod Operations
-pub mod Seat
-pub mod Served
-pub mod Serving
+pub mod Recording
 -- definitions of lower crates that contracts of this crate cite
+pub use Rattle.ar_served.specs.Counts
+pub use Rattle.ar_served.specs.History
+pub use Rattle.ar_served.specs.Kept
+pub use Rattle.ar_served.specs.Operations
+pub use Rattle.ar_served.specs.Seat
+pub use Rattle.ar_served.specs.Served
+pub use Rattle.ar_served.specs.Serving
 pub use Rattle.ar_core.specs.Events
 pub use Rattle.ar_core.specs.Step
 pub use Rattle.ar_volume.specs.Image

@@ -3,11 +3,12 @@ ghost use Rattle.std.specs.Prelude.{◌≡◌, ◌≤◌, ◌∷◌, [], Some, N
 ghost use Rattle.std.specs.Prelude.{count_by, length};
 ghost use Rattle.ar_history.specs.Audit.{DiffersAt, IsHostsPart, IsFirstMismatch, IsTranscriptIsolated, Agrees};
 ghost use Rattle.ar_history.specs.Audit.{Departs, command_of, IsSame};
-ghost use Rattle.ar_history.specs.History.{IsLegal, is_command, part};
-ghost use Rattle.ar_history.specs.Seat.{SeatState};
+ghost use Rattle.ar_served.specs.History.{IsLegal, is_command, part};
+ghost use Rattle.ar_served.specs.Seat.{SeatState};
 
-use crate::{Entry, Exchange, Kept, Seat};
+use crate::Kept;
 use ar_disks::{Disk, Host};
+use ar_served::{Entry, Exchange, Seat};
 use std::sync::ledger::Ledger;
 
 /// The result of an audit in which each transcript equals its host's part of the history.

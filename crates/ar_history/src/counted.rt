@@ -2,19 +2,20 @@
 // who holds the seat can tell that its commands were executed.
 ghost use Rattle.std.specs.Prelude.{◌≡◌, ◌≤◌, ◌∷◌, [], count_by, false, map};
 ghost use Rattle.ar_core.specs.Step.{addr_in};
-ghost use Rattle.ar_history.specs.Counts.{no_counts};
-ghost use Rattle.ar_history.specs.History.{is_command};
-ghost use Rattle.ar_history.specs.Kept.{HistoryAgrees};
-ghost use Rattle.ar_history.specs.Seat.{SeatState};
-ghost use Rattle.ar_history.specs.Served.{AnswersCommand, DestagesPart, DiscardsSectors, Maintains, Operates};
-ghost use Rattle.ar_history.specs.Served.{after_refusal};
-ghost use Rattle.ar_history.specs.Operations.{event_of};
+ghost use Rattle.ar_served.specs.Counts.{no_counts};
+ghost use Rattle.ar_served.specs.History.{is_command};
+ghost use Rattle.ar_served.specs.Kept.{HistoryAgrees};
+ghost use Rattle.ar_served.specs.Seat.{SeatState};
+ghost use Rattle.ar_served.specs.Served.{AnswersCommand, DestagesPart, DiscardsSectors, Maintains, Operates};
+ghost use Rattle.ar_served.specs.Served.{after_refusal};
+ghost use Rattle.ar_served.specs.Operations.{event_of};
 
+use crate::LiveArray;
 use crate::kept::seats;
-use crate::{Counts, LiveArray, Operation, Seat, Task};
 use ar_core::{Array, Outcome, PartFlush};
 use ar_disks::{Addr, Disk, Host};
 use ar_scsi::Reply;
+use ar_served::{Counts, Operation, Seat, Task};
 use bytes::Bytes;
 use std::alloc::Global;
 use std::marker::Model;
@@ -30,8 +31,8 @@ pub struct CountedArray<D: Disk, L: Ledger> {
 
 impl<D: Disk, L: Ledger> Model for CountedArray<D, L> {
     ghost use Rattle.std.specs.Prelude.{◌≤◌, count_by};
-    ghost use Rattle.ar_history.specs.History.{is_command};
-    ghost use Rattle.ar_history.specs.Kept.{KeptState};
+    ghost use Rattle.ar_served.specs.History.{is_command};
+    ghost use Rattle.ar_served.specs.Kept.{KeptState};
 
     ghost Value = { KeptState };
 

@@ -3,16 +3,18 @@
 ghost use Rattle.std.specs.Prelude.{◌≡◌, ◌<◌, true, false, length};
 ghost use Rattle.ar_volume.specs.Image.{is_broken};
 ghost use Rattle.ar_core.specs.Step.{Steps, addr_in, is_busy};
-ghost use Rattle.ar_history.specs.Counts.{CountsNothing, CountsOperation};
-ghost use Rattle.ar_history.specs.Kept.{StaysKept};
-ghost use Rattle.ar_history.specs.Operations.{Does};
-ghost use Rattle.ar_history.specs.Serving.{AllocatesOne, LeavesUnbegun, ServesUnmap};
+ghost use Rattle.ar_served.specs.Counts.{CountsNothing, CountsOperation};
+ghost use Rattle.ar_served.specs.Kept.{StaysKept};
+ghost use Rattle.ar_served.specs.Operations.{Does};
+ghost use Rattle.ar_served.specs.Serving.{LeavesUnbegun, ServesUnmap};
+ghost use Rattle.ar_history.specs.Recording.{AllocatesOne};
 
 use crate::live::is_lost;
-use crate::{Entry, Kept, LiveArray};
+use crate::{Kept, LiveArray};
 use ar_core::{Array, EventOf, OutcomeOf};
 use ar_disks::{Addr, Disk, Host};
 use ar_scsi::Reply;
+use ar_served::Entry;
 use std::alloc::Global;
 use std::sync::ledger::Ledger;
 

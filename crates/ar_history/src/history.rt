@@ -2,11 +2,11 @@
 // Four of them are proved by hand, since no generated proof makes such a struct.
 ghost use Rattle.std.specs.Prelude.{◌≡◌, List, [], ◌∷◌, ◌++◌, if◌then◌else◌};
 ghost use Rattle.std.specs.Borrow.{ftrue};
-ghost use Rattle.ar_history.specs.declared.entry.Entry.{Entry};
+ghost use Rattle.ar_served.specs.declared.entry.Entry.{Entry};
 
-use crate::Entry;
 use ar_disks::Host;
 use ar_scsi::Reply;
+use ar_served::Entry;
 use bytes::Bytes;
 use std::marker::Model;
 use std::snapshot::Snapshot;
@@ -34,8 +34,8 @@ pub struct Asked {
 }
 
 impl GhostHistory {
-    ghost use Rattle.ar_history.specs.History.{before_last};
-    ghost use Rattle.ar_history.specs.Kept.{exchange_of};
+    ghost use Rattle.ar_history.specs.Recording.{before_last};
+    ghost use Rattle.ar_served.specs.Kept.{exchange_of};
 
     // A history without entries.
     pub(crate) fn new() -> GhostHistory

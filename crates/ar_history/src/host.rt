@@ -5,17 +5,17 @@ ghost use Rattle.std.specs.Prelude.{length, vec_len, vec_capacity};
 ghost use Rattle.ar_volume.specs.Image.{is_broken};
 ghost use Rattle.ar_scsi.specs.Reply.{busy};
 ghost use Rattle.ar_core.specs.Step.{Steps, is_busy};
-ghost use Rattle.ar_history.specs.Counts.{CountsCommand, CountsNothing};
-ghost use Rattle.ar_history.specs.Kept.{StaysKept, exchange_of};
-ghost use Rattle.ar_history.specs.Serving.{ServesHost, Begins, BeginsByPlace, DoesCommand, HasCapacity, LeavesStorage};
-ghost use Rattle.ar_history.specs.Serving.{Allocates, ServesCommand, with_reply};
+ghost use Rattle.ar_served.specs.Counts.{CountsCommand, CountsNothing};
+ghost use Rattle.ar_served.specs.Kept.{StaysKept, exchange_of};
+ghost use Rattle.ar_served.specs.Serving.{Begins, BeginsByPlace, DoesCommand, HasCapacity};
+ghost use Rattle.ar_history.specs.Recording.{ServesHost, LeavesStorage, with_reply};
+ghost use Rattle.ar_served.specs.Serving.{Allocates, ServesCommand};
 
-use crate::entry::shared;
-use crate::operate::reserve_place;
-use crate::{Entry, Exchange, Kept, Seat};
+use crate::Kept;
 use ar_core::{EventOf, OutcomeOf};
 use ar_disks::{Disk, Host};
 use ar_scsi::Reply;
+use ar_served::{Entry, Exchange, Seat, reserve_place};
 use bytes::Bytes;
 use std::alloc::AllocError;
 use std::sync::ledger::{Book, Ledger};
@@ -58,7 +58,8 @@ impl<D: Disk + Drop, L: Ledger> Kept<D, L> {
         let _ = &self.live;
         let sent = payload.len() as u64;
         let served = self.execute(seat, lun, cdb, payload);
-        self.live.count_command(seat.host, cdb, sent, &served.reply);
+        self.live
+            .count_command(seat.host(), cdb, sent, &served.reply);
         served
     }
 
@@ -74,7 +75,7 @@ impl<D: Disk + Drop, L: Ledger> Kept<D, L> {
         ensures memory { Allocates self.old seat.old self.new seat.new }
     {
         if self.live.is_lost() {
-            return self.unrecorded(seat.host, lun, cdb, payload);
+            return self.unrecorded(seat.host(), lun, cdb, payload);
         }
         match self.prepare(seat, lun, cdb, &payload) {
             Ok(copies) => self.execute_prepared(seat, copies, payload),
@@ -118,7 +119,7 @@ impl<D: Disk + Drop, L: Ledger> Kept<D, L> {
         ensures same_seat { seat.new ≡ record seat.old { room = seat.new.room } }
     {
         reserve_place(&mut self.history)?;
-        reserve_place(&mut seat.transcript)?;
+        seat.reserve()?;
         Copies::new(lun, cdb, payload)
     }
 
@@ -142,7 +143,7 @@ impl<D: Disk + Drop, L: Ledger> Kept<D, L> {
     {
         let reply = self
             .live
-            .execute(seat.host, copies.ours.lun, copies.ours.cdb, payload);
+            .execute(seat.host(), copies.ours.lun, copies.ours.cdb, payload);
         if !self.live.has_recorded(&reply) {
             return Served { reply, at: None };
         }
@@ -216,6 +217,14 @@ fn exchange(lun: u8, cdb: [u8; 16], payload: &Bytes) -> Result<Exchange, AllocEr
     })
 }
 
+// Shares the bytes without copying them. With no bytes it never fails.
+fn shared(bytes: &Bytes) -> Result<Bytes, AllocError>
+    ensures granted { bytes.now ≡ [] → IsOk result }
+    ensures same { IfOk result (λ same. same ≡ bytes.now) }
+{
+    bytes.slice(0..bytes.len())
+}
+
 // Appends a command to history and transcript, and returns its position in the history.
 fn record<L: Ledger>(
     history: &mut Vec<Entry>,
@@ -238,7 +247,7 @@ fn record<L: Ledger>(
 {
     let Copies { ours, theirs } = copies;
     let at = history.len() as u64;
-    history.push_reserved(Entry::Cmd(seat.host, ours));
+    history.push_reserved(Entry::Cmd(seat.host(), ours));
     seat.append(book, theirs);
     at
 }

@@ -1,16 +1,17 @@
 // A live array with its history stored: the stored list is the one that contracts see of the live array, so that what
 // is proved of that one (`HistoryAgrees`) is true of it. The ledger's total is the number of commands in the history.
 ghost use Rattle.std.specs.Prelude.{◌≡◌, ◌<◌, ◌≤◌, ◌+◌, [], ◌∷◌, count_by, map};
-ghost use Rattle.ar_history.specs.Counts.{no_counts};
-ghost use Rattle.ar_history.specs.History.{is_command};
-ghost use Rattle.ar_history.specs.Kept.{HistoryAgrees};
-ghost use Rattle.ar_history.specs.Seat.{SeatState};
-ghost use Rattle.ar_history.specs.Served.{after_refusal};
+ghost use Rattle.ar_served.specs.Counts.{no_counts};
+ghost use Rattle.ar_served.specs.History.{is_command};
+ghost use Rattle.ar_served.specs.Kept.{HistoryAgrees};
+ghost use Rattle.ar_served.specs.Seat.{SeatState};
+ghost use Rattle.ar_served.specs.Served.{after_refusal};
 
-use crate::{Counts, Entry, LiveArray, Seat};
+use crate::LiveArray;
 use ar_core::Array;
 use ar_disks::{Disk, Host};
 use ar_scsi::Reply;
+use ar_served::{Counts, Entry, Seat};
 use std::alloc::Global;
 use std::marker::Model;
 use std::sync::ledger::{Blank, Book, Ledger, Share};
@@ -29,8 +30,8 @@ pub struct Kept<D: Disk, L: Ledger> {
 
 impl<D: Disk, L: Ledger> Model for Kept<D, L> {
     ghost use Rattle.std.specs.Prelude.{◌≡◌, count_by, vec_capacity};
-    ghost use Rattle.ar_history.specs.History.{is_command};
-    ghost use Rattle.ar_history.specs.Kept.{KeptState, HistoryAgrees};
+    ghost use Rattle.ar_served.specs.History.{is_command};
+    ghost use Rattle.ar_served.specs.Kept.{KeptState, HistoryAgrees};
 
     ghost Value = { KeptState };
 
@@ -167,11 +168,7 @@ fn seat<L: Ledger>(alloc: Global, share: &mut Share<L>, number: u8) -> Seat<L>
     ensures parts { share.new.parts + 1 ≡ share.old.parts }
     ensures amount { share.new.amount ≡ 0 }
 {
-    Seat {
-        host: host(number),
-        transcript: Vec::new(alloc),
-        share: share.split_off(1, 0),
-    }
+    Seat::new(alloc, host(number), share.split_off(1, 0))
 }
 
 // The host of a number.

@@ -3,14 +3,14 @@
 // recorded.
 ghost use Rattle.std.specs.Prelude.{◌≡◌, [], if◌then◌else◌};
 ghost use Rattle.ar_volume.specs.Image.{is_broken};
-ghost use Rattle.ar_history.specs.Counts.{no_counts, counts_after, task_counts_after, raised};
-ghost use Rattle.ar_history.specs.Kept.{HistoryAgrees};
+ghost use Rattle.ar_served.specs.Counts.{no_counts, counts_after, task_counts_after, raised};
+ghost use Rattle.ar_served.specs.Kept.{HistoryAgrees};
 
 use crate::history::GhostHistory;
-use crate::{Counts, Task};
 use ar_core::{Array, Health};
 use ar_disks::{Disk, Host};
 use ar_scsi::Reply;
+use ar_served::{Counts, Task};
 use std::alloc::Global;
 use std::marker::Model;
 
@@ -26,7 +26,7 @@ pub struct LiveArray<D: Disk> {
 }
 
 impl<D: Disk> Model for LiveArray<D> {
-    ghost use Rattle.ar_history.specs.Kept.{KeptState, HistoryAgrees};
+    ghost use Rattle.ar_served.specs.Kept.{KeptState, HistoryAgrees};
 
     ghost Value = { KeptState };
 

@@ -2,10 +2,10 @@
 // array has failed.
 ghost use Rattle.std.specs.Prelude.{◌≡◌, ◌≢◌, [], true, length};
 ghost use Rattle.ar_core.specs.Step.{Steps, is_busy};
-ghost use Rattle.ar_history.specs.Counts.{CountsCommand, CountsNothing};
-ghost use Rattle.ar_history.specs.History.{before_last};
-ghost use Rattle.ar_history.specs.Kept.{HistoryAgrees, StaysKept};
-ghost use Rattle.ar_history.specs.Serving.{ServesCommand, LeavesStorage, is_recorded};
+ghost use Rattle.ar_served.specs.Counts.{CountsCommand, CountsNothing};
+ghost use Rattle.ar_history.specs.Recording.{before_last, LeavesStorage};
+ghost use Rattle.ar_served.specs.Kept.{HistoryAgrees, StaysKept};
+ghost use Rattle.ar_served.specs.Serving.{ServesCommand, is_recorded};
 
 use crate::LiveArray;
 use crate::history::Asked;

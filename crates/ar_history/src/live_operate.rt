@@ -5,13 +5,15 @@ ghost use Rattle.ar_volume.specs.Flush.{PartOnDisks, has_flushed};
 ghost use Rattle.ar_volume.specs.Image.{is_broken, image};
 ghost use Rattle.ar_volume.specs.Sectors.{Address};
 ghost use Rattle.ar_core.specs.Step.{Steps, is_quiet};
-ghost use Rattle.ar_history.specs.Counts.{CountsNothing, CountsOperation, CountsTask};
-ghost use Rattle.ar_history.specs.Kept.{StaysKept, history_entry};
-ghost use Rattle.ar_history.specs.Operations.{event_of, event_of_task, entry_asked, is_done};
+ghost use Rattle.ar_served.specs.Counts.{CountsNothing, CountsOperation, CountsTask};
+ghost use Rattle.ar_served.specs.Kept.{StaysKept, history_entry};
+ghost use Rattle.ar_served.specs.Operations.{event_of, event_of_task};
+ghost use Rattle.ar_history.specs.Recording.{entry_asked, is_done};
 
-use crate::{Entry, LiveArray, Operation, OperationOf, Task, is_idle};
+use crate::LiveArray;
 use ar_core::{Event, EventOf, Outcome, OutcomeOf, PartFlush};
 use ar_disks::{Addr, Disk};
+use ar_served::{Entry, Operation, OperationOf, Task, is_idle};
 
 impl<D: Disk + Drop> LiveArray<D> {
     /// Executes one operation and returns the array's outcome. A create, resize or delete that is done is the history's

@@ -1,27 +1,23 @@
 // Operations and background work. Capacity for an entry is reserved before the array acts, so that each create, resize
 // or delete that is done is recorded.
-ghost use Rattle.std.specs.Prelude.{◌≡◌, ◌≢◌, ◌⊎◌, ◌<◌, ◌++◌, true, false, Some, None, IsTrue, IsOk, OnOk, length};
-ghost use Rattle.std.specs.Prelude.{vec_len, vec_capacity};
+ghost use Rattle.std.specs.Prelude.{◌≡◌, ◌≢◌, ◌⊎◌, ◌<◌, ◌++◌, true, false, Some, None, IsTrue, length};
 ghost use Rattle.ar_volume.specs.Flush.{PartOnDisks, has_flushed};
 ghost use Rattle.ar_volume.specs.Image.{is_broken, image};
 ghost use Rattle.ar_volume.specs.Sectors.{Address};
 ghost use Rattle.ar_core.specs.Step.{Steps, is_quiet};
-ghost use Rattle.ar_history.specs.Counts.{CountsNothing, CountsOperation, CountsTask};
-ghost use Rattle.ar_history.specs.Kept.{HistoryAgrees, MayGrow, StaysKept, history_entry};
-ghost use Rattle.ar_history.specs.Operations.{Does, IsNoMemory, IsRefused, AllocatesFor, event_of, event_of_task};
-ghost use Rattle.ar_history.specs.Operations.{entry_asked};
+ghost use Rattle.ar_served.specs.Counts.{CountsNothing, CountsOperation, CountsTask};
+ghost use Rattle.ar_served.specs.Kept.{HistoryAgrees, MayGrow, StaysKept, history_entry};
+ghost use Rattle.ar_served.specs.Operations.{Does, IsNoMemory, IsRefused, event_of, event_of_task};
+ghost use Rattle.ar_history.specs.Recording.{AllocatesFor, entry_asked};
 
+use crate::Kept;
 use crate::live_operate::is_done;
-use crate::{Entry, Kept, Operation, OperationOf, Task};
 use ar_core::{Event, EventOf, Outcome, OutcomeOf, PartFlush, Refusal, UnitRefusal};
 use ar_disks::{Addr, Disk};
-use std::alloc::AllocError;
+use ar_served::{Entry, Operation, OperationOf, Task, reserve_place};
 use std::sync::ledger::Ledger;
 
 const NO_MEMORY: Refusal = Refusal::Unit(UnitRefusal::NoMemory);
-
-// The first capacity of a list, in items.
-const FIRST_PLACES: usize = 4;
 
 impl<D: Disk + Drop, L: Ledger> Kept<D, L> {
     /// Executes one operation and returns the array's outcome. A create, resize or delete that is done is the history's
@@ -167,19 +163,4 @@ impl<D: Disk + Drop, L: Ledger> Kept<D, L> {
     {
         self.live.is_lost() || reserve_place(&mut self.history).is_ok()
     }
-}
-
-// Grows a full list by half of its capacity. By `reserve_exact`, since std gives no upper bound on what `reserve` adds.
-pub(crate) fn reserve_place<T>(list: &mut Vec<T>) -> Result<(), AllocError>
-    ensures items { list.new.items ≡ list.old.items }
-    ensures place { OnOk result (vec_len list.new < vec_capacity list.new) }
-    ensures granted { vec_len list.old < vec_capacity list.new → IsOk result }
-    ensures placed { vec_len list.old < vec_capacity list.old
-        → IsOk result × (vec_capacity list.new ≡ vec_capacity list.old) }
-    ensures grown { MayGrow (vec_capacity list.old) (vec_capacity list.new) }
-{
-    if list.len() < list.capacity() {
-        return Ok(());
-    }
-    list.reserve_exact((list.len() / 2).max(FIRST_PLACES))
 }

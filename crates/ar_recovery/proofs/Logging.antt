@@ -8,11 +8,11 @@ use Rattle.ar_scsi.specs.declared.reply.Reply.{Reply}
 use Rattle.ar_unit.specs.Unit.{UnitState, Absent, UnitEntry, Cmd as UnitCmd, answer, unit_run}
 use Rattle.ar_unit.proofs.Laws.{unit_run-append}
 use Rattle.ar_volume.specs.Sectors.{Address, same_address}
-use Rattle.ar_history.specs.declared.entry.Entry.{Entry}
-use Rattle.ar_history.specs.declared.entry.Entry.TheVariants as entries
-use Rattle.ar_history.specs.declared.entry.Exchange.{Exchange}
+use Rattle.ar_served.specs.declared.entry.Entry.{Entry}
+use Rattle.ar_served.specs.declared.entry.Entry.TheVariants as entries
+use Rattle.ar_served.specs.declared.entry.Exchange.{Exchange}
 use Rattle.ar_disks.specs.declared.address.Host.{Host}
-use Rattle.ar_history.specs.History.{address_in, unit_entry, entries_at, replay, Fits, IsLegal}
+use Rattle.ar_served.specs.History.{address_in, unit_entry, entries_at, replay, Fits, IsLegal}
 use Rattle.ar_history.proofs.Keeping.{one_at, replay_more}
 use Rattle.ar_record.specs.Record.{RecordData, Command}
 use Rattle.ar_record.specs.Replay.{own_in, own_of, unit_of, changes_unit}

@@ -5,9 +5,9 @@ use Rattle.ar_disks.specs.declared.address.Addr.{Addr}
 use Rattle.ar_unit.specs.Unit.{UnitState, UnitEntry}
 use Rattle.ar_volume.specs.Image.{is_broken, image}
 use Rattle.ar_volume.specs.Sectors.{Address}
-use Rattle.ar_history.specs.declared.entry.Entry.{Entry}
-use Rattle.ar_history.specs.declared.entry.Entry.TheVariants as entries
-use Rattle.ar_history.specs.Kept.{KeptState, SameLength, HistoryAgrees, exchange_of}
+use Rattle.ar_served.specs.declared.entry.Entry.{Entry}
+use Rattle.ar_served.specs.declared.entry.Entry.TheVariants as entries
+use Rattle.ar_served.specs.Kept.{KeptState, SameLength, HistoryAgrees, exchange_of}
 use Rattle.ar_record.specs.declared.record.Record.{Record as Stored}
 use Rattle.ar_record.specs.Record.{RecordData, Make, Grow, Remove, Command, Unmap, AddDisk, data_of}
 use Rattle.ar_record.specs.Replay.{changes_unit, own_in, own_of, unit_of}

@@ -2,9 +2,9 @@
 use Rattle.std.specs.Prelude.{◌≡◌, ◌++◌, ◌∷◌, [], List, if◌then◌else◌}
 use Rattle.ar_unit.specs.Unit.{Absent, unit_run}
 use Rattle.ar_volume.specs.Sectors.{Address}
-use Rattle.ar_history.specs.declared.entry.Entry.{Entry}
-use Rattle.ar_history.specs.declared.entry.Entry.TheVariants as entries
-use Rattle.ar_history.specs.History.{IsLegal, replay}
+use Rattle.ar_served.specs.declared.entry.Entry.{Entry}
+use Rattle.ar_served.specs.declared.entry.Entry.TheVariants as entries
+use Rattle.ar_served.specs.History.{IsLegal, replay}
 use Rattle.ar_record.specs.Record.{RecordData, Make, Grow, Remove, Command, Unmap}
 use Rattle.ar_record.specs.Replay.{changes_unit, own_of, unit_of}
 

@@ -4,9 +4,9 @@ use Rattle.ar_disks.specs.declared.address.Addr.{Addr}
 use Rattle.ar_scsi.specs.declared.reply.Reply.{Reply}
 use Rattle.ar_volume.specs.Image.{is_broken, image}
 use Rattle.ar_volume.specs.Sectors.{Address}
-use Rattle.ar_history.specs.declared.entry.Entry.{Entry}
-use Rattle.ar_history.specs.declared.entry.Entry.TheVariants.{Cmd}
-use Rattle.ar_history.specs.Kept.{KeptState, SameLength, exchange_of}
+use Rattle.ar_served.specs.declared.entry.Entry.{Entry}
+use Rattle.ar_served.specs.declared.entry.Entry.TheVariants.{Cmd}
+use Rattle.ar_served.specs.Kept.{KeptState, SameLength, exchange_of}
 use Rattle.ar_record.specs.Record.{RecordData}
 use Rattle.ar_recovery.specs.declared.from_records.RecoveryFault.{RecoveryFault}
 use Rattle.ar_recovery.specs.declared.from_records.RecoveryFault.TheVariants.{Disks, Record}

@@ -2,18 +2,19 @@
 // nothing else that changes a unit (`Redoes`).
 ghost use Rattle.std.specs.Prelude.{◌≡◌, ◌≤◌, ◌++◌, ◌∷◌, [], true, IfOk, All, map};
 ghost use Rattle.ar_extents.specs.Set.{CanCount};
-ghost use Rattle.ar_history.specs.declared.entry.Entry.TheVariants as entries;
-ghost use Rattle.ar_history.specs.Kept.{HistoryAgrees};
-ghost use Rattle.ar_history.specs.Serving.{is_recorded};
+ghost use Rattle.ar_served.specs.declared.entry.Entry.TheVariants as entries;
+ghost use Rattle.ar_served.specs.Kept.{HistoryAgrees};
+ghost use Rattle.ar_served.specs.Serving.{is_recorded};
 ghost use Rattle.ar_record.specs.Record.{data_of};
 ghost use Rattle.ar_recovery.specs.Recovering.{Redoes, RedoesCommand};
 
 use ar_core::{Array, Health, NewDisk, OutcomeOf};
 use ar_disks::{Addr, Disk};
 use ar_extents::StartFault;
-use ar_history::{LiveArray, OperationOf, Task, is_idle};
+use ar_history::LiveArray;
 use ar_record::{Record, changes_unit};
 use ar_scsi::{Reply, Status};
+use ar_served::{OperationOf, Task, is_idle};
 use bytes::Bytes;
 use std::alloc::{AllocError, Global};
 use std::collections::VecDeque;
@@ -31,7 +32,7 @@ pub struct Recovery<D: Disk> {
 }
 
 impl<D: Disk> Model for Recovery<D> {
-    ghost use Rattle.ar_history.specs.Kept.{KeptState, HistoryAgrees};
+    ghost use Rattle.ar_served.specs.Kept.{KeptState, HistoryAgrees};
 
     ghost Value = { KeptState };
 

@@ -13,13 +13,13 @@ use Rattle.ar_unit.specs.Broken.{needs_blocks, is_good, where_broken}
 use Rattle.ar_disks.specs.declared.address.Host.{Host}
 use Rattle.ar_volume.specs.Image.{ArrayState, is_broken}
 use Rattle.ar_core.specs.Step.{is_busy}
-use Rattle.ar_history.specs.declared.entry.Entry.{Entry}
-use Rattle.ar_history.specs.declared.entry.Exchange.{Exchange}
-use Rattle.ar_history.specs.Kept.{KeptState, exchange_of, replayed_unit}
-use Rattle.ar_history.specs.Seat.{SeatState}
-use Rattle.ar_history.specs.Served.{AnswersCommand}
-use Rattle.ar_history.specs.Serving.{ServesCommand, is_recorded}
-use Rattle.ar_history.specs.Served.{acknowledges, asks_commit}
+use Rattle.ar_served.specs.declared.entry.Entry.{Entry}
+use Rattle.ar_served.specs.declared.entry.Exchange.{Exchange}
+use Rattle.ar_served.specs.Kept.{KeptState, exchange_of, replayed_unit}
+use Rattle.ar_served.specs.Seat.{SeatState}
+use Rattle.ar_served.specs.Served.{AnswersCommand}
+use Rattle.ar_served.specs.Serving.{ServesCommand, is_recorded}
+use Rattle.ar_served.specs.Served.{acknowledges, asks_commit}
 use Rattle.ar_frames.specs.Frame.{IsReply}
 use Rattle.ar_sessions.specs.Port.{AnswersLasting, AsksArray, GrowsSeat, KeepsSeat, RecordsCommand}
 use Rattle.ar_sessions.specs.Port.{SettlesReply, is_good_access, lasting_reply}

@@ -10,11 +10,11 @@ use Rattle.ar_unit.proofs.Laws.{each_unmapped}
 use Rattle.ar_volume.specs.Image.{ArrayState, is_broken}
 use Rattle.ar_volume.specs.Sectors.{address_of}
 use Rattle.ar_core.specs.Step.{is_busy}
-use Rattle.ar_history.specs.declared.entry.Entry.{Entry}
-use Rattle.ar_history.specs.History.{replay}
-use Rattle.ar_history.specs.Kept.{KeptState, replayed_unit}
-use Rattle.ar_history.specs.Served.{DiscardsSectors, acknowledges}
-use Rattle.ar_history.specs.Serving.{ServesUnmap}
+use Rattle.ar_served.specs.declared.entry.Entry.{Entry}
+use Rattle.ar_served.specs.History.{replay}
+use Rattle.ar_served.specs.Kept.{KeptState, replayed_unit}
+use Rattle.ar_served.specs.Served.{DiscardsSectors, acknowledges}
+use Rattle.ar_served.specs.Serving.{ServesUnmap}
 use Rattle.ar_frames.specs.Frame.{IsReply}
 use Rattle.ar_sessions.specs.Port.{SettlesReply}
 use Rattle.ar_sessions.specs.Discarding.{DiscardedAtOneMoment}

@@ -2,7 +2,7 @@
 use Rattle.std.proofs.Common.{◌≡◌, ◌<◌, ℕ, get_or, subst, [], ◌∷◌, length, set, Option, Some, None, IfSome, refl, sym}
 use Rattle.std.proofs.Common.{ap, ◌∙◌, arith}
 use Rattle.std.proofs.lemmas.List.{get_or_default, length-set}
-use Rattle.ar_history.specs.Seat.{SeatState}
+use Rattle.ar_served.specs.Seat.{SeatState}
 use Rattle.ar_sessions.specs.Desk.{Places, seat_at, AreOwn}
 
 -- what lies in a place is its own host's seat

@@ -31,10 +31,10 @@ use Rattle.ar_volume.specs.Sectors.{Address}
 use Rattle.ar_disks.specs.declared.address.Host.{Host}
 use Rattle.ar_core.specs.Step.{is_busy}
 use Rattle.ar_volume.specs.Image.{ArrayState, is_broken}
-use Rattle.ar_history.specs.declared.entry.Entry.{Entry}
-use Rattle.ar_history.specs.History.{replay, entries_at}
-use Rattle.ar_history.specs.Kept.{replayed_unit, with_attention}
-use Rattle.ar_history.specs.Serving.{ServesCommand, is_recorded}
+use Rattle.ar_served.specs.declared.entry.Entry.{Entry}
+use Rattle.ar_served.specs.History.{replay, entries_at}
+use Rattle.ar_served.specs.Kept.{replayed_unit, with_attention}
+use Rattle.ar_served.specs.Serving.{ServesCommand, is_recorded}
 use Rattle.ar_frames.specs.Frame.{IsReply}
 use Rattle.ar_sessions.proofs.Asking.{both}
 

@@ -4,10 +4,10 @@ use Rattle.std.specs.Prelude.{Option, Some, None}
 use Rattle.ar_book.specs.Tables.{free_groups}
 use Rattle.ar_volume.specs.Image.{is_broken, image}
 use Rattle.ar_volume.specs.Sectors.{Address}
-use Rattle.ar_history.specs.declared.operation.Task.{Task}
-use Rattle.ar_history.specs.declared.operation.Task.TheVariants.{Flush, Rebuild, Clean, Balance, Demote}
-use Rattle.ar_history.specs.Kept.{KeptState}
-use Rattle.ar_history.specs.Served.{Works}
+use Rattle.ar_served.specs.declared.operation.Task.{Task}
+use Rattle.ar_served.specs.declared.operation.Task.TheVariants.{Flush, Rebuild, Clean, Balance, Demote}
+use Rattle.ar_served.specs.Kept.{KeptState}
+use Rattle.ar_served.specs.Served.{Works}
 use Rattle.ar_sessions.specs.declared.background.Rotation.{Rotation}
 
 -- the next task of the rotation

@@ -5,7 +5,7 @@ use Rattle.std.specs.Prelude.{is_some, option_map, set}
 use Rattle.ar_disks.specs.declared.address.Host.{Host}
 use Rattle.ar_scsi.specs.declared.reply.Reply.{Reply}
 use Rattle.ar_unit.specs.Broken.{is_good}
-use Rattle.ar_history.specs.Seat.{SeatState}
+use Rattle.ar_served.specs.Seat.{SeatState}
 use Rattle.ar_latency.specs.Latency.{saturated}
 use Rattle.ar_sessions.specs.declared.desk.SessionCounts.{SessionCounts}
 

@@ -7,9 +7,9 @@ use Rattle.ar_unit.specs.Broken.{is_good}
 use Rattle.ar_core.specs.Allocation.{allocation_of}
 use Rattle.ar_core.specs.declared.allocation.Allocation.{Allocation}
 use Rattle.ar_core.specs.Step.{addr_in}
-use Rattle.ar_history.specs.Kept.{KeptState, HistoryAgrees}
-use Rattle.ar_history.specs.Seat.{SeatState}
-use Rattle.ar_history.specs.Served.{DiscardsSectors}
+use Rattle.ar_served.specs.Kept.{KeptState, HistoryAgrees}
+use Rattle.ar_served.specs.Seat.{SeatState}
+use Rattle.ar_served.specs.Served.{DiscardsSectors}
 use Rattle.ar_sessions.specs.Port.{SettlesReply}
 use Rattle.ar_target.specs.declared.discard_port.BlockRun.{BlockRun}
 

@@ -1,6 +1,6 @@
 -- How connections end.
 use Rattle.std.specs.Prelude.{◌≡◌, ◌⊎◌, Bool, None, Some, Option}
-use Rattle.ar_history.specs.Seat.{SeatState}
+use Rattle.ar_served.specs.Seat.{SeatState}
 use Rattle.ar_frames.specs.declared.end.SessionEnd.{SessionEnd}
 use Rattle.ar_frames.specs.declared.end.EndReason.TheVariants.{Read}
 use Rattle.ar_frames.specs.Stream.{SourceState, SinkState}

@@ -5,9 +5,9 @@ use Rattle.ar_disks.specs.declared.address.Host.{Host}
 use Rattle.ar_volume.specs.declared.flush.PartFlush.{PartFlush}
 use Rattle.ar_volume.specs.declared.flush.PartFlush.TheVariants as flushes
 use Rattle.ar_volume.specs.Flush.{part_blocks}
-use Rattle.ar_history.specs.Kept.{KeptState}
-use Rattle.ar_history.specs.Seat.{SeatState}
-use Rattle.ar_history.specs.Served.{DestagesPart}
+use Rattle.ar_served.specs.Kept.{KeptState}
+use Rattle.ar_served.specs.Seat.{SeatState}
+use Rattle.ar_served.specs.Served.{DestagesPart}
 use Rattle.ar_target.specs.declared.flush_port.FlushOutcome.{FlushOutcome}
 use Rattle.ar_target.specs.declared.flush_port.FlushOutcome.TheVariants as outcomes
 

@@ -7,12 +7,12 @@ pub mod Limits
 pub mod Port
 pub mod Refusing
 -- definitions of lower crates that clauses of this crate cite
-pub use Rattle.ar_history.specs.Seat
-pub use Rattle.ar_history.specs.Counts
-pub use Rattle.ar_history.specs.Kept
-pub use Rattle.ar_history.specs.Served
-pub use Rattle.ar_history.specs.Serving
-pub use Rattle.ar_history.specs.Operations
+pub use Rattle.ar_served.specs.Seat
+pub use Rattle.ar_served.specs.Counts
+pub use Rattle.ar_served.specs.Kept
+pub use Rattle.ar_served.specs.Served
+pub use Rattle.ar_served.specs.Serving
+pub use Rattle.ar_served.specs.Operations
 pub use Rattle.ar_core.specs.Step
 pub use Rattle.ar_volume.specs.Image
 pub use Rattle.ar_volume.specs.Sectors

@@ -6,9 +6,9 @@ use Rattle.ar_scsi.specs.Reading.{reading}
 use Rattle.ar_scsi.specs.Reply.{check}
 use Rattle.ar_scsi.specs.Sense.{internal_target_failure}
 use Rattle.ar_unit.specs.Broken.{needs_blocks, is_good}
-use Rattle.ar_history.specs.Kept.{KeptState, exchange_of}
-use Rattle.ar_history.specs.Seat.{SeatState}
-use Rattle.ar_history.specs.Served.{AnswersCommand, acknowledges}
+use Rattle.ar_served.specs.Kept.{KeptState, exchange_of}
+use Rattle.ar_served.specs.Seat.{SeatState}
+use Rattle.ar_served.specs.Served.{AnswersCommand, acknowledges}
 use Rattle.ar_frames.specs.Conversation.{Commands}
 use Rattle.ar_frames.specs.declared.port.Login.{Login}
 use Rattle.ar_frames.specs.declared.port.Login.TheVariants.{Taken, BadHost, InUse}

@@ -1,8 +1,8 @@
 -- A command that is refused at a session's port.
 use Rattle.std.specs.Prelude.{◌≡◌, ℕ, List, Option, Some}
-use Rattle.ar_history.specs.Kept.{KeptState}
-use Rattle.ar_history.specs.Seat.{SeatState}
-use Rattle.ar_history.specs.Served.{after_refusal}
+use Rattle.ar_served.specs.Kept.{KeptState}
+use Rattle.ar_served.specs.Seat.{SeatState}
+use Rattle.ar_served.specs.Served.{after_refusal}
 
 -- A reply BUSY to a command of this host was counted at one moment: there are a state of an array before it and one
 -- after it, which differ by that alone. That these are states of the array behind the lock is not specified.

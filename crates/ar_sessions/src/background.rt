@@ -4,7 +4,7 @@ ghost use Rattle.std.specs.Prelude.{◌≡◌, ◌<◌, nat_lt};
 ghost use Rattle.ar_sessions.specs.Background.{is_due, is_long, is_resting, begun, paused, stepped, pause_after};
 ghost use Rattle.ar_sessions.specs.Background.{task_after, TakesTurn, MakesPass};
 
-use ar_history::{ServedArray, Task};
+use ar_served::{ServedArray, Task};
 use std::sync::atomic::{AtomicBool, Ordering};
 use std::sync::ledger::Ledger;
 use std::sync::{Mutex, Wait};

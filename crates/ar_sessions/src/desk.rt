@@ -2,14 +2,14 @@
 ghost use Rattle.std.specs.Prelude.{◌≡◌, ◌<◌, ℕ, [], ◌∷◌, map, set, Option, Some, None, is_some, not, true, false};
 ghost use Rattle.std.specs.Prelude.{IfOk, IfErr, OnErr, IfSome};
 ghost use Rattle.std.specs.List.{list_all};
-ghost use Rattle.ar_history.specs.Seat.{SeatState};
+ghost use Rattle.ar_served.specs.Seat.{SeatState};
 ghost use Rattle.ar_sessions.specs.Desk.{AreOwn, HandsOut, Lends, Places, seat_at, receipt_of, session_after};
 
 use crate::timing::CommandTime;
 use ar_disks::Host;
-use ar_history::Seat;
 use ar_latency::CommandLatencies;
 use ar_scsi::{Reply, Status};
+use ar_served::Seat;
 use std::marker::Model;
 use std::sync::ledger::Ledger;
 
@@ -49,7 +49,7 @@ pub struct SeatSlot<L: Ledger> {
 
 impl<L: Ledger> Model for SeatSlot<L> {
     ghost use Rattle.std.specs.Prelude.{Option};
-    ghost use Rattle.ar_history.specs.Seat.{SeatState};
+    ghost use Rattle.ar_served.specs.Seat.{SeatState};
 
     ghost Value = { Option SeatState };
 

@@ -1,7 +1,7 @@
 // What a device server needs of a session's port beyond commands: that the cached blocks of a unit are written to the
 // disks.
 ghost use Rattle.std.specs.Prelude.{◌≡◌};
-ghost use Rattle.ar_history.specs.Served.{DestagesPart};
+ghost use Rattle.ar_served.specs.Served.{DestagesPart};
 ghost use Rattle.ar_sessions.specs.Flushing.{CommitsFlush, DestagedInParts, DestagedPart, FlushesLun};
 ghost use Rattle.ar_sessions.specs.Flushing.{FlushesThenCommits, lasting_outcome};
 ghost use Rattle.ar_target.specs.declared.flush_port.FlushOutcome.TheVariants as outcomes;
@@ -11,8 +11,8 @@ use crate::timing::Stopwatch;
 use crate::{LockPort, SeatDesk};
 use ar_core::PartFlush;
 use ar_disks::{Addr, Host, MAX_LUN};
-use ar_history::ServedArray;
 use ar_latency::TimedOperation;
+use ar_served::ServedArray;
 use ar_target::{FlushOutcome, FlushPort};
 use std::sync::ledger::Ledger;
 use std::sync::{Mutex, Wait};

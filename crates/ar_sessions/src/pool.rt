@@ -7,7 +7,7 @@ use crate::notes::note_refusal;
 use crate::sessions::{Connection, Shared};
 use crate::{Desk, Door, NoMemory, Receipt, Refusals};
 use ar_frames::{Gate, NoGate, SessionEnd, Sink, Source};
-use ar_history::ServedArray;
+use ar_served::ServedArray;
 use log::Log;
 use std::alloc::Global;
 use std::sync::ledger::Ledger;

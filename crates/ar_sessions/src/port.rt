@@ -2,8 +2,8 @@
 // and the next.
 ghost use Rattle.std.specs.Prelude.{◌≡◌, ◌≤◌, None, count_by, true};
 ghost use Rattle.ar_frames.specs.Frame.{IsReply};
-ghost use Rattle.ar_history.specs.History.{is_command};
-ghost use Rattle.ar_history.specs.Served.{acknowledges, asks_commit};
+ghost use Rattle.ar_served.specs.History.{is_command};
+ghost use Rattle.ar_served.specs.Served.{acknowledges, asks_commit};
 ghost use Rattle.ar_sessions.specs.Desk.{receipt_for};
 ghost use Rattle.ar_sessions.specs.Port.{AnswersLasting, AsksArray, SettlesReply, lasting_reply};
 
@@ -12,9 +12,9 @@ use crate::timing::Stopwatch;
 use crate::{Desk, Receipt, SeatDesk, SeatSlot};
 use ar_disks::{Host, SECTOR_LEN};
 use ar_frames::{Login, Port};
-use ar_history::{Seat, ServedArray};
 use ar_latency::TimedOperation;
 use ar_scsi::{Command, Reply, Sense, decode};
+use ar_served::{Seat, ServedArray};
 use bytes::Bytes;
 use std::alloc::Global;
 use std::hint::spin_loop;
@@ -51,7 +51,7 @@ pub struct LockPort<'a, R: Wait, A: Drop, K: Drop, L: Ledger> {
 
 impl<'a, R: Wait, A: Drop, K: Drop, L: Ledger> Model for LockPort<'a, R, A, K, L> {
     ghost use Rattle.std.specs.Prelude.{Option};
-    ghost use Rattle.ar_history.specs.Seat.{SeatState};
+    ghost use Rattle.ar_served.specs.Seat.{SeatState};
 
     ghost Value = { Option SeatState };
 

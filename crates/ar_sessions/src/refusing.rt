@@ -1,15 +1,15 @@
 // Refusals at a session's port: a command whose data can't be allocated gets BUSY, and the array counts that reply with
 // those that it gives itself. Nothing is allocated.
 ghost use Rattle.std.specs.Prelude.{◌≡◌};
-ghost use Rattle.ar_history.specs.Served.{after_refusal};
+ghost use Rattle.ar_served.specs.Served.{after_refusal};
 ghost use Rattle.ar_scsi.specs.Reply.{busy};
 ghost use Rattle.ar_sessions.specs.Refusing.{CountedAtOneMoment};
 
 use crate::SeatDesk;
 use crate::port::lock_soon;
 use ar_disks::Host;
-use ar_history::ServedArray;
 use ar_scsi::Reply;
+use ar_served::ServedArray;
 use std::sync::ledger::Ledger;
 use std::sync::{Mutex, Wait};
 

@@ -10,7 +10,7 @@ ghost use Rattle.ar_sessions.specs.Ends.{ConnectionEnds, EndOf};
 use crate::notes::{note_end, note_start};
 use crate::{Desk, Door, LockPort, Receipt, Refusals, run_background};
 use ar_frames::{EndReason, Gate, SessionEnd, Sink, Source, serve_gated};
-use ar_history::ServedArray;
+use ar_served::ServedArray;
 use log::Log;
 use std::alloc::Global;
 use std::collections::VecDeque;

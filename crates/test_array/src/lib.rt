@@ -1,6 +1,6 @@
 //! Tests of the array and its scripts that must be code: drawn events against plain lists of sectors, disks that are
 //! lost at any of their calls, and input, output and arrays that fail. What a script can say is said by the scenarios
-//! of `test_scenarios`.
+//! of `tests/scenarios`.
 #![tactic(auto)]
 
 #[cfg(test)]

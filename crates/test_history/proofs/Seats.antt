@@ -4,7 +4,7 @@ use Rattle.std.specs.Prelude.{map}
 use Rattle.std.proofs.Math.ListN.{set}
 use Rattle.std.proofs.Math.Seq.{map-set_same}
 use Rattle.ar_disks.specs.declared.address.Host.{Host}
-use Rattle.ar_history.specs.Seat.{SeatState}
+use Rattle.ar_served.specs.Seat.{SeatState}
 
 -- they stay so where one is replaced by another of the same host
 pub order_kept : (seats : List SeatState) (i : ℕ) (new old : SeatState) → new.host ≡ (get_or seats i old).host

@@ -1,7 +1,7 @@
 // What each call adds to the counts: the rule is written out by hand, and no row reads it from the array.
 use crate::rig::{Play, Rig, plays};
-use ar_history::{Counts, HostCounts, OperationCounts, ReplyCounts};
 use ar_scsi::Status;
+use ar_served::{Counts, HostCounts, OperationCounts, ReplyCounts};
 use std::process::Abort;
 use std::sync::ledger::Ledger;
 use test_support::{Call, FOUR_GROUPS, Shape, Work, event};

@@ -2,8 +2,9 @@
 use crate::calls::{After, plays_rows};
 use crate::rig::{Play, Rig, plays};
 use ar_disks::Host;
-use ar_history::{Entry, Exchange, first_difference};
+use ar_history::first_difference;
 use ar_scsi::{Reply, Sense};
+use ar_served::{Entry, Exchange};
 use std::process::Abort;
 use std::sync::ledger::Ledger;
 use test_support::{Call, FOUR_GROUPS, Return, Row, Shape, filled};

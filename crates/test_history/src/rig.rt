@@ -1,6 +1,6 @@
 // A kept array, and the seats of its four hosts.
 ghost use Rattle.std.specs.Prelude.{◌≡◌, ◌∷◌, [], map};
-ghost use Rattle.ar_history.specs.Seat.{SeatState};
+ghost use Rattle.ar_served.specs.Seat.{SeatState};
 
 use crate::calls::{After, plays_rows};
 use crate::counts::{Count, counts_rows};
@@ -9,9 +9,8 @@ use crate::forged::try_forgeries;
 use crate::memory::{ask_at_last, starve};
 use ar_core::{Array, Event, EventOf, Outcome, OutcomeOf};
 use ar_disks::FuseDisk;
-use ar_history::{
-    Counts, Entry, Exchange, Kept, Mismatch, Operation, OperationOf, Report, Seat, Served, Task,
-};
+use ar_history::{Kept, Mismatch, Report, Served};
+use ar_served::{Counts, Entry, Exchange, Operation, OperationOf, Seat, Task};
 use bytes::Bytes;
 use std::alloc::Global;
 use std::marker::Brand;

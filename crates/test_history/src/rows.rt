@@ -1,5 +1,5 @@
 // Worked examples by way of hosts' seats. What they return is worked by hand; scripts return the same
-// (`test_scenarios`).
+// (`tests/scenarios`).
 use crate::calls::After;
 use crate::rig::{Play, plays};
 use ar_core::{Balance, Rebuild, Refusal, UnitRefusal};

@@ -4,12 +4,13 @@ ghost use Rattle.std.specs.Prelude.{◌≡◌, [], None};
 use ar_core::Array;
 use ar_disks::Geometry;
 use ar_frames::{MemSource, Sink};
-use ar_history::{Kept, Seat};
+use ar_history::Kept;
 use ar_operator::{
     Controller, Fuse, FusedDisk, FusedMaker, Inventory, OperatorEnd, OperatorOrder, UnitNames,
     converse, execute, set_fuse, start_fused, write_counts, write_help, write_version,
 };
 use ar_script::Setup;
+use ar_served::Seat;
 use bytes::Bytes;
 use std::alloc::{AllocError, Global};
 use std::marker::Brand;

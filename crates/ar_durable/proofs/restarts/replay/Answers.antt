@@ -1,6 +1,6 @@
 use Rattle.std.proofs.Common.{sym, subst}
 use Rattle.ar_log.specs.Log.{batches_of}
-use Rattle.ar_history.specs.Kept.{KeptState}
+use Rattle.ar_served.specs.Kept.{KeptState}
 use Rattle.ar_durable.specs.Durable.{IsReplayed}
 use Rattle.ar_durable.proofs.restarts.replay.Goals as goal
 

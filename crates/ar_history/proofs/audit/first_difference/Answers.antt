@@ -1,7 +1,7 @@
 use Rattle.std.proofs.Common.{◌++◌, take, List, ap, ◌∙◌}
 use Rattle.std.proofs.lemmas.List.{drop_all}
-use Rattle.ar_history.specs.declared.entry.Entry.{Entry}
-use Rattle.ar_history.specs.History.{part}
+use Rattle.ar_served.specs.declared.entry.Entry.{Entry}
+use Rattle.ar_served.specs.History.{part}
 use Rattle.ar_history.proofs.Auditing.{longer}
 use Rattle.ar_history.proofs.audit.first_difference.Goals as goal
 

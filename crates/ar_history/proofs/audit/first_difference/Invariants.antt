@@ -1,5 +1,5 @@
 use Rattle.std.proofs.Common.{◌≡◌, ◌≤◌, ◌++◌, take, drop, length}
-use Rattle.ar_history.specs.History.{part}
+use Rattle.ar_served.specs.History.{part}
 use Rattle.ar_history.proofs.audit.first_difference.Given as goal
 
 abbrev pub invariant-loop-entry : goal.invariant-loop-entry

@@ -1,7 +1,7 @@
 use Rattle.std.proofs.Common.{rules, ◌≡◌, ◌∙◌, refl, sym, ap, Some, length}
 use Rattle.std.proofs.lemmas.Bool.{ltb-true, ltb-false}
 use Rattle.std.proofs.lemmas.Option.{slice_get_read}
-use Rattle.ar_history.specs.declared.entry.Exchange.{Exchange}
+use Rattle.ar_served.specs.declared.entry.Exchange.{Exchange}
 use Rattle.ar_history.specs.Audit.{command_of}
 use Rattle.ar_history.proofs.Auditing.{agrees_one, departs, other_there, none_there}
 use Rattle.ar_history.proofs.audit.follow.Goals as goal

@@ -1,6 +1,6 @@
 use Rattle.std.proofs.Common.{List, [], sym, subst}
-use Rattle.ar_history.specs.declared.entry.Entry.{Entry}
-use Rattle.ar_history.specs.Kept.{KeptState}
+use Rattle.ar_served.specs.declared.entry.Entry.{Entry}
+use Rattle.ar_served.specs.Kept.{KeptState}
 use Rattle.ar_record.specs.Record.{all_data}
 use Rattle.ar_recovery.specs.Recovering.{RedoesAll}
 use Rattle.ar_recovery.proofs.Recovering.{recovered_is}

@@ -1,7 +1,7 @@
 use Rattle.std.proofs.Common.{subst, sym}
 use Rattle.ar_core.specs.Step.{addr_in}
-use Rattle.ar_history.specs.Kept.{KeptState}
-use Rattle.ar_history.specs.Served.{DiscardsSectors}
+use Rattle.ar_served.specs.Kept.{KeptState}
+use Rattle.ar_served.specs.Served.{DiscardsSectors}
 use Rattle.ar_sessions.proofs.Discards.{discard_reply, settled_as_good}
 use Rattle.ar_sessions.proofs.discarding.discard_with.Goals as goal
 

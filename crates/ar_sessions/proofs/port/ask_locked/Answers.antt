@@ -1,5 +1,5 @@
 use Rattle.std.proofs.Common.{subst, sym}
-use Rattle.ar_history.specs.Seat.{SeatState}
+use Rattle.ar_served.specs.Seat.{SeatState}
 use Rattle.ar_sessions.specs.Port.{AsksArray}
 use Rattle.ar_sessions.proofs.Asking.{asks_settled}
 use Rattle.ar_sessions.proofs.port.ask_locked.Goals as goal

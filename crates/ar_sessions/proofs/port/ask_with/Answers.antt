@@ -1,6 +1,6 @@
 use Rattle.std.proofs.Common.{subst, sym}
-use Rattle.ar_history.specs.Kept.{KeptState}
-use Rattle.ar_history.specs.Served.{AnswersCommand}
+use Rattle.ar_served.specs.Kept.{KeptState}
+use Rattle.ar_served.specs.Served.{AnswersCommand}
 use Rattle.ar_sessions.proofs.Replies.{served_reply}
 use Rattle.ar_sessions.proofs.port.ask_with.Goals as goal
 

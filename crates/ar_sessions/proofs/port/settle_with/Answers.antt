@@ -1,7 +1,7 @@
 use Rattle.std.proofs.Common.{subst, sym, ap, ◌∙◌}
 use Rattle.ar_scsi.specs.declared.reply.Reply.{Reply}
 use Rattle.ar_frames.specs.Frame.{IsReply}
-use Rattle.ar_history.specs.Served.{asks_commit}
+use Rattle.ar_served.specs.Served.{asks_commit}
 use Rattle.ar_sessions.proofs.Asking.{lasting_commit, lasting_reply-is}
 use Rattle.ar_sessions.proofs.port.settle_with.Goals as goal
 

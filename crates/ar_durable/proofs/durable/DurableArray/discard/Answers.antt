@@ -1,9 +1,9 @@
 use Rattle.std.proofs.Common.{Bool, cond, List, [], ◌∷◌, sym, ap, subst, ◌∙◌}
 use Rattle.ar_volume.specs.Image.{ArrayState}
 use Rattle.ar_core.specs.Step.{addr_in}
-use Rattle.ar_history.specs.declared.entry.Entry.{Entry}
-use Rattle.ar_history.specs.declared.entry.Entry.TheVariants as entries
-use Rattle.ar_history.specs.Serving.{is_recorded}
+use Rattle.ar_served.specs.declared.entry.Entry.{Entry}
+use Rattle.ar_served.specs.declared.entry.Entry.TheVariants as entries
+use Rattle.ar_served.specs.Serving.{is_recorded}
 use Rattle.ar_record.specs.Record.{RecordData, Unmap}
 use Rattle.ar_record.specs.Replay.{own_of}
 use Rattle.ar_durable.specs.Durable.{AreRecords}

@@ -1,10 +1,10 @@
 use Rattle.std.proofs.Common.{Bool, cond, ◌&&◌, List, [], ◌∷◌, refl, sym, ap, subst, ◌∙◌}
 use Rattle.ar_disks.specs.declared.address.Host.{Host}
 use Rattle.ar_volume.specs.Image.{ArrayState}
-use Rattle.ar_history.specs.declared.entry.Entry.{Entry}
-use Rattle.ar_history.specs.declared.entry.Entry.TheVariants as entries
-use Rattle.ar_history.specs.Kept.{exchange_of}
-use Rattle.ar_history.specs.Serving.{is_recorded}
+use Rattle.ar_served.specs.declared.entry.Entry.{Entry}
+use Rattle.ar_served.specs.declared.entry.Entry.TheVariants as entries
+use Rattle.ar_served.specs.Kept.{exchange_of}
+use Rattle.ar_served.specs.Serving.{is_recorded}
 use Rattle.ar_record.specs.Record.{RecordData, Command}
 use Rattle.ar_record.specs.Replay.{changes_unit, own_of}
 use Rattle.ar_durable.specs.Durable.{AreRecords}

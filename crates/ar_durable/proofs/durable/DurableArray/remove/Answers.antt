@@ -1,6 +1,6 @@
 use Rattle.std.proofs.Common.{Bool, cond, List, [], ◌∷◌, sym, ap, subst, ◌∙◌}
-use Rattle.ar_history.specs.declared.entry.Entry.{Entry}
-use Rattle.ar_history.specs.Kept.{history_entry}
+use Rattle.ar_served.specs.declared.entry.Entry.{Entry}
+use Rattle.ar_served.specs.Kept.{history_entry}
 use Rattle.ar_core.specs.declared.event.EventOf.TheVariants as events
 use Rattle.ar_record.specs.Record.{RecordData, Remove}
 use Rattle.ar_record.specs.Replay.{own_of}

@@ -1,8 +1,8 @@
 use Rattle.std.proofs.Common.{inl, ◌∙◌, sym, subst}
 use Rattle.std.proofs.lemmas.Bool.{true≢false}
 use Rattle.ar_core.specs.Step.{addr_in}
-use Rattle.ar_history.specs.Kept.{KeptState}
-use Rattle.ar_history.specs.Served.{DiscardsSectors}
+use Rattle.ar_served.specs.Kept.{KeptState}
+use Rattle.ar_served.specs.Served.{DiscardsSectors}
 use Rattle.ar_history.proofs.counted.CountedArray.discard.Goals as goal
 
 pub returns : goal.returns

@@ -27,7 +27,7 @@ use denote.Triple.Spec.{Meets, triple_of}
 use denote.Triple.Table.{entered}
 use denote.Triple.Walked.{says, Stays, stay_dropped, walk_of, ends_at, walk_Meets, Goes-dropped}
 use Rattle.bytes.proofs.Walks.{none, none_made}
-use Rattle.ar_history.specs.contracts.entry.Entry as Entries
+use Rattle.ar_served.specs.contracts.entry.Entry as Entries
 use Rattle.ar_history.specs.contracts.history.GhostHistory as Ghosts
 use Rattle.ar_history.specs.contracts.history.GhostHistory.with.{ended, clauses}
 use Rattle.ar_history.specs.contracts.history.GhostHistory.with.Key.{name as #self}

@@ -29,8 +29,8 @@ use denote.Triple.Walked.{says, Stays, stay_dropped, walk_of, ends_at, walk_Meet
 use Rattle.bytes.proofs.Walks.{none, none_made}
 use Rattle.ar_scsi.specs.contracts.reply.Reply as Replies
 use Rattle.ar_history.specs.contracts.history.Asked as Commands
-use Rattle.ar_history.specs.declared.entry.Entry.TheVariants.{Cmd}
-use Rattle.ar_history.specs.Kept.{exchange_of}
+use Rattle.ar_served.specs.declared.entry.Entry.TheVariants.{Cmd}
+use Rattle.ar_served.specs.Kept.{exchange_of}
 use Rattle.ar_history.specs.contracts.history.GhostHistory as Ghosts
 use Rattle.ar_history.specs.contracts.history.GhostHistory.with_command.{ended, clauses}
 use Rattle.ar_history.specs.contracts.history.GhostHistory.with_command.Key.{name as #self}

@@ -27,7 +27,7 @@ use denote.Triple.Spec.{Meets, triple_of}
 use denote.Triple.Table.{entered}
 use denote.Triple.Walked.{says, Stays, stay_dropped, walk_of, ends_at, walk_Meets, Goes-dropped}
 use Rattle.bytes.proofs.Walks.{none, none_made}
-use Rattle.ar_history.specs.History.{before_last}
+use Rattle.ar_history.specs.Recording.{before_last}
 use Rattle.ar_history.specs.contracts.history.GhostHistory as Ghosts
 use Rattle.ar_history.specs.contracts.history.GhostHistory.without_last.{ended, clauses}
 use Rattle.ar_history.specs.contracts.history.GhostHistory.without_last.Key.{name as #self}

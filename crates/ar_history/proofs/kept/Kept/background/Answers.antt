@@ -1,6 +1,6 @@
 use Rattle.std.proofs.Common.{◌≡◌, List, subst, ◌∙◌}
-use Rattle.ar_history.specs.declared.entry.Entry.{Entry}
-use Rattle.ar_history.specs.Kept.{HistoryAgrees}
+use Rattle.ar_served.specs.declared.entry.Entry.{Entry}
+use Rattle.ar_served.specs.Kept.{HistoryAgrees}
 use Rattle.ar_history.proofs.kept.Kept.background.Goals as goal
 
 pub invariant_of-self : goal.invariant_of-self

@@ -1,9 +1,9 @@
 use Rattle.std.proofs.Common.{◌≡◌, true, List, sym, ap, subst, ◌∙◌}
 use Rattle.std.specs.Prelude.{count_by}
-use Rattle.ar_history.specs.declared.entry.Entry.{Entry}
-use Rattle.ar_history.specs.History.{is_command}
-use Rattle.ar_history.specs.Kept.{HistoryAgrees}
-use Rattle.ar_history.specs.Operations.{is_done}
+use Rattle.ar_served.specs.declared.entry.Entry.{Entry}
+use Rattle.ar_served.specs.History.{is_command}
+use Rattle.ar_served.specs.Kept.{HistoryAgrees}
+use Rattle.ar_history.specs.Recording.{is_done}
 use Rattle.ar_history.proofs.Changing.{done_count, grown_done}
 use Rattle.ar_history.proofs.kept.Kept.change.Goals as goal
 

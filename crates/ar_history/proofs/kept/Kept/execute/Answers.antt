@@ -1,9 +1,10 @@
 use Rattle.std.proofs.Common.{ℕ, Bool, not, ◌&&◌, Option, sym, ap, subst, inl}
 use Rattle.ar_core.specs.Step.{is_busy}
-use Rattle.ar_history.specs.declared.entry.Exchange.{Exchange}
-use Rattle.ar_history.specs.Kept.{KeptState}
-use Rattle.ar_history.specs.Seat.{SeatState}
-use Rattle.ar_history.specs.Serving.{ServesCommand, ServesHost, LeavesStorage}
+use Rattle.ar_disks.specs.declared.address.Host.{Host}
+use Rattle.ar_served.specs.declared.entry.Exchange.{Exchange}
+use Rattle.ar_served.specs.Kept.{KeptState}
+use Rattle.ar_served.specs.Serving.{ServesCommand}
+use Rattle.ar_history.specs.Recording.{ServesHost, LeavesStorage}
 use Rattle.ar_volume.specs.Image.{ArrayState}
 use Rattle.ar_history.proofs.Commands.{unrecorded, serves_from}
 use Rattle.ar_history.proofs.Memory.{begun_does, leaves_blocks}
@@ -16,9 +17,9 @@ returns-then-is_lost-clause-serves g c =
     let reply = c.unrecorded.result.reply in
     let serves : ServesCommand old.array old.history c.args.seat.now.host c.args.lun c.args.cdb c.args.payload reply
     new.array new.history =
-    subst (λ (s : SeatState). ServesCommand old.array old.history s.host c.args.lun c.args.cdb c.args.payload reply
+    subst (λ (h : Host). ServesCommand old.array old.history h c.args.lun c.args.cdb c.args.payload reply
     new.array new.history)
-    c.seat.view_is c.unrecorded.ensures.serves in
+    c.host.ensures c.unrecorded.ensures.serves in
     subst (λ (at : Option ℕ). ServesHost old c.args.seat.now c.args.lun c.args.cdb c.args.payload reply at new
     c.args.seat.now) (sym c.unrecorded.ensures.at)
     (unrecorded old c.args.seat.now c.args.lun c.args.cdb c.args.payload reply new serves
@@ -26,7 +27,7 @@ returns-then-is_lost-clause-serves g c =
 
 pub returns-then-is_lost-clause-busy : goal.returns-then-is_lost-clause-busy
 returns-then-is_lost-clause-busy g c =
-    leaves_blocks c.args.self.now.array c.unrecorded.new.self.array c.seat.inside.host c.args.lun c.args.cdb
+    leaves_blocks c.args.self.now.array c.unrecorded.new.self.array c.host.result c.args.lun c.args.cdb
     c.args.payload
     c.unrecorded.result.reply (inl (inl c.unrecorded.ensures.steps))
 

@@ -1,7 +1,8 @@
 use Rattle.std.proofs.Common.{sym, subst, vec_capacity}
-use Rattle.ar_history.specs.Counts.{counts_after, raised}
-use Rattle.ar_history.specs.Kept.{KeptState}
-use Rattle.ar_history.specs.Serving.{ServesHost, BeginsByPlace}
+use Rattle.ar_served.specs.Counts.{counts_after, raised}
+use Rattle.ar_served.specs.Kept.{KeptState}
+use Rattle.ar_served.specs.Serving.{BeginsByPlace}
+use Rattle.ar_history.specs.Recording.{ServesHost}
 use Rattle.ar_history.proofs.Commands.{serves_counted}
 use Rattle.ar_history.proofs.Memory.{begins_counted}
 use Rattle.ar_history.proofs.kept.Kept.host.Goals as goal
@@ -11,7 +12,7 @@ returns-clause-serves g c =
     let inside = c.self-2.inside in
     let done = c.execute-served in
     let counts =
-    counts_after inside.live.counts c.seat.inside.host.number c.args.cdb c.len-sent.result done.result.reply in
+    counts_after inside.live.counts c.host.result.number c.args.cdb c.len-sent.result done.result.reply in
     let events = raised inside.live.events 1 in
     subst (λ (w : KeptState). ServesHost c.args.self.now c.args.seat.now c.args.lun c.args.cdb c.args.payload
     done.result.reply done.result.at
@@ -35,7 +36,7 @@ returns-clause-begun g c =
     let inside = c.self-2.inside in
     let done = c.execute-served in
     let counts =
-    counts_after inside.live.counts c.seat.inside.host.number c.args.cdb c.len-sent.result done.result.reply in
+    counts_after inside.live.counts c.host.result.number c.args.cdb c.len-sent.result done.result.reply in
     let events = raised inside.live.events 1 in
     subst (λ (w : KeptState). BeginsByPlace c.args.self.now c.args.seat.now c.args.lun c.args.cdb c.args.payload
     done.result.reply

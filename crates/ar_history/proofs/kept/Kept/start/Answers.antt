@@ -1,9 +1,9 @@
 use Rattle.std.proofs.Common.{ap, sym, subst, ◌∙◌, List}
 use Rattle.std.specs.Prelude.{count_by}
 use Rattle.ar_volume.specs.Image.{ArrayState}
-use Rattle.ar_history.specs.declared.entry.Entry.{Entry}
-use Rattle.ar_history.specs.History.{is_command}
-use Rattle.ar_history.specs.Kept.{HistoryAgrees}
+use Rattle.ar_served.specs.declared.entry.Entry.{Entry}
+use Rattle.ar_served.specs.History.{is_command}
+use Rattle.ar_served.specs.Kept.{HistoryAgrees}
 use Rattle.ar_history.proofs.Keeping.{kept_none}
 use Rattle.ar_history.proofs.kept.Kept.start.Goals as goal
 

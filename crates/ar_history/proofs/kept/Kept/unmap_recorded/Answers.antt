@@ -1,7 +1,7 @@
 use Rattle.std.proofs.Common.{◌≡◌, false, List, sym, subst}
 use Rattle.ar_volume.specs.Image.{is_broken}
-use Rattle.ar_history.specs.declared.entry.Entry.{Entry}
-use Rattle.ar_history.specs.Kept.{HistoryAgrees}
+use Rattle.ar_served.specs.declared.entry.Entry.{Entry}
+use Rattle.ar_served.specs.Kept.{HistoryAgrees}
 use Rattle.ar_history.proofs.Commands.{unmap_stored, count_unmap}
 use Rattle.ar_history.proofs.kept.Kept.unmap_recorded.Goals as goal
 

@@ -3,9 +3,9 @@ use Rattle.ar_core.specs.Step.{is_busy}
 use Rattle.ar_core.specs.declared.event.EventOf.TheVariants.{Cmd as CmdEvent}
 use Rattle.ar_core.specs.declared.event.OutcomeOf.TheVariants.{Cmd as CmdOutcome}
 use Rattle.ar_volume.specs.Image.{is_broken}
-use Rattle.ar_history.specs.declared.entry.Entry.{Entry}
-use Rattle.ar_history.specs.Kept.{KeptState, HistoryAgrees}
-use Rattle.ar_history.specs.Serving.{is_recorded}
+use Rattle.ar_served.specs.declared.entry.Entry.{Entry}
+use Rattle.ar_served.specs.Kept.{KeptState, HistoryAgrees}
+use Rattle.ar_served.specs.Serving.{is_recorded}
 use Rattle.ar_history.proofs.Commands.{stays_lost, unrecorded_history}
 use Rattle.ar_history.proofs.kept.Kept.unrecorded.Goals as goal
 

@@ -1,6 +1,6 @@
 use Rattle.std.proofs.Common.{List, sym, subst, ◌∙◌}
-use Rattle.ar_history.specs.declared.entry.Entry.{Entry}
-use Rattle.ar_history.specs.Kept.{KeptState, HistoryAgrees}
+use Rattle.ar_served.specs.declared.entry.Entry.{Entry}
+use Rattle.ar_served.specs.Kept.{KeptState, HistoryAgrees}
 use Rattle.ar_history.proofs.Changing.{done_kept, not_done_kept}
 use Rattle.ar_history.proofs.live.LiveArray.change.Goals as goal
 

@@ -1,7 +1,7 @@
 use Rattle.std.proofs.Common.{refl, subst}
 use Rattle.ar_core.specs.declared.event.EventOf.TheVariants.{FlushPart as FlushPartEvent}
 use Rattle.ar_core.specs.declared.event.OutcomeOf.TheVariants.{FlushPart as FlushPartOutcome}
-use Rattle.ar_history.specs.Kept.{KeptState, HistoryAgrees}
+use Rattle.ar_served.specs.Kept.{KeptState, HistoryAgrees}
 use Rattle.ar_history.proofs.Keeping.{kept_same}
 use Rattle.ar_history.proofs.live.LiveArray.destage.Goals as goal
 

@@ -1,6 +1,6 @@
 use Rattle.std.proofs.Common.{subst}
-use Rattle.ar_history.specs.Kept.{KeptState, HistoryAgrees}
-use Rattle.ar_history.specs.Serving.{ServesCommand}
+use Rattle.ar_served.specs.Kept.{KeptState, HistoryAgrees}
+use Rattle.ar_served.specs.Serving.{ServesCommand}
 use Rattle.ar_history.proofs.Commands.{grown_as, served, kept_served, kept_bytes}
 use Rattle.ar_history.proofs.live.LiveArray.execute.Goals as goal
 

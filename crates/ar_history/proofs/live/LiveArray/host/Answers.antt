@@ -1,6 +1,6 @@
 use Rattle.std.proofs.Common.{sym, subst, inl}
-use Rattle.ar_history.specs.Kept.{KeptState}
-use Rattle.ar_history.specs.Serving.{LeavesStorage}
+use Rattle.ar_served.specs.Kept.{KeptState}
+use Rattle.ar_history.specs.Recording.{LeavesStorage}
 use Rattle.ar_history.proofs.Memory.{leaves_blocks}
 use Rattle.ar_history.proofs.live.LiveArray.host.Goals as goal
 

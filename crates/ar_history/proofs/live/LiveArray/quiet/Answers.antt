@@ -1,5 +1,5 @@
 use Rattle.std.proofs.Common.{subst}
-use Rattle.ar_history.specs.Kept.{KeptState, HistoryAgrees}
+use Rattle.ar_served.specs.Kept.{KeptState, HistoryAgrees}
 use Rattle.ar_history.proofs.Changing.{quiet_none}
 use Rattle.ar_history.proofs.Keeping.{kept_same}
 use Rattle.ar_history.proofs.live.LiveArray.quiet.Goals as goal

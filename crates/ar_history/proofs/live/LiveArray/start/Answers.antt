@@ -1,6 +1,6 @@
 use Rattle.std.proofs.Common.{sym, subst, List}
-use Rattle.ar_history.specs.declared.entry.Entry.{Entry}
-use Rattle.ar_history.specs.Kept.{HistoryAgrees}
+use Rattle.ar_served.specs.declared.entry.Entry.{Entry}
+use Rattle.ar_served.specs.Kept.{HistoryAgrees}
 use Rattle.ar_history.proofs.Keeping.{kept_none}
 use Rattle.ar_history.proofs.live.LiveArray.start.Goals as goal
 

@@ -1,7 +1,7 @@
 use Rattle.std.proofs.Common.{Bool, cond, [], ◌∷◌, ◌++◌, ap, subst, ◌∙◌}
-use Rattle.ar_history.specs.declared.entry.Entry.TheVariants.{Unmap}
-use Rattle.ar_history.specs.Kept.{KeptState, HistoryAgrees}
-use Rattle.ar_history.specs.Serving.{ServesUnmap}
+use Rattle.ar_served.specs.declared.entry.Entry.TheVariants.{Unmap}
+use Rattle.ar_served.specs.Kept.{KeptState, HistoryAgrees}
+use Rattle.ar_served.specs.Serving.{ServesUnmap}
 use Rattle.ar_history.proofs.Commands.{kept_unmap, served_unmap}
 use Rattle.ar_history.proofs.live.LiveArray.unmap.Goals as goal
 

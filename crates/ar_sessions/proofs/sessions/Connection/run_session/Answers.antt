@@ -1,5 +1,5 @@
 use Rattle.std.proofs.Common.{rules, Option, subst, ◌∙◌}
-use Rattle.ar_history.specs.Seat.{SeatState}
+use Rattle.ar_served.specs.Seat.{SeatState}
 use Rattle.ar_frames.specs.Session.{Session}
 use Rattle.ar_sessions.specs.Desk.{IsFound}
 use Rattle.ar_sessions.specs.Port.{TakesSeat, AsksArray, AsksSeat}

@@ -19,13 +19,13 @@ use Rattle.ar_core.specs.declared.event.EventOf.TheVariants.{Cmd as CmdEvent, Fl
 use Rattle.ar_core.specs.declared.event.EventOf.TheVariants.{Unmap as UnmapEvent}
 use Rattle.ar_core.specs.declared.event.OutcomeOf.TheVariants.{Cmd as CmdOutcome, FlushPart as FlushPartOutcome}
 use Rattle.ar_core.specs.declared.event.OutcomeOf.TheVariants.{Unmap as UnmapOutcome}
-use Rattle.ar_history.specs.Counts.{CountsCommand, CountsOperation, CountsTask, counts_after, is_idle, raised}
-use Rattle.ar_history.specs.Kept.{KeptState, StaysKept, exchange_of, history_entry}
-use Rattle.ar_history.specs.Operations.{Does, event_of_task}
-use Rattle.ar_history.specs.Seat.{SeatState}
-use Rattle.ar_history.specs.Serving.{ServesCommand, ServesUnmap, BeginsByPlace, DoesCommand, LeavesUnbegun}
-use Rattle.ar_history.specs.Serving.{Allocates, is_recorded}
-use Rattle.ar_history.specs.declared.operation.Task.{Task}
+use Rattle.ar_served.specs.Counts.{CountsCommand, CountsOperation, CountsTask, counts_after, is_idle, raised}
+use Rattle.ar_served.specs.Kept.{KeptState, StaysKept, exchange_of, history_entry}
+use Rattle.ar_served.specs.Operations.{Does, event_of_task}
+use Rattle.ar_served.specs.Seat.{SeatState}
+use Rattle.ar_served.specs.Serving.{ServesCommand, ServesUnmap, BeginsByPlace, DoesCommand, LeavesUnbegun}
+use Rattle.ar_served.specs.Serving.{Allocates, is_recorded}
+use Rattle.ar_served.specs.declared.operation.Task.{Task}
 
 -- What a command costs to record. Where transcripts are stored (`true`), it is begun if both lists have capacity for it
 -- and it has no data to share, and only full lists grow; where they aren't, it is always begun, and nothing grows.

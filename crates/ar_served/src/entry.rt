@@ -1,10 +1,7 @@
 // Entries of the history and exchanges of a transcript. Data and replies are shared between the two, not copied.
-ghost use Rattle.std.specs.Prelude.{◌≡◌, [], IsOk, IfOk};
-
 use ar_disks::{Addr, Host};
 use ar_scsi::Reply;
 use bytes::Bytes;
-use std::alloc::AllocError;
 
 /// A command to one of a host's LUNs, with its data-out and its reply.
 #[derive(Debug, Drop, PartialEq, Eq)]
@@ -30,12 +27,4 @@ pub enum Entry {
     /// Sectors of a unit were discarded for its host, `count` from an LBA on. The reply isn't stored, nor is the
     /// discard in a transcript: what it was is a matter of the entries before it (`unmap_answer`).
     Unmap(Addr, u64, u32),
-}
-
-// Shares the bytes without copying them. With no bytes it never fails.
-pub(crate) fn shared(bytes: &Bytes) -> Result<Bytes, AllocError>
-    ensures granted { bytes.now ≡ [] → IsOk result }
-    ensures same { IfOk result (λ same. same ≡ bytes.now) }
-{
-    bytes.slice(0..bytes.len())
 }

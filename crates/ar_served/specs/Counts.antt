@@ -13,14 +13,14 @@ use Rattle.ar_cache.specs.declared.answers.Flush.TheVariants as flush
 use Rattle.ar_moves.specs.declared.step.Move.TheVariants as move
 use Rattle.ar_balance.specs.declared.step.Balance.TheVariants as balance
 use Rattle.ar_rebuild.specs.declared.step.Rebuild.TheVariants as rebuild
-use Rattle.ar_history.specs.declared.counts.Counts.{Counts}
-use Rattle.ar_history.specs.declared.counts.HostCounts.{HostCounts}
-use Rattle.ar_history.specs.declared.counts.OperationCounts.{OperationCounts}
-use Rattle.ar_history.specs.declared.counts.ReplyCounts.{ReplyCounts}
-use Rattle.ar_history.specs.declared.counts.TaskCounts.{TaskCounts}
-use Rattle.ar_history.specs.declared.operation.Task.{Task}
-use Rattle.ar_history.specs.Kept.{KeptState}
-use Rattle.ar_history.specs.declared.operation.Task.TheVariants.{Flush, Rebuild, Clean, Balance, Demote}
+use Rattle.ar_served.specs.declared.counts.Counts.{Counts}
+use Rattle.ar_served.specs.declared.counts.HostCounts.{HostCounts}
+use Rattle.ar_served.specs.declared.counts.OperationCounts.{OperationCounts}
+use Rattle.ar_served.specs.declared.counts.ReplyCounts.{ReplyCounts}
+use Rattle.ar_served.specs.declared.counts.TaskCounts.{TaskCounts}
+use Rattle.ar_served.specs.declared.operation.Task.{Task}
+use Rattle.ar_served.specs.Kept.{KeptState}
+use Rattle.ar_served.specs.declared.operation.Task.TheVariants.{Flush, Rebuild, Clean, Balance, Demote}
 
 -- a sum of 64 bits that saturates
 abbrev pub raised : ℕ → ℕ → ℕ

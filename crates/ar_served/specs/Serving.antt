@@ -1,12 +1,10 @@
 -- How a host's command is executed, and recorded in history and transcript.
-use Rattle.std.specs.Prelude.{◌≡◌, ◌≢◌, ◌⊎◌, ◌&&◌, ◌<◌, ◌+◌, ℕ, Bool, true, false, not, if◌then◌else◌, List, [], ◌∷◌}
-use Rattle.std.specs.Prelude.{◌++◌}
-use Rattle.std.specs.Prelude.{length, Option, Some, None}
+use Rattle.std.specs.Prelude.{◌≡◌, ◌≢◌, ◌⊎◌, ◌&&◌, ◌<◌, ℕ, Bool, true, false, not, if◌then◌else◌, List, [], ◌∷◌}
+use Rattle.std.specs.Prelude.{◌++◌, length}
 use Rattle.ar_disks.specs.declared.address.Addr.{Addr}
 use Rattle.ar_disks.specs.declared.address.Host.{Host}
 use Rattle.ar_scsi.specs.declared.reply.Reply.{Reply}
 use Rattle.ar_scsi.specs.Reply.{busy}
-use Rattle.ar_extents.specs.Follows.{Keeps, Anywhere}
 use Rattle.ar_unit.specs.Unit.{answer, unmap_answer, unit_run, IsGiven}
 use Rattle.ar_unit.specs.Broken.{shape_of, where_broken, unmap_where_broken}
 use Rattle.ar_volume.specs.Sectors.{Address, address_of}
@@ -14,13 +12,12 @@ use Rattle.ar_volume.specs.Image.{ArrayState, is_broken, image}
 use Rattle.ar_core.specs.Step.{Steps, is_busy, entry_at}
 use Rattle.ar_core.specs.declared.event.EventOf.TheVariants.{Cmd as CmdEvent}
 use Rattle.ar_core.specs.declared.event.OutcomeOf.TheVariants.{Cmd as CmdOutcome}
-use Rattle.ar_history.specs.declared.entry.Exchange.{Exchange}
-use Rattle.ar_history.specs.declared.entry.Entry.{Entry}
-use Rattle.ar_history.specs.declared.entry.Entry.TheVariants.{Cmd, Unmap}
-use Rattle.ar_history.specs.History.{replay}
-use Rattle.ar_history.specs.Kept.{KeptState, MayGrow, exchange_of, replayed_unit, history_unit}
-use Rattle.ar_history.specs.Operations.{Does}
-use Rattle.ar_history.specs.Seat.{SeatState}
+use Rattle.ar_served.specs.declared.entry.Entry.{Entry}
+use Rattle.ar_served.specs.declared.entry.Entry.TheVariants.{Cmd, Unmap}
+use Rattle.ar_served.specs.History.{replay}
+use Rattle.ar_served.specs.Kept.{KeptState, MayGrow, exchange_of, replayed_unit}
+use Rattle.ar_served.specs.Operations.{Does}
+use Rattle.ar_served.specs.Seat.{SeatState}
 
 -- whether a live array records a command, by its state afterwards and the reply
 abbrev pub is_recorded : ArrayState → Reply → Bool
@@ -46,48 +43,6 @@ pub record ServesCommand (old : ArrayState) (was : List Entry) (host : Host) (lu
       → (a : Address)
       → shape_of (image new a)
       ≡ shape_of (unit_run (replayed_unit old was a) (entry_at a (CmdEvent host lun cdb payload) (CmdOutcome reply)))
-
--- a command with another reply
-abbrev pub with_reply : Exchange → Reply → Exchange
-with_reply exchange reply = record exchange { reply = reply }
-
--- The command is recorded: history, transcript and the seat's share have grown by it and its reply, which is that of
--- its unit, as the history so far has made the unit.
-pub record IsRecorded (old : KeptState) (before : SeatState) (lun : ℕ) (cdb payload : List ℕ) (reply : Reply)
-    (position : ℕ)
-    (new : KeptState) (after : SeatState) : Type 0 where
-  pub position_is : position ≡ length old.history
-  pub history : new.history ≡ old.history ++ Cmd before.host (exchange_of lun cdb payload reply) ∷ []
-  pub transcript : after.transcript ≡ before.transcript ++ exchange_of lun cdb payload reply ∷ []
-  pub commands : after.commands ≡ before.commands + 1
-  pub reply_is : reply ≡ (answer (replay old.history (before.host.number, lun)) cdb payload).reply
-  pub not_busy : is_busy reply.status ≡ false
-  pub sound : is_broken new.array ≡ false
-
--- It is not recorded: history, transcript and share stay. Either the reply is BUSY and no unit has changed; or the
--- array has failed after it, and the reply is that of a failed array in place of the unit's.
-pub record IsUnrecorded (old : KeptState) (before : SeatState) (lun : ℕ) (cdb payload : List ℕ) (reply : Reply)
-    (new : KeptState) (after : SeatState) : Type 0 where
-  pub history : new.history ≡ old.history
-  pub transcript : after.transcript ≡ before.transcript
-  pub commands : after.commands ≡ before.commands
-  pub busy_is : is_broken new.array ≡ false → reply ≡ busy
-  pub images : is_broken new.array ≡ false → (a : Address) → image new.array a ≡ image old.array a
-  pub broken :
-      is_broken new.array ≡ true
-      → IsGiven (where_broken cdb (answer (history_unit old (before.host.number, lun)) cdb payload).reply) reply
-  -- presence, length and pending UNIT ATTENTION of each unit are then what the command leaves of them
-  pub shapes :
-      is_broken new.array ≡ true
-      → (a : Address)
-      → shape_of (image new.array a)
-      ≡ shape_of (unit_run (history_unit old a) (entry_at a (CmdEvent before.host lun cdb payload) (CmdOutcome reply)))
-
--- recorded at the position of its entry, or not recorded
-abbrev pub ServesHost : KeptState → SeatState → ℕ → List ℕ → List ℕ → Reply → Option ℕ → KeptState → SeatState → Type 0
-ServesHost old before lun cdb payload reply (Some position) new after =
-    IsRecorded old before lun cdb payload reply position new after
-ServesHost old before lun cdb payload reply None new after = IsUnrecorded old before lun cdb payload reply new after
 
 -- the array executed the command, but the bytes of its reply couldn't be shared, and BUSY replaces it
 pub record IsUncopied (old : ArrayState) (host : Host) (lun : ℕ) (cdb payload : List ℕ) (reply : Reply)
@@ -123,12 +78,6 @@ pub record BeginsByPlace (old : KeptState) (before : SeatState) (lun : ℕ) (cdb
   pub begun : HasCapacity old new before after payload → Begins old.array before.host lun cdb payload reply new.array
   pub unbegun : new.room ≡ length old.history → is_broken old.array ≡ false → new.array ≡ old.array
   pub seat_unbegun : after.room ≡ length before.transcript → is_broken old.array ≡ false → new.array ≡ old.array
-
--- no table, no cache entry and no row of any disk has changed
-pub record LeavesStorage (old new : ArrayState) : Type 0 where
-  pub tables : new.store.book ≡ old.store.book
-  pub cache : new.cache ≡ old.cache
-  pub rows : Keeps Anywhere old.store.disks new.store.disks
 
 -- nothing is recorded, and no capacity is reserved
 pub record GrowsNothing (old : KeptState) (before : SeatState) (new : KeptState) (after : SeatState) : Type 0 where
@@ -166,10 +115,3 @@ pub record LeavesUnbegun (old : KeptState) (reply : Reply) (new : KeptState) : T
   pub array : new.array ≡ old.array
   pub history : new.history ≡ old.history
   pub sound : is_broken old.array ≡ false
-
--- The memory that is allocated to record one entry: a history with capacity left keeps it, a full one may grow. Nothing
--- is allocated for a failed array.
-pub record AllocatesOne (old new : KeptState) : Type 0 where
-  pub placed : length old.history < old.room → new.room ≡ old.room
-  pub grown : MayGrow old.room new.room
-  pub lost : is_broken old.array ≡ true → new.room ≡ old.room

@@ -1,5 +1,5 @@
 -- Operations and background work, as events of the array.
-use Rattle.std.specs.Prelude.{◌≡◌, ◌⊎◌, ◌<◌, length, Bool, true, false, Option, Some, None, Ok, Err}
+use Rattle.std.specs.Prelude.{◌≡◌, ◌⊎◌, false, Err}
 use Rattle.ar_disks.specs.Disk.{DiskState}
 use Rattle.ar_scsi.specs.Reply.{busy}
 use Rattle.ar_book.specs.declared.refusal.Refusal.TheVariants.{NoMemory}
@@ -9,13 +9,10 @@ use Rattle.ar_core.specs.Events.{Event, Outcome}
 use Rattle.ar_core.specs.Step.{Steps}
 use Rattle.ar_core.specs.declared.event.EventOf.TheVariants as events
 use Rattle.ar_core.specs.declared.event.OutcomeOf.TheVariants as outcomes
-use Rattle.ar_history.specs.declared.entry.Entry.{Entry}
-use Rattle.ar_history.specs.declared.entry.Entry.TheVariants as entries
-use Rattle.ar_history.specs.Kept.{KeptState, MayGrow}
-use Rattle.ar_history.specs.declared.operation.OperationOf.{OperationOf}
-use Rattle.ar_history.specs.declared.operation.OperationOf.TheVariants.{Make, Grow, Remove, AddDisk, DiskOut, Replace}
-use Rattle.ar_history.specs.declared.operation.Task.{Task}
-use Rattle.ar_history.specs.declared.operation.Task.TheVariants.{Flush, Rebuild, Clean, Balance, Demote}
+use Rattle.ar_served.specs.declared.operation.OperationOf.{OperationOf}
+use Rattle.ar_served.specs.declared.operation.OperationOf.TheVariants.{Make, Grow, Remove, AddDisk, DiskOut, Replace}
+use Rattle.ar_served.specs.declared.operation.Task.{Task}
+use Rattle.ar_served.specs.declared.operation.Task.TheVariants.{Flush, Rebuild, Clean, Balance, Demote}
 
 -- the event of an operation
 abbrev pub event_of : OperationOf DiskState → Event
@@ -33,20 +30,6 @@ event_of_task Rebuild = events.Rebuild
 event_of_task Clean = events.Clean
 event_of_task Balance = events.Balance
 event_of_task Demote = events.Demote
-
--- the entry of a create, resize or delete, if it is done
-abbrev pub entry_asked : Event → Option Entry
-entry_asked (events.Make addr sectors) = Some (entries.Make addr sectors)
-entry_asked (events.Grow addr sectors) = Some (entries.Grow addr sectors)
-entry_asked (events.Remove addr) = Some (entries.Remove addr)
-entry_asked event = None
-
--- a create, resize or delete was done
-abbrev pub is_done : Outcome → Bool
-is_done (outcomes.Make (Ok done)) = true
-is_done (outcomes.Grow (Ok done)) = true
-is_done (outcomes.Remove (Ok done)) = true
-is_done outcome = false
 
 -- the outcome when out of memory
 abbrev pub IsNoMemory : Event → Outcome → Type 0
@@ -67,11 +50,3 @@ pub record IsRefused (old : ArrayState) (event : Event) (outcome : Outcome) (new
 -- the event was one step of the array, or was not begun
 abbrev pub Does : ArrayState → Event → Outcome → ArrayState → Type 0
 Does old event outcome new = Steps old event outcome new ⊎ IsRefused old event outcome new
-
--- The memory that is allocated to record an event: a history with capacity left keeps it, a full one may grow. An
--- event that leaves no entry, and one on a failed array, allocates nothing.
-pub record AllocatesFor (event : Event) (old new : KeptState) : Type 0 where
-  pub placed : length old.history < old.room → new.room ≡ old.room
-  pub grown : MayGrow old.room new.room
-  pub unasked : entry_asked event ≡ None → new.room ≡ old.room
-  pub lost : is_broken old.array ≡ true → new.room ≡ old.room

@@ -11,11 +11,11 @@ use Rattle.ar_core.specs.declared.event.EventOf.TheVariants.{Make as MakeEvent, 
 use Rattle.ar_core.specs.declared.event.EventOf.TheVariants.{Remove as RemoveEvent, Cmd as CmdEvent}
 use Rattle.ar_core.specs.declared.event.OutcomeOf.TheVariants.{Make as MakeOutcome, Grow as GrowOutcome}
 use Rattle.ar_core.specs.declared.event.OutcomeOf.TheVariants.{Remove as RemoveOutcome, Cmd as CmdOutcome}
-use Rattle.ar_history.specs.declared.counts.Counts.{Counts}
-use Rattle.ar_history.specs.declared.entry.Exchange.{Exchange}
-use Rattle.ar_history.specs.declared.entry.Entry.{Entry}
-use Rattle.ar_history.specs.declared.entry.Entry.TheVariants.{Make, Grow, Remove, Cmd}
-use Rattle.ar_history.specs.History.{IsLegal, replay}
+use Rattle.ar_served.specs.declared.counts.Counts.{Counts}
+use Rattle.ar_served.specs.declared.entry.Exchange.{Exchange}
+use Rattle.ar_served.specs.declared.entry.Entry.{Entry}
+use Rattle.ar_served.specs.declared.entry.Entry.TheVariants.{Make, Grow, Remove, Cmd}
+use Rattle.ar_served.specs.History.{IsLegal, replay}
 
 -- The array, the history, its capacity in entries, what was counted, and the number of events. Of a live array nothing
 -- is stored, and the capacity is 0.
@@ -55,10 +55,6 @@ with_attention mark (Present sectors attention) = Present sectors mark
 -- the unit that a history makes, with the array's own pending UNIT ATTENTION: on a failed array they may differ
 abbrev pub replayed_unit : ArrayState → List Entry → Address → UnitState
 replayed_unit s history a = with_attention (shape_of (image s a)).attention (replay history a)
-
--- the same of a kept array
-abbrev pub history_unit : KeptState → Address → UnitState
-history_unit k a = replayed_unit k.array k.history a
 
 -- a command and its reply
 abbrev pub exchange_of : ℕ → List ℕ → List ℕ → Reply → Exchange

@@ -1,13 +1,13 @@
 -- A history: what was done to units, in the order in which it was done.
-use Rattle.std.specs.Prelude.{◌≡◌, ℕ, ◌<◌, ◌≤◌, ◌-◌, Bool, true, false, ◌==◌, if◌then◌else◌, Some, List, [], ◌∷◌, take}
-use Rattle.std.specs.Prelude.{length, slice_get}
+use Rattle.std.specs.Prelude.{◌≡◌, ℕ, ◌<◌, ◌≤◌, Bool, true, false, ◌==◌, if◌then◌else◌, Some, List, [], ◌∷◌, take}
+use Rattle.std.specs.Prelude.{slice_get}
 use Rattle.ar_unit.specs.Unit.{UnitState, Absent, UnitEntry, Make as UnitMake, Grow as UnitGrow, Remove as UnitRemove}
 use Rattle.ar_unit.specs.Unit.{Cmd as UnitCmd, Unmap as UnitUnmap, answer, unit_run}
 use Rattle.ar_unit.specs.Broken.{shape_of}
 use Rattle.ar_volume.specs.Sectors.{Address, address_of, same_address}
-use Rattle.ar_history.specs.declared.entry.Exchange.{Exchange}
-use Rattle.ar_history.specs.declared.entry.Entry.{Entry}
-use Rattle.ar_history.specs.declared.entry.Entry.TheVariants.{Make, Grow, Remove, Cmd, Unmap}
+use Rattle.ar_served.specs.declared.entry.Exchange.{Exchange}
+use Rattle.ar_served.specs.declared.entry.Entry.{Entry}
+use Rattle.ar_served.specs.declared.entry.Entry.TheVariants.{Make, Grow, Remove, Cmd, Unmap}
 
 -- the address of an entry's unit
 abbrev pub address_in : Entry → Address
@@ -78,7 +78,3 @@ is_command (Grow addr sectors) = false
 is_command (Remove addr) = false
 is_command (Cmd host exchange) = true
 is_command (Unmap addr lba count) = false
-
--- a history without its last entry
-abbrev pub before_last : List Entry → List Entry
-before_last history = take (length history - 1) history

@@ -1,9 +1,11 @@
 // A host's seat. Its share of the ledger is the number of its commands in the history, so that neither the share nor
 // the transcript grows without the history.
-ghost use Rattle.std.specs.Prelude.{◌≡◌, ◌<◌, ◌≤◌, ◌+◌, ◌++◌, ◌∷◌, [], length};
+ghost use Rattle.std.specs.Prelude.{◌≡◌, ◌<◌, ◌≤◌, ◌+◌, ◌++◌, ◌∷◌, [], IsOk, OnOk, length};
+ghost use Rattle.ar_served.specs.Kept.{MayGrow};
 
-use crate::Exchange;
+use crate::{Exchange, reserve_place};
 use ar_disks::Host;
+use std::alloc::{AllocError, Global};
 use std::marker::Model;
 use std::sync::ledger::{Book, Ledger, Share};
 
@@ -11,14 +13,14 @@ use std::sync::ledger::{Book, Ledger, Share};
 /// those that are in the array's history, and a kept array writes them into its transcript.
 #[derive(Drop)]
 pub struct Seat<L: Ledger> {
-    pub(crate) host: Host,
-    pub(crate) transcript: Vec<Exchange>,
-    pub(crate) share: Share<L>,
+    host: Host,
+    transcript: Vec<Exchange>,
+    share: Share<L>,
 }
 
 impl<L: Ledger> Model for Seat<L> {
     ghost use Rattle.std.specs.Prelude.{◌<◌, ◌≤◌, vec_len, vec_capacity};
-    ghost use Rattle.ar_history.specs.Seat.{SeatState};
+    ghost use Rattle.ar_served.specs.Seat.{SeatState};
 
     ghost Value = { SeatState };
 
@@ -33,6 +35,21 @@ impl<L: Ledger> Model for Seat<L> {
 }
 
 impl<L: Ledger> Seat<L> {
+    /// Returns a host's seat without a transcript, whose list has no capacity yet. `share` counts the host's commands.
+    pub fn new(alloc: Global, host: Host, share: Share<L>) -> Seat<L>
+        requires { 0 < share.parts }
+        ensures host { result.host ≡ host }
+        ensures transcript { result.transcript ≡ [] }
+        ensures room { result.room ≡ 0 }
+        ensures commands { result.commands ≡ share.amount }
+    {
+        Seat {
+            host,
+            transcript: Vec::new(alloc),
+            share,
+        }
+    }
+
     /// Returns the host of the seat.
     pub fn host(&self) -> Host
         ensures { result ≡ self.now.host }
@@ -47,8 +64,20 @@ impl<L: Ledger> Seat<L> {
         self.transcript.as_slice()
     }
 
-    // Appends a command to the transcript, which has capacity, and counts it in the ledger.
-    pub(crate) fn append(&mut self, book: &mut Book<L>, exchange: Exchange)
+    /// Reserves capacity for one more command in the transcript (`reserve_place`).
+    pub fn reserve(&mut self) -> Result<(), AllocError>
+        ensures same { self.new ≡ record self.old { room = self.new.room } }
+        ensures place { OnOk result (length self.new.transcript < self.new.room) }
+        ensures granted { length self.old.transcript < self.new.room → IsOk result }
+        ensures placed { length self.old.transcript < self.old.room
+            → IsOk result × (self.new.room ≡ self.old.room) }
+        ensures grown { MayGrow self.old.room self.new.room }
+    {
+        reserve_place(&mut self.transcript)
+    }
+
+    /// Appends a command to the transcript, which has capacity for it, and counts it in the ledger.
+    pub fn append(&mut self, book: &mut Book<L>, exchange: Exchange)
         requires { length self.old.transcript < self.old.room }
         ensures transcript { self.new.transcript ≡ self.old.transcript ++ exchange ∷ [] }
         ensures host { self.new.host ≡ self.old.host }
@@ -60,8 +89,8 @@ impl<L: Ledger> Seat<L> {
         book.add(&mut self.share, 1);
     }
 
-    // Compares the share with the ledger: it is at most the total.
-    pub(crate) fn audit(&mut self, book: &mut Book<L>)
+    /// Compares the share with the ledger: it is at most the total.
+    pub fn audit(&mut self, book: &mut Book<L>)
         ensures same { self.new ≡ self.old }
         ensures total { book.new.total ≡ book.old.total }
         ensures bound { self.old.commands ≤ book.old.total }
@@ -69,8 +98,8 @@ impl<L: Ledger> Seat<L> {
         book.audit(&mut self.share);
     }
 
-    // Counts a command in the ledger, of which no transcript is stored.
-    pub(crate) fn count(&mut self, book: &mut Book<L>)
+    /// Counts a command in the ledger, of which no transcript is stored.
+    pub fn count(&mut self, book: &mut Book<L>)
         ensures counted { self.new ≡ record self.old { commands = self.old.commands + 1 } }
         ensures total { book.new.total ≡ book.old.total + 1 }
     {

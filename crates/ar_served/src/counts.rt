@@ -1,8 +1,8 @@
 // What was done since the start, in numbers for an operator. Each saturates, so that no count refuses a command.
 ghost use Rattle.std.specs.Prelude.{◌≡◌};
-ghost use Rattle.ar_history.specs.Counts.{counts_after, host_counts_after, operations_after, replies_after};
-ghost use Rattle.ar_history.specs.Counts.{task_counts_after, no_counts, no_host, no_operations, no_replies, no_tasks};
-ghost use Rattle.ar_history.specs.Counts.{is_idle};
+ghost use Rattle.ar_served.specs.Counts.{counts_after, host_counts_after, operations_after, replies_after};
+ghost use Rattle.ar_served.specs.Counts.{task_counts_after, no_counts, no_host, no_operations, no_replies, no_tasks};
+ghost use Rattle.ar_served.specs.Counts.{is_idle};
 
 use crate::Task;
 use ar_core::{Balance, Flush, Move, Outcome, OutcomeOf, Rebuild};
@@ -89,8 +89,8 @@ pub struct TaskCounts {
 }
 
 impl Counts {
-    // Nothing is counted yet.
-    pub(crate) fn new() -> Counts
+    /// Returns counts of nothing.
+    pub fn new() -> Counts
         ensures { result ≡ no_counts }
     {
         Counts {
@@ -99,16 +99,16 @@ impl Counts {
         }
     }
 
-    // Counts a command of `host` with `sent` bytes of data-out.
-    pub(crate) fn add_command(&mut self, host: Host, cdb: [u8; 16], sent: u64, reply: &Reply)
+    /// Counts a command of `host` with `sent` bytes of data-out.
+    pub fn add_command(&mut self, host: Host, cdb: [u8; 16], sent: u64, reply: &Reply)
         ensures { self.new ≡ counts_after self.old host.number cdb sent reply.now }
     {
         let number = usize::from(host.number());
         self.hosts[number] = self.hosts[number].after(cdb, sent, reply);
     }
 
-    // Counts a step of background work that did something.
-    pub(crate) fn add_task(&mut self, task: Task)
+    /// Counts a step of background work that did something.
+    pub fn add_task(&mut self, task: Task)
         ensures { self.new ≡ record self.old { tasks = task_counts_after self.old.tasks task } }
     {
         self.tasks = self.tasks.after(task);
