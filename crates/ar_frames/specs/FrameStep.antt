@@ -4,8 +4,8 @@ use Rattle.ar_disks.specs.declared.address.Host.{Host}
 use Rattle.ar_scsi.specs.declared.reply.Reply.{Reply}
 use Rattle.ar_scsi.specs.Reply.{busy}
 use Rattle.ar_frames.specs.declared.frame.Request.{Request}
-use Rattle.ar_frames.specs.declared.fill.Sent.{Sent}
-use Rattle.ar_frames.specs.declared.fill.Sent.TheVariants as sent
+use Rattle.ar_frames.specs.declared.transfer.Sent.{Sent}
+use Rattle.ar_frames.specs.declared.transfer.Sent.TheVariants as sent
 use Rattle.ar_frames.specs.declared.receive.Incoming.{Incoming}
 use Rattle.ar_frames.specs.declared.receive.Incoming.TheVariants.{Whole, Lost, Ended}
 use Rattle.ar_frames.specs.declared.frame_step.FrameResult.{FrameResult}

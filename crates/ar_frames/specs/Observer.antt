@@ -1,7 +1,7 @@
 -- Calls of an observer.
 use Rattle.std.specs.Prelude.{ℕ}
 use Rattle.ar_disks.specs.declared.address.Host.{Host}
-use Rattle.ar_frames.specs.declared.fill.Sent.{Sent}
+use Rattle.ar_frames.specs.declared.transfer.Sent.{Sent}
 use Rattle.ar_frames.specs.declared.frame.Request.{Request}
 
 -- what the call before a command does: the observer before, the host, the command's number, the request, the observer

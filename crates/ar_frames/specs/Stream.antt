@@ -3,8 +3,8 @@ use Rattle.std.specs.Prelude.{◌≡◌, ℕ, ◌<◌, Bool, true, false, if◌t
 use Rattle.std.specs.Prelude.{⊤}
 use Rattle.std.specs.Io.KnownBytes.{Consumes, Appends, IsAtEnd}
 use Rattle.ar_disks.specs.Disk.{counted}
-use Rattle.ar_frames.specs.declared.fill.FillResult.{FillResult}
-use Rattle.ar_frames.specs.declared.fill.FillResult.TheVariants.{Full, Ended, Failed}
+use Rattle.ar_frames.specs.declared.transfer.FillResult.{FillResult}
+use Rattle.ar_frames.specs.declared.transfer.FillResult.TheVariants.{Full, Ended, Failed}
 use Rattle.ar_frames.specs.declared.hold.Passed.{Passed}
 use Rattle.ar_frames.specs.declared.hold.Passed.TheVariants.{All, Ended as PassEnded, Failed as PassFailed}
 use Rattle.ar_frames.specs.declared.hold.BufferResult.{BufferResult}
@@ -13,8 +13,8 @@ use Rattle.ar_frames.specs.declared.hold.BufferResult.TheVariants.{Failed as Hol
 use Rattle.ar_frames.specs.declared.hold.Fetched.{Fetched}
 use Rattle.ar_frames.specs.declared.hold.Fetched.TheVariants.{Kept as FetchKept, Lost as FetchLost, Ended as FetchEnded}
 use Rattle.ar_frames.specs.declared.hold.Fetched.TheVariants.{Failed as FetchFailed}
-use Rattle.ar_frames.specs.declared.fill.Sent.{Sent}
-use Rattle.ar_frames.specs.declared.fill.Sent.TheVariants.{Whole, Part}
+use Rattle.ar_frames.specs.declared.transfer.Sent.{Sent}
+use Rattle.ar_frames.specs.declared.transfer.Sent.TheVariants.{Whole, Part}
 
 -- a stream to read from: the bytes that are left, if it reports them, and the number of its faults
 pub record SourceState : Type 0 where

@@ -8,10 +8,10 @@ ghost use Rattle.ar_frames.specs.Session.{login_bytes};
 ghost use Rattle.ar_frames.specs.FrameStep.{SendsRequest};
 ghost use Rattle.ar_frames.specs.Client.{Greets, Means, ReadsGreeting, Asks, ReadsReply, Judges, Parses};
 
-use crate::fill::{FillResult, Sent, fill, send, send_parts};
 use crate::frame::{MOST_DATA, request_head};
 use crate::hold::{BufferResult, hold};
 use crate::stream::{Sink, Source};
+use crate::transfer::{FillResult, Sent, fill, send, send_parts};
 use ar_scsi::{Reply, Status};
 use byteorder::{BigEndian, ByteOrder};
 use bytes::Bytes;

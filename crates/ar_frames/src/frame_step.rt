@@ -3,13 +3,13 @@ ghost use Rattle.std.specs.Prelude.{◌≡◌, ◌<◌, ◌≤◌, ◌+◌, ◌^
 ghost use Rattle.ar_frames.specs.FrameStep.{AnswersRequest, RefusesRequest, FrameStep, result_after};
 
 use crate::end::EndReason;
-use crate::fill::Sent;
 use crate::frame::Request;
 use crate::observer::Observer;
 use crate::port::Port;
 use crate::receive::{Incoming, receive};
 use crate::reply::send_reply;
 use crate::stream::{Sink, Source};
+use crate::transfer::Sent;
 use ar_disks::Host;
 use std::alloc::Global;
 

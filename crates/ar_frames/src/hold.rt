@@ -3,8 +3,8 @@
 ghost use Rattle.std.specs.Prelude.{◌≡◌, IfOk, length, vec_len, vec_capacity};
 ghost use Rattle.ar_frames.specs.Stream.{Passes, Shares, Buffers, Fetches};
 
-use crate::fill::{FillResult, fill};
 use crate::stream::Source;
+use crate::transfer::{FillResult, fill};
 use bytes::Bytes;
 use std::alloc::{AllocError, Global};
 

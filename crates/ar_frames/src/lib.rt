@@ -7,7 +7,6 @@ ghost use Rattle.ar_frames.specs.Frame.{NoneBeginsAnother, NoReplyBeginsAnother}
 
 mod client;
 mod end;
-mod fill;
 mod frame;
 mod frame_step;
 mod hold;
@@ -21,10 +20,10 @@ mod receive;
 mod reply;
 mod session;
 mod stream;
+mod transfer;
 
 pub use client::{AskFault, ask, hello};
 pub use end::{EndReason, SessionEnd};
-pub use fill::{Sent, send, send_parts};
 pub use frame::{MOST_DATA, Request};
 pub use linked::{Linked, PartsWrite};
 pub use login::LOGIN_NAME;
@@ -34,6 +33,7 @@ pub use port::{Login, Port};
 pub use progress::{Progress, SessionCount, Stage};
 pub use session::{MOST_FRAMES, serve_gated, serve_observed, serve_session};
 pub use stream::{Sink, Source};
+pub use transfer::{FillResult, Sent, fill, send, send_parts};
 
 /// Lemma: no request frame is a proper prefix of another, and its bytes determine the request.
 pub fn no_frame_begins_another()

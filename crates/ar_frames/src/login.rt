@@ -7,9 +7,9 @@ ghost use Rattle.ar_frames.specs.Login.{Enters, Names, ReportsAdmission, stage_o
 ghost use Rattle.ar_disks.specs.declared.address.Host.{Host};
 
 use crate::end::EndReason;
-use crate::fill::{FillResult, Sent, fill, send};
 use crate::port::{Login, Port};
 use crate::stream::{Sink, Source};
+use crate::transfer::{FillResult, Sent, fill, send};
 use ar_disks::Host;
 
 /// The first eight bytes of a login.

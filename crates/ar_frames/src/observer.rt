@@ -4,8 +4,8 @@ ghost use Rattle.std.specs.Prelude.{ℕ};
 ghost use Rattle.ar_disks.specs.declared.address.Host.{Host};
 ghost use Rattle.ar_frames.specs.Observer.{Announces, Reports};
 
-use crate::fill::Sent;
 use crate::frame::Request;
+use crate::transfer::Sent;
 use ar_disks::Host;
 use std::marker::Model;
 

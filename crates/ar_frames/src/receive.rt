@@ -6,10 +6,10 @@ ghost use Rattle.ar_frames.specs.Frame.{most_data};
 ghost use Rattle.ar_frames.specs.FrameStep.{Receives};
 
 use crate::end::EndReason;
-use crate::fill::{FillResult, fill};
 use crate::frame::{Head, MOST_DATA, Request, head_of};
 use crate::hold::{Fetched, fetch_data};
 use crate::stream::Source;
+use crate::transfer::{FillResult, fill};
 use byteorder::{BigEndian, ByteOrder};
 use std::alloc::Global;
 

@@ -4,9 +4,9 @@ ghost use Rattle.std.specs.Prelude.{◌≡◌};
 ghost use Rattle.ar_frames.specs.Frame.{IsReply};
 ghost use Rattle.ar_frames.specs.FrameStep.{SendsReply};
 
-use crate::fill::{Sent, send, send_parts};
 use crate::frame::{plain_head, sense_frame};
 use crate::stream::Sink;
+use crate::transfer::{Sent, send, send_parts};
 use ar_scsi::Reply;
 
 // Writes a reply frame.

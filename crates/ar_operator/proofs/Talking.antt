@@ -3,8 +3,8 @@ use Rattle.std.proofs.Common.{◌≡◌, ◌∙◌, ◌+◌, ◌≤◌, ℕ, Boo
 use Rattle.std.proofs.Common.{refl, sym, ap, subst, length-append, inl, inr, arith}
 use Rattle.ar_frames.specs.Stream.{SourceState, SinkState}
 use Rattle.ar_frames.proofs.Streams.{Reading-none}
-use Rattle.ar_frames.specs.declared.fill.Sent.{Sent}
-use Rattle.ar_frames.specs.declared.fill.Sent.TheVariants.{Whole, Part}
+use Rattle.ar_frames.specs.declared.transfer.Sent.{Sent}
+use Rattle.ar_frames.specs.declared.transfer.Sent.TheVariants.{Whole, Part}
 use Rattle.ar_language.specs.Lines.{line_fault}
 use Rattle.ar_language.specs.declared.fault.FaultKind.{FaultKind}
 use Rattle.ar_operator.specs.declared.order.OperatorOrder.{OperatorOrder}

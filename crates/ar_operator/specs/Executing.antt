@@ -2,8 +2,8 @@
 use Rattle.std.specs.Prelude.{◌≡◌, ◌⊎◌, ◌++◌, Option, Some, None, List, ℕ, OnOk, Result, Ok, Err}
 use Rattle.std.specs.declared.alloc.AllocError.{AllocError}
 use Rattle.ar_core.specs.Events.{Outcome}
-use Rattle.ar_history.specs.Kept.{KeptState, StaysKept, history_entry}
-use Rattle.ar_history.specs.Operations.{Does}
+use Rattle.ar_served.specs.Kept.{KeptState, StaysKept, history_entry}
+use Rattle.ar_served.specs.Operations.{Does}
 use Rattle.ar_language.specs.declared.order.Action.{Action}
 use Rattle.ar_language.specs.declared.order.Action.TheVariants.{DiskOut}
 use Rattle.ar_language.specs.declared.order.Order.TheVariants as orders

@@ -3,8 +3,8 @@ use Rattle.std.specs.Prelude.{◌≡◌, ◌⊎◌, ◌≤◌, ℕ, Bool, true, 
 use Rattle.std.specs.Prelude.{None, Result, Ok, Err, alloc_error}
 use Rattle.std.specs.Io.KnownBytes.{IsAtEnd}
 use Rattle.ar_frames.specs.Stream.{SourceState, SinkState, Reading, Sending}
-use Rattle.ar_frames.specs.declared.fill.Sent.{Sent}
-use Rattle.ar_frames.specs.declared.fill.Sent.TheVariants.{Whole, Part}
+use Rattle.ar_frames.specs.declared.transfer.Sent.{Sent}
+use Rattle.ar_frames.specs.declared.transfer.Sent.TheVariants.{Whole, Part}
 use Rattle.ar_language.specs.Lines.{line_fault}
 use Rattle.ar_language.specs.declared.fault.FaultKind.{FaultKind}
 use Rattle.ar_language.specs.declared.fault.FaultKind.TheVariants.{NoMemory}

@@ -9,9 +9,9 @@ use crate::OperatorOrder;
 use crate::early::{early_refusal, write_refusal};
 use ar_core::{Array, Health, Outcome, OutcomeOf};
 use ar_disks::{Disk, Geometry, MemDisk};
-use ar_history::{OperableArray, Task};
 use ar_language::Action;
 use ar_script::{write_answer, write_outcome};
+use ar_served::{OperableArray, Task};
 use std::alloc::{AllocError, Global};
 use std::sync::ledger::Ledger;
 

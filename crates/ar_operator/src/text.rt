@@ -3,7 +3,7 @@ ghost use Rattle.std.specs.Prelude.{◌≡◌, ◌<◌, OnOk};
 ghost use Rattle.ar_picture.specs.Writing.{AddsSome};
 
 use ar_disks::Host;
-use ar_history::{Counts, HostCounts, TaskCounts};
+use ar_served::{Counts, HostCounts, TaskCounts};
 use std::io;
 use std::io::Write;
 

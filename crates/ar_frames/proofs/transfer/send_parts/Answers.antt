@@ -1,6 +1,6 @@
 use Rattle.std.proofs.Common.{◌++◌, ap, arith, length, length-drop}
 use Rattle.ar_frames.proofs.Streams.{Writing-trans, Writing-same, rest_of_parts, take-sent_rest}
-use Rattle.ar_frames.proofs.fill.send_parts.Goals as goal
+use Rattle.ar_frames.proofs.transfer.send_parts.Goals as goal
 
 pub loop-at-preserved : goal.loop-at-preserved
 loop-at-preserved g c =

@@ -5,13 +5,13 @@ ghost use Rattle.ar_frames.specs.Stream.{Filling, Sending};
 
 use crate::stream::{Sink, Source};
 
-// How far a buffer was filled.
+/// How far a buffer was filled.
 #[derive(Clone, Copy)]
-pub(crate) enum FillResult {
+pub enum FillResult {
     Full,
-    // Input ended after this many bytes.
+    /// Input ended after this many bytes.
     Ended(usize),
-    // A read faulted after this many bytes.
+    /// A read faulted after this many bytes.
     Failed(usize),
 }
 
@@ -23,8 +23,8 @@ pub enum Sent {
     Part(usize),
 }
 
-// Fills `into`. An empty one makes no read.
-pub(crate) fn fill<R: Source>(reader: &mut R, into: &mut [u8]) -> FillResult
+/// Fills `into`. An empty one makes no read.
+pub fn fill<R: Source>(reader: &mut R, into: &mut [u8]) -> FillResult
     ensures { Filling (R.state reader.old) (R.state reader.new) into.new result }
 {
     let mut at = 0;

@@ -1,6 +1,6 @@
 use Rattle.std.proofs.Common.{false, rules}
 use Rattle.ar_frames.proofs.Streams.{Reading-trans, Reading-same, take-filled}
-use Rattle.ar_frames.proofs.fill.fill.Goals as goal
+use Rattle.ar_frames.proofs.transfer.fill.Goals as goal
 
 pub loop-at-preserved : goal.loop-at-preserved
 loop-at-preserved g c = record {

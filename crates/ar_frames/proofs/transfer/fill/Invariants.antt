@@ -1,7 +1,7 @@
 -- what came so far stands at the front of the piece
 use Rattle.std.proofs.Common.{◌≤◌, ◌-◌, false, length, take}
 use Rattle.ar_frames.specs.Stream.{Reading}
-use Rattle.ar_frames.proofs.fill.fill.Given as goal
+use Rattle.ar_frames.proofs.transfer.fill.Given as goal
 
 abbrev pub invariant-loop-at : goal.invariant-loop-at
 invariant-loop-at g l = record {

@@ -1,7 +1,7 @@
 -- what was taken so far is the front of the piece
 use Rattle.std.proofs.Common.{◌≤◌, ◌-◌, false, length, take}
 use Rattle.ar_frames.specs.Stream.{Writing}
-use Rattle.ar_frames.proofs.fill.send.Given as goal
+use Rattle.ar_frames.proofs.transfer.send.Given as goal
 
 abbrev pub invariant-loop-at : goal.invariant-loop-at
 invariant-loop-at g l = record {

@@ -1,6 +1,6 @@
 use Rattle.std.proofs.Common.{rules}
 use Rattle.ar_frames.proofs.Streams.{Writing-trans, Writing-same, take-sent}
-use Rattle.ar_frames.proofs.fill.send.Goals as goal
+use Rattle.ar_frames.proofs.transfer.send.Goals as goal
 
 pub loop-at-preserved : goal.loop-at-preserved
 loop-at-preserved g c = record {
