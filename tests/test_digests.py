@@ -97,9 +97,20 @@ class Digested(Case):
         found = [said.login_status, *map(said.pairs.get, (b"HeaderDigest", b"DataDigest"))]
         self.wants(found, [b"\0\0", header.encode(), data.encode()], f"a login that offers {offered!r}")
         initiator.digests = [digest if chosen == CRC else no_digest for chosen in (header, data)]
+        self.notes_headers(initiator)
         # (the first command reports the new session, with sense data)
         self.wants(initiator.asks(TEST_UNIT_READY)[1].code, b"\x06\x29\x00", "the first command")
         return initiator
+
+    def notes_headers(self, initiator):
+        """Has an initiator keep the header that it sent last."""
+        of_header = initiator.digests[0]
+
+        def noting(covered):
+            initiator.header = covered[:48]
+            return of_header(covered)
+
+        initiator.digests[0] = noting
 
     def echoes(self, initiator, what):
         self.wants(initiator.ping(b"ping!").data, b"ping!", f"a NOP-In {what}")
@@ -177,6 +188,18 @@ class Digested(Case):
     def is_ended(self, initiator, what):
         """Looks that a session has ended without an answer."""
         self.wants(rest_of(initiator.link), b"", what)
+
+    def is_rejected(self, initiator, what):
+        """Looks that the PDU that was sent last is rejected, as its data digest is wrong, and the session ends then.
+
+        The Reject has reason 02h, the rejected header, and the next StatSN (RFC 7143, 7.8, 11.17 and 11.17.1).
+        """
+        header, stat_sn = initiator.header, initiator.exp_stat_sn
+        initiator.digests[1] = digest
+        said = initiator.receive()
+        found = said and (said.opcode, said.response, said.tag, said.stat_sn, said.data)
+        self.wants(found, (0x3F, 0x02, NO_TAG, stat_sn, header), what)
+        self.is_ended(initiator, f"what comes after {what}")
 
     def finish(self):
         """Looks that a new session is served, and that the service ends well."""
@@ -364,14 +387,14 @@ class Wrong(Digested):
         self.finish()
 
     def test_immediate_data(self):
-        """A WRITE whose immediate data have changed isn't done, and ends the session."""
+        """A WRITE whose immediate data have changed is rejected and not done, and ends the session."""
         former, new = self.bytes[:2048], self.bytes[2048:4096]
         initiator = self.logs_in()
         self.writes(initiator, former)
         for place in 0, 1000, 2047:
             initiator.digests[1] = of_another(place)
             initiator.sends(write_10(0, 4), flags=0xA1, expected=2048, data=new)
-            self.is_ended(initiator, f"what answers immediate data whose byte {place} has changed")
+            self.is_rejected(initiator, f"what answers immediate data whose byte {place} has changed")
             initiator = self.keeps(former)
         self.writes(initiator, new)
         self.is_stored(initiator, new)
@@ -386,7 +409,8 @@ class Wrong(Digested):
             tag = self.begins(initiator, new)
             transfer_tag = self.takes_request(initiator, tag, 0, len(new))
             self.sends_data(initiator, tag, new, transfer_tag, wrong=wrong)
-            self.is_ended(initiator, f"what answers a Data-Out PDU whose digest {wrong} is wrong")
+            looks = self.is_rejected if wrong else self.is_ended
+            looks(initiator, f"what answers a Data-Out PDU whose digest {wrong} is wrong")
             initiator = self.keeps(self.bytes)
         self.finish()
 
@@ -399,18 +423,19 @@ class Wrong(Digested):
         for wrong in 0, 1:
             tag = self.begins(initiator, new, flags=0x21)
             self.sends_data(initiator, tag, new, wrong=wrong)
-            self.is_ended(initiator, f"what answers an unsolicited Data-Out PDU whose digest {wrong} is wrong")
+            looks = self.is_rejected if wrong else self.is_ended
+            looks(initiator, f"what answers an unsolicited Data-Out PDU whose digest {wrong} is wrong")
             self.keeps(self.bytes).close()
             initiator = self.logs_in(keys=keys)
         self.finish()
 
     def test_padding(self):
-        """A data digest is wrong that doesn't cover the padding, or not as it was sent: a NOP-Out isn't answered."""
+        """A data digest is wrong that doesn't cover the padding, or not as it was sent: a NOP-Out is rejected."""
         for wrong in lambda covered: crc32c(covered[:5]), of_another(5), of_another(7), of_another(0):
             initiator = self.logs_in()
             initiator.digests[1] = wrong
             self.pings(initiator, b"ping!")
-            self.is_ended(initiator, "what answers padded data with a wrong digest")
+            self.is_rejected(initiator, "what answers padded data with a wrong digest")
         self.finish()
 
     def test_headers_alone(self):
@@ -422,9 +447,9 @@ class Wrong(Digested):
         self.finish()
 
     def test_data_alone(self):
-        """In a session without header digests a wrong data digest ends it, too."""
+        """In a session without header digests a PDU with a wrong data digest is rejected, and ends it, too."""
         initiator = self.logs_in(header="None")
         initiator.digests[1] = of_another(0)
         self.pings(initiator, b"ping!")
-        self.is_ended(initiator, "what answers a wrong data digest")
+        self.is_rejected(initiator, "what answers a wrong data digest")
         self.finish()

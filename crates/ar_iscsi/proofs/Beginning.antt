@@ -5,12 +5,10 @@ use Rattle.ar_frames.specs.Port.{CommandRefusals}
 use Rattle.ar_frames.specs.Port.{Logins}
 use Rattle.ar_frames.specs.Stream.{SourceState, SinkState}
 use Rattle.ar_target.specs.ResetPort.{UnitResets}
-use Rattle.ar_iscsi.specs.declared.flow.Flow.{Flow}
 use Rattle.ar_iscsi.specs.declared.login_phase.LoginEnd.{LoginEnd}
 use Rattle.ar_iscsi.specs.declared.negotiation.Limits.{Limits}
 use Rattle.ar_iscsi.specs.declared.negotiation.Negotiation.{Negotiation}
 use Rattle.ar_iscsi.specs.declared.session.FeatureEnd.{FeatureEnd}
-use Rattle.ar_iscsi.specs.declared.waiting_pdu.WaitingPdu.{WaitingPdu}
 use Rattle.ar_iscsi.specs.Arrival.{FeatureSpot}
 use Rattle.ar_iscsi.specs.LoginPhase.{RunsLogin}
 use Rattle.ar_iscsi.specs.LoginTurn.{LoginSpot}
@@ -20,55 +18,20 @@ use Rattle.ar_iscsi.specs.Session.{RunsFeature}
 use Rattle.ar_iscsi.specs.Target.{login_start, IsFeature}
 use Rattle.ar_iscsi.specs.declared.login.LoginState.{LoginState}
 
--- without collected data, with none that wait, and by what was agreed on
+-- from where a session begins, and by what was agreed on
 pub feature_from :
     {P : Type 0} (commands : Commands P) (refuses : CommandRefusals P) (resets : UnitResets P) (address : List ℕ)
-    (limits agreed : Limits)
-    (source : SourceState) (sink : SinkState)
-    (flow : Flow) (bytes : List ℕ) (waiting : List WaitingPdu) (port : P) (reason : FeatureEnd)
-    (new : Place FeatureSpot P) → limits ≡ agreed → bytes ≡ [] → waiting ≡ []
+    (limits agreed : Limits) (source : SourceState) (sink : SinkState) (spot start : FeatureSpot) (port : P)
+    (reason : FeatureEnd) (new : Place FeatureSpot P) → limits ≡ agreed → spot ≡ start
     → RunsFeature commands refuses resets address limits
-    (record {
-      source = source;
-      sink = sink;
-      spot = record { session = record { flow = flow; bytes = bytes }; waiting = waiting };
-      port = port;
-    })
-    reason new
+    (record { source = source; sink = sink; spot = spot; port = port }) reason new
     → RunsFeature commands refuses resets address agreed
-    (record {
-      source = source;
-      sink = sink;
-      spot = record { session = record { flow = flow; bytes = [] }; waiting = [] };
-      port = port;
-    })
-    reason new
-feature_from commands refuses resets address limits agreed source sink flow bytes waiting port reason new same no_bytes
-    none runs =
+    (record { source = source; sink = sink; spot = start; port = port }) reason new
+feature_from commands refuses resets address limits agreed source sink spot start port reason new same is runs =
     subst (λ (a : Limits). RunsFeature commands refuses resets address a
-    (record {
-      source = source;
-      sink = sink;
-      spot = record { session = record { flow = flow; bytes = [] }; waiting = [] };
-      port = port;
-    })
-    reason new) same
-    (subst (λ (l : List ℕ). RunsFeature commands refuses resets address limits
-    (record {
-      source = source;
-      sink = sink;
-      spot = record { session = record { flow = flow; bytes = l }; waiting = [] };
-      port = port;
-    })
-    reason new) no_bytes
-    (subst (λ (w : List WaitingPdu). RunsFeature commands refuses resets address limits
-    (record {
-      source = source;
-      sink = sink;
-      spot = record { session = record { flow = flow; bytes = bytes }; waiting = w };
-      port = port;
-    })
-    reason new) none runs))
+    (record { source = source; sink = sink; spot = start; port = port }) reason new) same
+    (subst (λ (s : FeatureSpot). RunsFeature commands refuses resets address limits
+    (record { source = source; sink = sink; spot = s; port = port }) reason new) is runs)
 
 -- with nothing negotiated, and without text
 pub login_from : {P : Type 0} (logins : Logins P) (source : SourceState) (sink : SinkState) (so_far : Negotiation)

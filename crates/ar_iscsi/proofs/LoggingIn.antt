@@ -1,8 +1,8 @@
 -- What becomes of a login phase.
 use Rattle.std.proofs.Common.{ℕ, Option, Some, None}
 use Rattle.ar_frames.specs.Port.{Logins}
-use Rattle.ar_frames.specs.declared.fill.Sent.{Sent}
-use Rattle.ar_frames.specs.declared.fill.Sent.TheVariants.{Whole, Part}
+use Rattle.ar_frames.specs.declared.transfer.Sent.{Sent}
+use Rattle.ar_frames.specs.declared.transfer.Sent.TheVariants.{Whole, Part}
 use Rattle.ar_iscsi.specs.declared.login.LoginResult.{LoginResult}
 use Rattle.ar_iscsi.specs.declared.login.LoginResult.TheVariants.{Next, Entered, Refused}
 use Rattle.ar_iscsi.specs.declared.login_phase.LoginEnd.{LoginEnd}

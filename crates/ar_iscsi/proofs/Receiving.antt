@@ -1,16 +1,16 @@
 -- How the parts of a PDU that were read one after the other join, and how reading stops inside one.
 use Rattle.std.proofs.Common.{◌≡◌, ◌∙◌, ℕ, ◌+◌, ◌<◌, ◌≤◌, true, false, List, [], ◌∷◌, ◌++◌, subst, sym, length}
-use Rattle.std.proofs.Common.{append_assoc, ap, refl, length-take-le}
+use Rattle.std.proofs.Common.{append_assoc, ap, length-take-le}
 use Rattle.std.proofs.Common.{length-append, arith}
 use Rattle.std.proofs.lemmas.Bool.{ne_eqb}
 use Rattle.ar_frames.specs.Stream.{SourceState, Reading}
 use Rattle.ar_frames.proofs.Streams.{Reading-trans}
 use Rattle.ar_iscsi.specs.declared.receive.ReceiveEnd.TheVariants as end
 use Rattle.ar_iscsi.specs.declared.receive.Received.{Received}
-use Rattle.ar_iscsi.specs.declared.receive.Received.TheVariants.{Pdu, Nothing}
+use Rattle.ar_iscsi.specs.declared.receive.Received.TheVariants.{Pdu, Damaged, Nothing}
 use Rattle.ar_iscsi.specs.Pdu.{IsPdu, ahs_len, segment_len, rest_len, padding_len}
 use Rattle.ar_iscsi.specs.declared.digest.Digests.{Digests}
-use Rattle.ar_iscsi.specs.Digest.{IsDigestedPdu, EndsWrong, closed, closes_data}
+use Rattle.ar_iscsi.specs.Digest.{IsDamagedPdu, IsDigestedPdu, closed, closes_data}
 use Rattle.ar_iscsi.specs.Receive.{ReceivesPdu, ReadsNoPdu, IsCutPdu, after_header, StopsPdu}
 use Rattle.ar_iscsi.specs.Receive.{ReceivesDigested, StopsDigested}
 use Rattle.std.specs.Prelude.{take, Bool, ◌&&◌, ◌==◌, not}
@@ -27,6 +27,7 @@ receives_front a b c base front buffer limit (Pdu header) first rest = record {
   within = rest.within;
   read = Reading-trans a b c front rest.rest false first rest.read;
 }
+receives_front a b c base front buffer limit (Damaged header) first rest = rest
 receives_front a b c base front buffer limit (Nothing reason) first rest = record {
   rest = front ++ rest.rest;
   stops = subst (λ (l : List ℕ). StopsPdu reason limit l) (append_assoc base front rest.rest) rest.stops;
@@ -88,6 +89,12 @@ digested_front digests a b c base front buffer limit (Pdu header) first rest = (
   rest.2,
   Reading-trans a b c front rest.0 false first rest.3,
 )
+digested_front digests a b c base front buffer limit (Damaged header) first rest = (
+  front ++ rest.0,
+  subst (λ (l : List ℕ). IsDamagedPdu digests header l) (append_assoc base front rest.0) rest.1,
+  rest.2,
+  Reading-trans a b c front rest.0 false first rest.3,
+)
 digested_front digests a b c base front buffer limit (Nothing reason) first rest = (
   front ++ rest.0,
   subst (λ (l : List ℕ). StopsDigested digests reason limit l) (append_assoc base front rest.0) rest.1,
@@ -131,16 +138,3 @@ digested_whole digests header ahs payload tail buffer header_is ahs_is size is r
       segment_is = size;
       padding_is = padding_is ∙ ap padding_len size;
     })
-
-both_left : (a b : Bool) → (a && b) ≡ true → a ≡ true
-both_left true b both = refl
-both_left false b both = both
-
--- a wrong digest of data that have one
-pub wrong_data : (digests : Digests) (payload tail : List ℕ) (covered : ℕ)
-    → EndsWrong (closes_data digests payload) payload tail covered → EndsWrong digests.segment payload tail covered
-wrong_data digests payload tail covered wrong = record {
-  wanted = both_left digests.segment (not (length payload == 0)) wrong.wanted;
-  length_is = wrong.length_is;
-  wrong = wrong.wrong;
-}

@@ -1,32 +1,37 @@
 -- How the PDUs of a phase join, and what becomes of a full feature phase.
-use Rattle.std.proofs.Common.{◌≡◌, ℕ, ◌+◌, true, false, List, [], refl, subst, sym, take, Option, Some, None}
+use Rattle.std.proofs.Common.{◌≡◌, ℕ, ◌+◌, true, false, List, [], length, refl, subst, sym, take, Option, Some}
+use Rattle.std.proofs.Common.{None}
 use Rattle.std.proofs.Math.Numerals.{suc-eq-add-one}
 use Rattle.ar_frames.specs.Conversation.{Commands}
 use Rattle.ar_frames.specs.Port.{CommandRefusals}
-use Rattle.ar_frames.specs.Stream.{SourceState, SinkState, Reading}
+use Rattle.ar_frames.specs.Stream.{SourceState, SinkState, Reading, Sending}
+use Rattle.ar_iscsi.specs.Digest.{sent_by}
 use Rattle.ar_target.specs.ResetPort.{UnitResets}
-use Rattle.ar_frames.specs.declared.fill.Sent.{Sent}
-use Rattle.ar_frames.specs.declared.fill.Sent.TheVariants.{Whole, Part}
+use Rattle.ar_frames.specs.declared.transfer.Sent.{Sent}
+use Rattle.ar_frames.specs.declared.transfer.Sent.TheVariants.{Whole, Part}
 use Rattle.ar_iscsi.specs.declared.negotiation.Limits.{Limits}
 use Rattle.ar_iscsi.specs.declared.receive.ReceiveEnd.{ReceiveEnd}
 use Rattle.ar_iscsi.specs.declared.receive.ReceiveEnd.TheVariants as unread
 use Rattle.ar_iscsi.specs.declared.session.FeatureEnd.{FeatureEnd}
+use Rattle.ar_iscsi.specs.declared.session.PduResult.{PduResult}
 use Rattle.ar_iscsi.specs.declared.turn.TurnEnd.{TurnEnd}
-use Rattle.ar_iscsi.specs.declared.turn.TurnEnd.TheVariants.{Next, LoggedOut, BrokenData, Rejected}
+use Rattle.ar_iscsi.specs.declared.turn.TurnEnd.TheVariants.{Next, LoggedOut, BrokenData, Rejected, WrongData}
 use Rattle.ar_iscsi.specs.Pdu.{segment_len}
 use Rattle.ar_iscsi.specs.declared.digest.Digests.{Digests}
 use Rattle.ar_iscsi.specs.Digest.{no_digests, is_plain}
-use Rattle.ar_iscsi.specs.Receive.{ReadsPdu, ReadsNoPdu, ReadsSentPdu, ReadsNoSentPdu}
-use Rattle.std.specs.Prelude.{Bool, MatchBool}
+use Rattle.ar_iscsi.specs.Receive.{ReadsDamaged, ReadsPdu, ReadsNoPdu, ReadsSentPdu, ReadsNoSentPdu}
+use Rattle.std.specs.Prelude.{Bool, MatchBool, IfNone, IfSome}
 use Rattle.ar_iscsi.specs.Task.{MayGive}
 use Rattle.ar_iscsi.specs.Turn.{Spot}
-use Rattle.ar_iscsi.specs.Waiting.{is_next_waiting}
+use Rattle.ar_iscsi.specs.Waiting.{is_next_waiting, waits}
+use Rattle.ar_iscsi.specs.Request.{initiator_pdu}
+use Rattle.ar_iscsi.specs.declared.request.InitiatorPdu.{InitiatorPdu}
 use Rattle.ar_iscsi.specs.declared.waiting_pdu.WaitingPdu.{WaitingPdu}
-use Rattle.ar_iscsi.specs.Arrival.{FeatureSpot, ArrivalTurn, MayUse}
+use Rattle.ar_iscsi.specs.Arrival.{FeatureSpot, ArrivalFor, ArrivalTurn, MayUse}
 use Rattle.ar_iscsi.specs.Phase.{Turns, PhaseSteps, Place, ServesPdu, ServesPdus, HasNoAnswer, AnswersPdu, turned}
 use Rattle.ar_iscsi.specs.Phase.{unanswered, most_segment}
 use Rattle.ar_iscsi.specs.Session.{NextIsServed, EndsFeature, RunsFeature, FeatureStep, of_waiting, of_arrival}
-use Rattle.ar_iscsi.specs.Session.{of_silence, MayPing, result_of_ping}
+use Rattle.ar_iscsi.specs.Session.{of_damage, of_silence, damaged_lacks, MayPing, RejectsDamaged, result_of_ping}
 use Rattle.ar_iscsi.specs.Session.{TakesWaiting, WaitingTurn}
 use Rattle.ar_iscsi.specs.Session.{read_lacks, waiting_lacks, result_of_turn, result_of_answer}
 
@@ -93,6 +98,36 @@ unsent digests turns may header carried sink sink' spot spot' port port' answere
     (subst (λ (s : SinkState). AnswersPdu digests turns may header carried sink spot port None s spot' port') (sym same)
     (unanswered spot' port' done))
 
+-- a turn's answer was sent, though it is known by another name, as the state is that the turn leaves
+pub sent_on :
+    {S P E : Type 0} (digests : Digests) (turns : Turns S P E) (may : P → P → Type 0) (header carried : List ℕ)
+    (sink sink' : SinkState) (spot spot' there : S) (port port' : P) (left : E) (sent : Sent) (out out' : List ℕ)
+    → turns header carried spot port out spot' port' left → Sending sink sink' (sent_by digests out') sent
+    → out' ≡ out → there ≡ spot'
+    → AnswersPdu digests turns may header carried sink spot port (Some (left, sent)) sink' there port'
+sent_on {S = S} digests turns may header carried sink sink' spot spot' there port port' left sent out out' turn sending
+    same is =
+    turned left sent out' sink' there port'
+    (subst (λ (o : List ℕ). turns header carried spot port o there port' left) (sym same)
+    (subst (λ (s : S). turns header carried spot port out s port' left) (sym is) turn)) sending
+
+-- what a PDU did, by whether it was answered
+abbrev pub IsAnswered : {S P E : Type 0} → Digests → Turns S P E → (P → P → Type 0) → List ℕ → List ℕ → SinkState → S
+    → P → Option (E × Sent) → SinkState → S → P → Type 0
+IsAnswered digests turns may header carried sink spot port (Some answered) sink' spot' port' =
+    (out : List ℕ) × turns header carried spot port out spot' port' answered.0
+    × Sending sink sink' (sent_by digests out) answered.1
+IsAnswered digests turns may header carried sink spot port None sink' spot' port' = (sink' ≡ sink) × may port port'
+
+pub answers_of :
+    {S P E : Type 0} (digests : Digests) (turns : Turns S P E) (may : P → P → Type 0) (header carried : List ℕ)
+    (sink sink' : SinkState) (spot spot' : S) (port port' : P) (answered : Option (E × Sent))
+    → AnswersPdu digests turns may header carried sink spot port answered sink' spot' port'
+    → IsAnswered digests turns may header carried sink spot port answered sink' spot' port'
+answers_of digests turns may header carried sink sink' spot spot' port port' _
+    (turned left sent out _ _ _ turn sending) = (out, turn, sending)
+answers_of digests turns may header carried sink sink' spot spot' port port' _ (unanswered _ _ done) = (refl, done)
+
 -- one more PDU
 pub served_more :
     {S P E : Type 0} (steps : PhaseSteps S P E) (next : E) (count : ℕ) (old between new : Place S P)
@@ -112,21 +147,97 @@ module _ {P : Type 0} (commands : Commands P) (refuses : CommandRefusals P) (res
   by_step old new LoggedOut Whole step = λ count. step
   by_step old new BrokenData Whole step = λ count. step
   by_step old new Rejected Whole step = λ count. step
+  by_step old new WrongData Whole step = λ count. step
   by_step old new Next (Part n) step = λ count. record { left = Next; count = n; serves = step }
   by_step old new LoggedOut (Part n) step = λ count. record { left = LoggedOut; count = n; serves = step }
   by_step old new BrokenData (Part n) step = λ count. record { left = BrokenData; count = n; serves = step }
   by_step old new Rejected (Part n) step = λ count. record { left = Rejected; count = n; serves = step }
+  by_step old new WrongData (Part n) step = λ count. record { left = WrongData; count = n; serves = step }
+
+  -- a PDU that was read, by its fields
+  pub arrival_of :
+      (fields : InitiatorPdu) (header carried : List ℕ) (old : FeatureSpot) (port : P) (out : List ℕ)
+      (new : FeatureSpot) (port' : P) (end : TurnEnd) → fields ≡ initiator_pdu header
+      → ArrivalFor commands refuses resets address limits header carried fields
+      (waits old.session.flow (length old.waiting) fields) old port out new port' end
+      → ArrivalTurn commands refuses resets address limits header carried old port out new port' end
+  arrival_of fields header carried old port out new port' end decoded turn =
+      subst (λ (f : InitiatorPdu). ArrivalFor commands refuses resets address limits header carried f
+      (waits old.session.flow (length old.waiting) f) old port out new port' end) decoded turn
 
   -- a PDU that was read
-  pub arrival_served :
+  arrival_answered :
       (old new : Place FeatureSpot P) (answered : Option (TurnEnd × Sent))
       → is_next_waiting old.spot.session.flow old.spot.waiting ≡ false
       → IsHandled limits.digests (ArrivalTurn commands refuses resets address limits) (MayUse commands resets) old new
       answered
       → NextIsServed commands refuses resets address limits old (result_of_answer answered) new
-  arrival_served old new (Some (left, sent)) none_next serves =
+  arrival_answered old new (Some (left, sent)) none_next serves =
       by_step old new left sent (of_arrival (record { none_next = none_next; serves = serves }))
-  arrival_served old new None none_next none = λ count. read_lacks none
+  arrival_answered old new None none_next none = λ count. read_lacks none
+
+  -- the same in a session that is `old`, by what becomes of it
+  pub arrival_served :
+      (source source' : SourceState) (sink sink' : SinkState) (old first new : FeatureSpot) (port port' : P)
+      (header buffer carried : List ℕ) (answered : Option (TurnEnd × Sent)) (result : PduResult) → first ≡ old
+      → is_next_waiting old.session.flow old.waiting ≡ false
+      → ReadsSentPdu limits.digests most_segment source source' header buffer
+      → carried ≡ take (segment_len header) buffer
+      → AnswersPdu limits.digests (ArrivalTurn commands refuses resets address limits) (MayUse commands resets) header
+      carried sink first port answered sink' new port'
+      → result ≡ result_of_answer answered
+      → NextIsServed commands refuses resets address limits
+      (record { source = source; sink = sink; spot = old; port = port }) result
+      (record { source = source'; sink = sink'; spot = new; port = port' })
+  arrival_served source source' sink sink' old first new port port' header buffer carried answered result is none_next
+      reads came answers becomes =
+      subst (λ (r : PduResult). NextIsServed commands refuses resets address limits
+      (record { source = source; sink = sink; spot = old; port = port }) r
+      (record { source = source'; sink = sink'; spot = new; port = port' })) (sym becomes)
+      (arrival_answered _ _ answered none_next
+      (handled limits.digests (ArrivalTurn commands refuses resets address limits) (MayUse commands resets) source
+      source' sink sink' old new port port' header buffer answered reads
+      (subst (λ (s : FeatureSpot). AnswersPdu limits.digests (ArrivalTurn commands refuses resets address limits)
+      (MayUse commands resets) header (take (segment_len header) buffer) sink s port answered sink' new port') is
+      (subst (λ (l : List ℕ). AnswersPdu limits.digests (ArrivalTurn commands refuses resets address limits)
+      (MayUse commands resets) header l sink first port answered sink' new port') came answers))))
+
+  -- a PDU that was read, and whose data digest is wrong
+  damaged_answered :
+      (source source' : SourceState) (sink sink' : SinkState) (old new : FeatureSpot) (port : P) (header : List ℕ)
+      (answered : Option (TurnEnd × Sent)) → is_next_waiting old.session.flow old.waiting ≡ false
+      → ReadsDamaged limits.digests most_segment source source' header
+      → IfSome answered (λ a. RejectsDamaged limits.digests header old sink new sink' a.0 a.1)
+      → IfNone answered (sink' ≡ sink)
+      → NextIsServed commands refuses resets address limits
+      (record { source = source; sink = sink; spot = old; port = port }) (result_of_answer answered)
+      (record { source = source'; sink = sink'; spot = new; port = port })
+  damaged_answered source source' sink sink' old new port header (Some (left, sent)) none_next reads rejects same =
+      by_step _ _ left sent
+      (of_damage
+      (record { header = header; none_next = none_next; reads = reads; rejects = rejects; port = refl }))
+  damaged_answered source source' sink sink' old new port header None none_next reads rejects same =
+      λ count. damaged_lacks header reads same refl
+
+  -- the same in a session that is `old`, by what becomes of it
+  pub damaged_served :
+      (source source' : SourceState) (sink sink' : SinkState) (old first new : FeatureSpot) (port : P)
+      (header : List ℕ) (answered : Option (TurnEnd × Sent)) (result : PduResult) → first ≡ old
+      → is_next_waiting old.session.flow old.waiting ≡ false
+      → ReadsDamaged limits.digests most_segment source source' header
+      → IfSome answered (λ a. RejectsDamaged limits.digests header first sink new sink' a.0 a.1)
+      → IfNone answered (sink' ≡ sink) → result ≡ result_of_answer answered
+      → NextIsServed commands refuses resets address limits
+      (record { source = source; sink = sink; spot = old; port = port }) result
+      (record { source = source'; sink = sink'; spot = new; port = port })
+  damaged_served source source' sink sink' old first new port header answered result is none_next reads rejects same
+      becomes =
+      subst (λ (r : PduResult). NextIsServed commands refuses resets address limits
+      (record { source = source; sink = sink; spot = old; port = port }) r
+      (record { source = source'; sink = sink'; spot = new; port = port })) (sym becomes)
+      (damaged_answered source source' sink sink' old new port header answered none_next reads
+      (subst (λ (s : FeatureSpot). IfSome answered
+      (λ a. RejectsDamaged limits.digests header s sink new sink' a.0 a.1)) is rejects) same)
 
   -- no PDU that was read, and perhaps a ping
   pub unread_served :
@@ -153,25 +264,59 @@ module _ {P : Type 0} (commands : Commands P) (refuses : CommandRefusals P) (res
         sending = sending;
       }))
 
-  -- a PDU that waited
-  pub waiting_served :
-      (source : SourceState) (sink sink' : SinkState) (spot spot' : Spot) (waiting waiting' : List WaitingPdu)
-      (port port' : P) (pdu : WaitingPdu) (answered : Option (TurnEnd × Sent))
-      → TakesWaiting spot.flow waiting (Some pdu) waiting'
-      → AnswersPdu limits.digests (WaitingTurn commands refuses address limits pdu.state pdu.early)
-      (MayGive commands) pdu.header pdu.carried
-      sink spot port answered sink' spot' port'
+  -- a PDU that waited: it was taken from those of a session that is `old`, and its turn left `new`
+  waiting_answered :
+      (source : SourceState) (sink sink' : SinkState) (old first taken new : FeatureSpot) (port port' : P)
+      (pdu : WaitingPdu) (answered : Option (TurnEnd × Sent))
+      → first ≡ old → TakesWaiting first.session.flow first.waiting (Some pdu) taken.waiting
+      → taken.session ≡ first.session
+      → IsAnswered limits.digests (WaitingTurn commands refuses address limits pdu.state pdu.early pdu.fields)
+      (MayGive commands) pdu.header pdu.carried sink taken.session port answered sink' new.session port'
+      → new.waiting ≡ taken.waiting
       → NextIsServed commands refuses resets address limits
-      (record { source = source; sink = sink; spot = record { session = spot; waiting = waiting }; port = port })
-      (result_of_answer answered)
-      (record { source = source; sink = sink'; spot = record { session = spot'; waiting = waiting' }; port = port' })
-  waiting_served source sink sink' spot spot' waiting waiting' port port' pdu _ taken
-      (turned left sent out _ _ _ turn sending) =
+      (record { source = source; sink = sink; spot = old; port = port }) (result_of_answer answered)
+      (record { source = source; sink = sink'; spot = new; port = port' })
+  waiting_answered source sink sink' old first taken new port port' pdu (Some (left, sent)) is oldest same
+      (out, turn, sending) kept =
       by_step _ _ left sent
       (of_waiting
-      (record { pdu = pdu; out = out; oldest = taken; turn = turn; source = refl; sending = sending }))
-  waiting_served source sink sink' spot spot' waiting waiting' port port' pdu _ taken (unanswered _ _ done) =
-      λ count. waiting_lacks refl refl done
+      (record {
+        pdu = pdu;
+        out = out;
+        oldest = subst (λ (s : FeatureSpot). TakesWaiting s.session.flow s.waiting (Some pdu) new.waiting) is
+            (subst (λ (w : List WaitingPdu). TakesWaiting first.session.flow first.waiting (Some pdu) w) (sym kept)
+            oldest);
+        turn = subst (λ (s : FeatureSpot). WaitingTurn commands refuses address limits pdu.state pdu.early pdu.fields
+            pdu.header pdu.carried s.session port out new.session port' left) is
+            (subst (λ (s : Spot). WaitingTurn commands refuses address limits pdu.state pdu.early pdu.fields pdu.header
+            pdu.carried s port out new.session port' left) same turn);
+        source = refl;
+        sending = sending;
+      }))
+  waiting_answered source sink sink' old first taken new port port' pdu None is oldest same (unsent, done) kept =
+      λ count. waiting_lacks refl unsent done
+
+  -- the same by what becomes of the session, which is `last` in the end
+  pub waiting_served :
+      (source : SourceState) (sink sink' : SinkState) (old first taken new last : FeatureSpot) (port port' : P)
+      (pdu : WaitingPdu) (answered : Option (TurnEnd × Sent)) (result : PduResult)
+      → first ≡ old → TakesWaiting first.session.flow first.waiting (Some pdu) taken.waiting
+      → taken.session ≡ first.session
+      → IsAnswered limits.digests (WaitingTurn commands refuses address limits pdu.state pdu.early pdu.fields)
+      (MayGive commands) pdu.header pdu.carried sink taken.session port answered sink' new.session port'
+      → new.waiting ≡ taken.waiting → result ≡ result_of_answer answered → last ≡ new
+      → NextIsServed commands refuses resets address limits
+      (record { source = source; sink = sink; spot = old; port = port }) result
+      (record { source = source; sink = sink'; spot = last; port = port' })
+  waiting_served source sink sink' old first taken new last port port' pdu answered result is oldest same answers kept
+      becomes ends =
+      subst (λ (s : FeatureSpot). NextIsServed commands refuses resets address limits
+      (record { source = source; sink = sink; spot = old; port = port }) result
+      (record { source = source; sink = sink'; spot = s; port = port' })) (sym ends)
+      (subst (λ (r : PduResult). NextIsServed commands refuses resets address limits
+      (record { source = source; sink = sink; spot = old; port = port }) r
+      (record { source = source; sink = sink'; spot = new; port = port' })) (sym becomes)
+      (waiting_answered source sink sink' old first taken new port port' pdu answered is oldest same answers kept))
 
   -- the end
   pub feature_ended :

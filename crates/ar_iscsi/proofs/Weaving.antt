@@ -6,7 +6,7 @@ use Rattle.std.proofs.lemmas.List.{drop-append-le, take-append-le, get_or-drop}
 use Rattle.std.proofs.Math.Seq.{drop-append_seam, take-append_seam}
 use Rattle.bytes.proofs.Ranges.{take-append_past}
 use Rattle.ar_frames.specs.Stream.{SinkState, Writing, Sending}
-use Rattle.ar_frames.specs.declared.fill.Sent.TheVariants.{Whole, Part}
+use Rattle.ar_frames.specs.declared.transfer.Sent.TheVariants.{Whole, Part}
 use Rattle.ar_frames.proofs.Streams.{Writing-none, Writing-trans, Writing-same}
 use Rattle.ar_iscsi.specs.declared.answer.Cut.{Cut}
 use Rattle.ar_iscsi.specs.declared.response.SequenceNumbers.{SequenceNumbers}

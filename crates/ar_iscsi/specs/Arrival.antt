@@ -29,20 +29,25 @@ pub record FeatureSpot : Type 0 where
   pub session : Spot
   pub waiting : List WaitingPdu
 
+-- the same at a PDU, with the answer so far
+pub record FeatureWork : Type 0 where
+  pub spot : FeatureSpot
+  pub out : List ℕ
+
 -- a PDU is kept after those that wait, and not answered
-pub record KeepsPdu {P : Type 0} (header carried : List ℕ) (old : FeatureSpot) (port : P) (out : List ℕ)
-    (new : FeatureSpot)
-    (port' : P) (end : TurnEnd) : Type 0 where
+pub record KeepsPdu {P : Type 0} (header carried : List ℕ) (fields : InitiatorPdu) (old : FeatureSpot) (port : P)
+    (out : List ℕ) (new : FeatureSpot) (port' : P) (end : TurnEnd) : Type 0 where
   pub silent : StaysSilent old.session out new.session end
-  pub appended : new.waiting ≡ old.waiting ++ kept header carried state.Undone ∷ []
+  pub appended : new.waiting ≡ old.waiting ++ kept header fields carried state.Undone ∷ []
   pub port_same : port' ≡ port
 
 -- a PDU takes its turn at once, and leaves those that wait as they are
 pub record TurnsAtOnce {P : Type 0} (commands : Commands P) (refuses : CommandRefusals P) (address : List ℕ)
-    (limits : Limits) (header carried : List ℕ) (old : FeatureSpot) (port : P) (out : List ℕ) (new : FeatureSpot)
-    (port' : P) (end : TurnEnd) : Type 0 where
+    (limits : Limits) (header carried : List ℕ) (fields : InitiatorPdu) (old : FeatureSpot) (port : P) (out : List ℕ)
+    (new : FeatureSpot) (port' : P) (end : TurnEnd) : Type 0 where
   pub turn :
-      FeatureTurn commands refuses address limits no_early header carried old.session port out new.session port' end
+      FeatureTurn commands refuses address limits no_early fields header carried old.session port out new.session port'
+      end
   pub waiting_same : new.waiting ≡ old.waiting
 
 -- A task management request is done: the commands that it means are dropped, those that wait and the WRITE whose data
@@ -74,7 +79,9 @@ pub record AnswersLater {P : Type 0} (resets : UnitResets P) (header carried : L
   pub response : ℕ
   pub manages : ManagesTasks resets request old port managed port' response
   pub silent : StaysSilent managed.session out new.session end
-  pub appended : new.waiting ≡ managed.waiting ++ kept header carried (state.Answered response) ∷ []
+  pub appended :
+      new.waiting ≡ managed.waiting
+      ++ kept header (asks.TaskManagement request) carried (state.Answered response) ∷ []
 
 -- nothing is done, and nothing is answered
 pub record IsIgnored {P : Type 0} (old : FeatureSpot) (port : P) (out : List ℕ) (new : FeatureSpot) (port' : P)
@@ -118,10 +125,10 @@ ArrivalFor commands refuses resets address limits header carried (asks.DataOut d
     end =
     MatchBool (list_any (is_early limits data_out (length carried)) old.waiting)
     (EarlyTurn limits data_out carried old port out new port' end)
-    (TurnsAtOnce commands refuses address limits header carried old port out new port' end)
+    (TurnsAtOnce commands refuses address limits header carried (asks.DataOut data_out) old port out new port' end)
 ArrivalFor commands refuses resets address limits header carried other waits old port out new port' end =
-    MatchBool waits (KeepsPdu header carried old port out new port' end)
-    (TurnsAtOnce commands refuses address limits header carried old port out new port' end)
+    MatchBool waits (KeepsPdu header carried other old port out new port' end)
+    (TurnsAtOnce commands refuses address limits header carried other old port out new port' end)
 
 -- a PDU that was read
 abbrev pub ArrivalTurn : {P : Type 0} → Commands P → CommandRefusals P → UnitResets P → List ℕ → Limits → List ℕ

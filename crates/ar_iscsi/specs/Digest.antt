@@ -101,12 +101,19 @@ pub record EndsWrong (is_wanted : Bool) (first piece : List ℕ) (covered : ℕ)
   pub length_is : length piece ≡ covered + 4
   pub wrong : drop covered piece ≢ digest_bytes (first ++ take covered piece)
 
--- bytes end in a wrong digest
-pub data HasWrongDigest (digests : Digests) : List ℕ → Type 0 where
+-- a header, with its additional segments, ends in a wrong digest
+pub data HasWrongHeader (digests : Digests) : List ℕ → Type 0 where
   after_header :
       (header front : List ℕ) → length header ≡ 48 → EndsWrong digests.header header front (ahs_len header)
-      → HasWrongDigest digests (header ++ front)
-  after_data :
-      (front payload tail : List ℕ)
-      → EndsWrong digests.segment payload tail (padding_len (length payload))
-      → HasWrongDigest digests ((front ++ payload) ++ tail)
+      → HasWrongHeader digests (header ++ front)
+
+-- a whole PDU whose data digest is wrong, and whose header's digest is right, if it has one
+pub record IsDamagedPdu (digests : Digests) (header bytes : List ℕ) : Type 0 where
+  pub ahs : List ℕ
+  pub payload : List ℕ
+  pub tail : List ℕ
+  pub layout : bytes ≡ (closed digests.header (header ++ ahs) ++ payload) ++ tail
+  pub header_is : length header ≡ 48
+  pub ahs_is : length ahs ≡ ahs_len header
+  pub segment_is : length payload ≡ segment_len header
+  pub wrong : EndsWrong (closes_data digests payload) payload tail (padding_len (length payload))

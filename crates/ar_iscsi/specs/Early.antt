@@ -12,7 +12,6 @@ use Rattle.ar_iscsi.specs.declared.task.DataStep.TheVariants as steps
 use Rattle.ar_iscsi.specs.declared.waiting_pdu.WaitingPdu.{WaitingPdu}
 use Rattle.ar_iscsi.specs.declared.waiting_pdu.WaitingState.{WaitingState}
 use Rattle.ar_iscsi.specs.declared.waiting_pdu.WaitingState.TheVariants as state
-use Rattle.ar_iscsi.specs.Request.{initiator_pdu}
 use Rattle.ar_iscsi.specs.Task.{data_step_for, may_follow, unsolicited}
 
 -- a PDU that waits has all to be done
@@ -31,7 +30,7 @@ early_for limits other len so_far = None
 -- the same of a PDU that waits; one that was dropped has none
 abbrev pub early_of : Limits → WaitingPdu → Option Collecting
 early_of limits pdu =
-    if is_undone pdu.state then early_for limits (initiator_pdu pdu.header) (length pdu.carried) pdu.early.collecting
+    if is_undone pdu.state then early_for limits pdu.fields (length pdu.carried) pdu.early.collecting
     else None
 
 -- the bytes of a WRITE that have come
@@ -71,6 +70,7 @@ breaks_early limits data_out len pdu = is_breaking (early_step limits data_out l
 abbrev pub gathered : DataStep → List ℕ → WaitingPdu → WaitingPdu
 gathered (steps.Takes c) carried pdu = record {
   header = pdu.header;
+  fields = pdu.fields;
   carried = pdu.carried;
   state = pdu.state;
   early = record { bytes = pdu.early.bytes ++ carried; collecting = Some c };

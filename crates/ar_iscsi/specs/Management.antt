@@ -17,7 +17,6 @@ use Rattle.ar_iscsi.specs.declared.waiting_pdu.WaitingPdu.{WaitingPdu}
 use Rattle.ar_iscsi.specs.declared.waiting_pdu.WaitingState.{WaitingState}
 use Rattle.ar_iscsi.specs.declared.waiting_pdu.WaitingState.TheVariants as state
 use Rattle.ar_iscsi.specs.Flow.{lun_number, reopened}
-use Rattle.ar_iscsi.specs.Request.{initiator_pdu}
 
 -- there are two numbers, and they are one
 abbrev pub same_number : Option ℕ → Option ℕ → Bool
@@ -46,7 +45,7 @@ means_pdu request other = false
 
 -- the same of one that waits
 abbrev pub drops : TaskManagement → WaitingPdu → Bool
-drops request pdu = means_pdu request (initiator_pdu pdu.header)
+drops request pdu = means_pdu request pdu.fields
 
 -- the same of the WRITE whose data are collected
 abbrev pub drops_collected : TaskManagement → Option Collecting → Bool
@@ -62,6 +61,7 @@ state_after false old = old
 abbrev pub managed_by : TaskManagement → WaitingPdu → WaitingPdu
 managed_by request pdu = record {
   header = pdu.header;
+  fields = pdu.fields;
   carried = pdu.carried;
   state = state_after (drops request pdu) pdu.state;
   early = pdu.early;

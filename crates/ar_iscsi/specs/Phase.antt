@@ -1,8 +1,8 @@
 -- A phase of a session, PDU by PDU: each is read whole, does what a turn of the phase says, and is answered.
 use Rattle.std.specs.Prelude.{◌≡◌, ◌≤◌, ℕ, zero, suc, false, List, Option, Some, None}
 use Rattle.ar_frames.specs.Stream.{SourceState, SinkState, Reading, Sending}
-use Rattle.ar_frames.specs.declared.fill.Sent.{Sent}
-use Rattle.ar_frames.specs.declared.fill.Sent.TheVariants.{Whole, Part}
+use Rattle.ar_frames.specs.declared.transfer.Sent.{Sent}
+use Rattle.ar_frames.specs.declared.transfer.Sent.TheVariants.{Whole, Part}
 use Rattle.ar_iscsi.specs.declared.digest.Digests.{Digests}
 use Rattle.ar_iscsi.specs.declared.receive.ReceiveEnd.{ReceiveEnd}
 use Rattle.ar_iscsi.specs.Digest.{IsSentPdu, sent_by}

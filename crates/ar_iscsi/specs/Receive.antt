@@ -1,45 +1,21 @@
 -- A PDU is received: what was read, and where reading stopped.
 use Rattle.std.specs.Prelude.{◌≡◌, ◌<◌, ◌≤◌, ℕ, Bool, true, false, List, [], ◌++◌, length, take, Option, ⊤, MatchBool}
 use Rattle.std.specs.Io.KnownBytes.{IsAtEnd}
-use Rattle.ar_frames.specs.Stream.{SourceState, Reading}
+use Rattle.ar_frames.specs.Stream.{SourceState, Reading, Filling}
+use Rattle.ar_frames.specs.declared.transfer.FillResult.{FillResult}
 use Rattle.ar_iscsi.specs.declared.digest.Digests.{Digests}
-use Rattle.ar_iscsi.specs.declared.transfer.Came.{Came}
-use Rattle.ar_iscsi.specs.declared.transfer.Came.TheVariants as came
 use Rattle.ar_iscsi.specs.declared.receive.ReceiveEnd.{ReceiveEnd}
 use Rattle.ar_iscsi.specs.declared.receive.ReceiveEnd.TheVariants as end
 use Rattle.ar_iscsi.specs.declared.receive.Received.{Received}
-use Rattle.ar_iscsi.specs.declared.receive.Received.TheVariants.{Pdu, Nothing}
-use Rattle.ar_iscsi.specs.Digest.{HasWrongDigest, IsDigestedPdu, IsSentPdu, is_plain}
+use Rattle.ar_iscsi.specs.declared.receive.Received.TheVariants.{Pdu, Damaged, Nothing}
+use Rattle.ar_iscsi.specs.Digest.{HasWrongHeader, IsDamagedPdu, IsDigestedPdu, IsSentPdu, is_plain}
 use Rattle.ar_iscsi.specs.Pdu.{IsPdu, segment_len, rest_len}
 
--- the part of a buffer that came
-abbrev pub came_bytes : Came → List ℕ → List ℕ
-came_bytes came.All piece = piece
-came_bytes (came.Ended n) piece = take n piece
-came_bytes (came.Failed n) piece = take n piece
-
--- a read faulted
-abbrev pub came_faulted : Came → Bool
-came_faulted came.All = false
-came_faulted (came.Ended n) = false
-came_faulted (came.Failed n) = true
-
--- unless all came, less came than was wanted; at the end of input, none is left
-abbrev pub CameShort : Came → ℕ → Option (List ℕ) → Type 0
-CameShort came.All wanted left = ⊤
-CameShort (came.Ended n) wanted left = (n < wanted) × IsAtEnd left
-CameShort (came.Failed n) wanted left = n < wanted
-
--- a buffer was filled, whole or up to a read fault or the end of input
-pub record Comes (old new : SourceState) (piece : List ℕ) (result : Came) : Type 0 where
-  pub read : Reading old new (came_bytes result piece) (came_faulted result)
-  pub short : CameShort result (length piece) new.left
-
--- the same for `wanted` bytes that are dropped
-pub record ComesUnkept (old new : SourceState) (wanted : ℕ) (result : Came) : Type 0 where
+-- `wanted` bytes are read and dropped, as far as they come
+pub record ComesUnkept (old new : SourceState) (wanted : ℕ) (result : FillResult) : Type 0 where
   pub piece : List ℕ
   pub piece_is : length piece ≡ wanted
-  pub comes : Comes old new piece result
+  pub comes : Filling old new piece result
 
 -- an incomplete PDU: fewer bytes than a header has, or fewer than a header says, with a data segment within `limit`
 pub data IsCutPdu (limit : ℕ) : List ℕ → Type 0 where
@@ -61,7 +37,7 @@ StopsPdu end.Read limit bytes = IsCutPdu limit bytes × (0 < length bytes)
 -- a header was read whose data segment is longer than `limit`, and nothing after it
 StopsPdu (end.TooLong n) limit bytes = (length bytes ≡ 48) × (segment_len bytes ≡ n) × (limit < n)
 -- (there are no digests)
-StopsPdu end.WrongDigest limit bytes = ⊥
+StopsPdu end.WrongHeader limit bytes = ⊥
 
 -- a read faulted
 abbrev pub is_end_by_fault : ReceiveEnd → Bool
@@ -70,7 +46,7 @@ is_end_by_fault end.Cut = false
 is_end_by_fault end.Idle = true
 is_end_by_fault end.Read = true
 is_end_by_fault (end.TooLong n) = false
-is_end_by_fault end.WrongDigest = false
+is_end_by_fault end.WrongHeader = false
 
 -- an end of input is reported only if no input is left
 abbrev pub IsInputLeft : ReceiveEnd → Option (List ℕ) → Type 0
@@ -79,7 +55,7 @@ IsInputLeft end.Cut left = IsAtEnd left
 IsInputLeft end.Idle left = ⊤
 IsInputLeft end.Read left = ⊤
 IsInputLeft (end.TooLong n) left = ⊤
-IsInputLeft end.WrongDigest left = ⊤
+IsInputLeft end.WrongHeader left = ⊤
 
 -- a PDU with this header was read after its first bytes `base`; its data segment is in front in the buffer
 pub record ReadsPdu (base : List ℕ) (limit : ℕ) (old new : SourceState) (header buffer : List ℕ) : Type 0 where
@@ -98,6 +74,8 @@ pub record ReadsNoPdu (base : List ℕ) (limit : ℕ) (old new : SourceState) (r
 -- what was received after the first bytes `base` of a PDU, into a buffer of `limit` bytes
 abbrev pub ReceivesPdu : List ℕ → ℕ → SourceState → SourceState → List ℕ → Received → Type 0
 ReceivesPdu base limit old new buffer (Pdu header) = ReadsPdu base limit old new header buffer
+-- (there are no digests)
+ReceivesPdu base limit old new buffer (Damaged header) = ⊥
 ReceivesPdu base limit old new buffer (Nothing reason) = ReadsNoPdu base limit old new reason
 
 -- When each end comes in a session with digests, by the bytes that were read since the last PDU. Which part of a PDU is
@@ -108,8 +86,8 @@ StopsDigested digests end.Cut limit bytes = 0 < length bytes
 StopsDigested digests end.Idle limit bytes = bytes ≡ []
 StopsDigested digests end.Read limit bytes = 0 < length bytes
 StopsDigested digests (end.TooLong n) limit bytes = (length bytes ≡ 48) × (segment_len bytes ≡ n) × (limit < n)
--- a digest is wrong (RFC 7143, 7.8)
-StopsDigested digests end.WrongDigest limit bytes = HasWrongDigest digests bytes
+-- the digest of a header is wrong (RFC 7143, 7.8)
+StopsDigested digests end.WrongHeader limit bytes = HasWrongHeader digests bytes
 
 -- the same in any session
 abbrev pub StopsSent : Digests → ReceiveEnd → ℕ → List ℕ → Type 0
@@ -132,9 +110,17 @@ pub record ReadsNoSentPdu (digests : Digests) (limit : ℕ) (old new : SourceSta
   pub read : Reading old new bytes (is_end_by_fault reason)
   pub ended : IsInputLeft reason new.left
 
+-- a PDU with this header was read to its end, and its data digest is wrong
+pub record ReadsDamaged (digests : Digests) (limit : ℕ) (old new : SourceState) (header : List ℕ) : Type 0 where
+  pub bytes : List ℕ
+  pub is_damaged : IsDamagedPdu digests header bytes
+  pub within : segment_len header ≤ limit
+  pub read : Reading old new bytes false
+
 -- what was received, into a buffer of `limit` bytes
 abbrev pub ReceivesSent : Digests → ℕ → SourceState → SourceState → List ℕ → Received → Type 0
 ReceivesSent digests limit old new buffer (Pdu header) = ReadsSentPdu digests limit old new header buffer
+ReceivesSent digests limit old new buffer (Damaged header) = ReadsDamaged digests limit old new header
 ReceivesSent digests limit old new buffer (Nothing reason) = ReadsNoSentPdu digests limit old new reason
 
 -- the same in a session with digests, after the first bytes `base` of a PDU
@@ -142,6 +128,9 @@ abbrev pub ReceivesDigested : Digests → List ℕ → ℕ → SourceState → S
 ReceivesDigested digests base limit old new buffer (Pdu header) =
     (rest : List ℕ) × IsDigestedPdu digests header (take (segment_len header) buffer) (base ++ rest)
     × (segment_len header ≤ limit) × Reading old new rest false
+ReceivesDigested digests base limit old new buffer (Damaged header) =
+    (rest : List ℕ) × IsDamagedPdu digests header (base ++ rest) × (segment_len header ≤ limit)
+    × Reading old new rest false
 ReceivesDigested digests base limit old new buffer (Nothing reason) =
     (rest : List ℕ) × StopsDigested digests reason limit (base ++ rest)
     × Reading old new rest (is_end_by_fault reason) × IsInputLeft reason new.left

@@ -4,8 +4,8 @@ use Rattle.ar_frames.specs.Conversation.{Commands}
 use Rattle.ar_frames.specs.Port.{CommandRefusals}
 use Rattle.ar_target.specs.ResetPort.{UnitResets}
 use Rattle.ar_frames.specs.Stream.{SinkState, Reading, Sending}
-use Rattle.ar_frames.specs.declared.fill.Sent.{Sent}
-use Rattle.ar_frames.specs.declared.fill.Sent.TheVariants.{Whole, Part}
+use Rattle.ar_frames.specs.declared.transfer.Sent.{Sent}
+use Rattle.ar_frames.specs.declared.transfer.Sent.TheVariants.{Whole, Part}
 use Rattle.ar_iscsi.specs.declared.digest.Digests.{Digests}
 use Rattle.ar_iscsi.specs.declared.flow.Flow.{Flow}
 use Rattle.ar_iscsi.specs.declared.negotiation.Limits.{Limits}
@@ -13,10 +13,11 @@ use Rattle.ar_iscsi.specs.declared.receive.ReceiveEnd.{ReceiveEnd}
 use Rattle.ar_iscsi.specs.declared.receive.ReceiveEnd.TheVariants as unread
 use Rattle.ar_iscsi.specs.declared.session.FeatureEnd.{FeatureEnd}
 use Rattle.ar_iscsi.specs.declared.session.FeatureEnd.TheVariants as end
+use Rattle.ar_iscsi.specs.declared.request.InitiatorPdu.{InitiatorPdu}
 use Rattle.ar_iscsi.specs.declared.session.PduResult.{PduResult}
 use Rattle.ar_iscsi.specs.declared.session.PduResult.TheVariants.{Served, Ended}
 use Rattle.ar_iscsi.specs.declared.turn.TurnEnd.{TurnEnd}
-use Rattle.ar_iscsi.specs.declared.turn.TurnEnd.TheVariants.{Next, LoggedOut, BrokenData, Rejected}
+use Rattle.ar_iscsi.specs.declared.turn.TurnEnd.TheVariants.{Next, LoggedOut, BrokenData, Rejected, WrongData}
 use Rattle.ar_iscsi.specs.declared.waiting_pdu.Early.{Early}
 use Rattle.ar_iscsi.specs.declared.waiting_pdu.WaitingPdu.{WaitingPdu}
 use Rattle.ar_iscsi.specs.declared.waiting_pdu.WaitingState.{WaitingState}
@@ -25,29 +26,25 @@ use Rattle.ar_iscsi.specs.declared.response.TargetPdu.TheVariants as pdu
 use Rattle.ar_iscsi.specs.Arrival.{FeatureSpot, ArrivalTurn, MayUse}
 use Rattle.ar_iscsi.specs.Digest.{sent_by}
 use Rattle.ar_iscsi.specs.Phase.{Place, ServesPdu, ServesPdus, IsLeftAlone, HasNoAnswer, IsAnswerLost, most_pdus}
+use Rattle.ar_iscsi.specs.Phase.{most_segment}
+use Rattle.ar_iscsi.specs.Receive.{ReadsDamaged}
 use Rattle.ar_iscsi.specs.Task.{MayGive}
-use Rattle.ar_iscsi.specs.Turn.{Spot, AnswersBy, FeatureTurn, Responds}
+use Rattle.ar_iscsi.specs.Turn.{Spot, CountsDropped, FeatureTurn, Responds}
 use Rattle.ar_iscsi.specs.Flow.{is_open, numbers_of, free_tag, received}
 use Rattle.ar_iscsi.specs.Request.{task_tag}
-use Rattle.ar_iscsi.specs.Response.{no_lun, no_tag, target_pdu}
+use Rattle.ar_iscsi.specs.Response.{target_pdu}
 use Rattle.ar_iscsi.specs.Waiting.{is_next_waiting}
-
--- A command that was dropped is counted. A NOP-In carries the new MaxCmdSN, as no response does (RFC 7143, 11.19); it
--- wants no answer, and takes no StatSN.
-abbrev pub CountsDropped : Spot → List ℕ → Spot → TurnEnd → Type 0
-CountsDropped old out new end =
-    AnswersBy out new end (target_pdu (pdu.NopIn no_lun no_tag) (numbers_of (received old.flow false)) [])
-    (received old.flow false) old.bytes Next
 
 -- what a PDU that waited does, by its state: what its turn says; or it is counted and, as a task management request
 -- that was done when it was read, answered by its response
 abbrev pub WaitingTurn : {P : Type 0} → Commands P → CommandRefusals P → List ℕ → Limits → WaitingState → Early
-    → List ℕ → List ℕ → Spot → P → List ℕ → Spot → P → TurnEnd → Type 0
-WaitingTurn commands refuses address limits state.Undone early header carried old port out new port' end =
-    FeatureTurn commands refuses address limits early header carried old port out new port' end
-WaitingTurn commands refuses address limits state.Dropped early header carried old port out new port' end =
+    → InitiatorPdu → List ℕ → List ℕ → Spot → P → List ℕ → Spot → P → TurnEnd → Type 0
+WaitingTurn commands refuses address limits state.Undone early fields header carried old port out new port' end =
+    FeatureTurn commands refuses address limits early fields header carried old port out new port' end
+WaitingTurn commands refuses address limits state.Dropped early fields header carried old port out new port' end =
     CountsDropped old out new end × (port' ≡ port)
-WaitingTurn commands refuses address limits (state.Answered response) early header carried old port out new port' end =
+WaitingTurn commands refuses address limits (state.Answered response) early fields header carried old port out new
+    port' end =
     Responds (received old.flow false) (pdu.TaskManagementResponse (task_tag header) response) [] old.bytes out new end
     Next
     × (port' ≡ port)
@@ -64,8 +61,8 @@ pub record ServesWaiting {P : Type 0} (commands : Commands P) (refuses : Command
   pub out : List ℕ
   pub oldest : TakesWaiting old.spot.session.flow old.spot.waiting (Some pdu) new.spot.waiting
   pub turn :
-      WaitingTurn commands refuses address limits pdu.state pdu.early pdu.header pdu.carried old.spot.session old.port
-      out new.spot.session new.port left
+      WaitingTurn commands refuses address limits pdu.state pdu.early pdu.fields pdu.header pdu.carried
+      old.spot.session old.port out new.spot.session new.port left
   pub source : new.source ≡ old.source
   pub sending : Sending old.sink new.sink (sent_by limits.digests out) sent
 
@@ -91,12 +88,33 @@ pub record PingsPeer {P : Type 0} (digests : Digests) (old new : Place FeatureSp
   pub left_is : left ≡ Next
   pub sending : Sending old.sink new.sink (sent_by digests (ping_of old.spot.session.flow)) sent
 
+-- A PDU with this header, whose data digest is wrong, is rejected: the Reject has reason 02h, Data (payload) Digest
+-- Error, and the header, and takes a StatSN. The PDU does nothing and isn't counted (RFC 7143, 7.8 and 11.17.1).
+pub record RejectsDamaged (digests : Digests) (header : List ℕ) (old : FeatureSpot) (sink : SinkState)
+    (new : FeatureSpot) (sink' : SinkState) (left : TurnEnd) (sent : Sent) : Type 0 where
+  pub out : List ℕ
+  pub rejects :
+      Responds old.session.flow (pdu.Reject 0x02) header old.session.bytes out new.session left WrongData
+  pub waiting_same : new.waiting ≡ old.waiting
+  pub sending : Sending sink sink' (sent_by digests out) sent
+
+-- none that waits is next, and such a PDU was read and rejected
+pub record ServesDamaged {P : Type 0} (digests : Digests) (old new : Place FeatureSpot P) (left : TurnEnd) (sent : Sent)
+    : Type 0 where
+  pub header : List ℕ
+  pub none_next : is_next_waiting old.spot.session.flow old.spot.waiting ≡ false
+  pub reads : ReadsDamaged digests most_segment old.source new.source header
+  pub rejects : RejectsDamaged digests header old.spot old.sink new.spot new.sink left sent
+  pub port : new.port ≡ old.port
+
 -- a step of the phase
 pub data FeatureStep {P : Type 0} (commands : Commands P) (refuses : CommandRefusals P) (resets : UnitResets P)
     (address : List ℕ) (limits : Limits) (old new : Place FeatureSpot P) (left : TurnEnd) (sent : Sent) : Type 0 where
   of_waiting : ServesWaiting commands refuses address limits old new left sent
       → FeatureStep commands refuses resets address limits old new left sent
   of_arrival : ServesArrival commands refuses resets address limits old new left sent
+      → FeatureStep commands refuses resets address limits old new left sent
+  of_damage : ServesDamaged limits.digests old new left sent
       → FeatureStep commands refuses resets address limits old new left sent
   of_silence : PingsPeer limits.digests old new left sent
       → FeatureStep commands refuses resets address limits old new left sent
@@ -106,6 +124,9 @@ pub data FeatureStep {P : Type 0} (commands : Commands P) (refuses : CommandRefu
 pub data LacksAnswer {P : Type 0} (commands : Commands P) (resets : UnitResets P) (digests : Digests)
     (old new : Place FeatureSpot P) : Type 0 where
   read_lacks : HasNoAnswer digests (MayUse commands resets) old new → LacksAnswer commands resets digests old new
+  damaged_lacks :
+      (header : List ℕ) → ReadsDamaged digests most_segment old.source new.source header → new.sink ≡ old.sink
+      → new.port ≡ old.port → LacksAnswer commands resets digests old new
   waiting_lacks :
       new.source ≡ old.source → new.sink ≡ old.sink → MayGive commands old.port new.port
       → LacksAnswer commands resets digests old new
@@ -123,6 +144,9 @@ EndsFeature commands refuses resets address limits count old end.BrokenData new 
     FeatureStep commands refuses resets address limits old new BrokenData Whole
 EndsFeature commands refuses resets address limits count old end.Rejected new =
     FeatureStep commands refuses resets address limits old new Rejected Whole
+-- at ErrorRecoveryLevel 0 the session ends after the Reject (RFC 7143, 7.8)
+EndsFeature commands refuses resets address limits count old end.WrongData new =
+    FeatureStep commands refuses resets address limits old new WrongData Whole
 EndsFeature commands refuses resets address limits count old end.NoMemory new =
     LacksAnswer commands resets limits.digests old new
 EndsFeature commands refuses resets address limits count old end.Bound new = (count ≡ most_pdus) × (new ≡ old)
@@ -142,6 +166,7 @@ result_of_turn Next Whole = Served
 result_of_turn LoggedOut Whole = Ended end.LoggedOut
 result_of_turn BrokenData Whole = Ended end.BrokenData
 result_of_turn Rejected Whole = Ended end.Rejected
+result_of_turn WrongData Whole = Ended end.WrongData
 
 -- the same, or memory for the answer ran out
 abbrev pub result_of_answer : Option (TurnEnd × Sent) → PduResult

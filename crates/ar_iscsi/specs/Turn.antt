@@ -1,6 +1,6 @@
 -- A turn of the full feature phase: a PDU of the initiator, what it does, and the bytes that answer it (RFC 7143, 11).
-use Rattle.std.specs.Prelude.{◌≡◌, ◌<◌, ◌⊎◌, ◌==◌, ◌||◌, ◌%◌, ℕ, Bool, nat_lt, nat_le, if◌then◌else◌, MatchBool, List}
-use Rattle.std.specs.Prelude.{[], ◌++◌}
+use Rattle.std.specs.Prelude.{◌≡◌, ◌<◌, ◌⊎◌, ◌==◌, ◌||◌, ◌%◌, ℕ, Bool, false, nat_lt, nat_le, if◌then◌else◌}
+use Rattle.std.specs.Prelude.{MatchBool, List, [], ◌++◌}
 use Rattle.std.specs.Prelude.{length, slice_index_or, take, unwrap_or}
 use Rattle.ar_frames.specs.Conversation.{Commands}
 use Rattle.ar_frames.specs.Port.{CommandRefusals}
@@ -22,8 +22,7 @@ use Rattle.ar_iscsi.specs.declared.task.DataStep.TheVariants as steps
 use Rattle.ar_iscsi.specs.declared.turn.TurnEnd.{TurnEnd}
 use Rattle.ar_iscsi.specs.declared.turn.TurnEnd.TheVariants.{Next, LoggedOut, BrokenData, Rejected}
 use Rattle.ar_iscsi.specs.declared.waiting_pdu.Early.{Early}
-use Rattle.ar_iscsi.specs.Response.{target_pdu}
-use Rattle.ar_iscsi.specs.Request.{initiator_pdu}
+use Rattle.ar_iscsi.specs.Response.{no_lun, no_tag, target_pdu}
 use Rattle.ar_iscsi.specs.Flow.{numbers_of, received, answered, reopened, awaiting}
 use Rattle.ar_iscsi.specs.Reaction.{to_nop_out, to_text, to_logout}
 use Rattle.ar_iscsi.specs.Targets.{targets_answer}
@@ -33,6 +32,11 @@ use Rattle.ar_iscsi.specs.Task.{Completes, GetsBusy, AsksFrom, command_step, dat
 pub record Spot : Type 0 where
   pub flow : Flow
   pub bytes : List ℕ
+
+-- a session's work on a PDU: where it is, and the answer so far
+pub record TurnWork : Type 0 where
+  pub spot : Spot
+  pub out : List ℕ
 
 -- a turn is answered by these bytes, and leads there
 pub record AnswersBy (out : List ℕ) (new : Spot) (end : TurnEnd) (out_is : List ℕ) (flow_is : Flow) (bytes_is : List ℕ)
@@ -88,6 +92,13 @@ ReactionTurn address limits header carried flow (Closes response) old out new en
     Responds flow response [] old.bytes out new end LoggedOut
 ReactionTurn address limits header carried flow (Rejects reason) old out new end =
     IsRejected header reason old out new end
+
+-- A command that was dropped is counted. A NOP-In carries the new MaxCmdSN, as no response does (RFC 7143, 11.19); it
+-- wants no answer, and takes no StatSN.
+abbrev pub CountsDropped : Spot → List ℕ → Spot → TurnEnd → Type 0
+CountsDropped old out new end =
+    AnswersBy out new end (target_pdu (pdu.NopIn no_lun no_tag) (numbers_of (received old.flow false)) [])
+    (received old.flow false) old.bytes Next
 
 -- A command that is complete was given to the port once and answered or, out of memory for its data, the port refused
 -- it. No data are collected any more.
@@ -159,37 +170,32 @@ DataTurn commands refuses limits carried steps.Breaks old port out new port' end
 DataTurn commands refuses limits carried (steps.Takes c) old port out new port' end =
     TakesData commands refuses limits c (old.bytes ++ carried) old.flow port out new port' × (end ≡ Next)
 
--- what a PDU does, by its header's fields
-abbrev pub TurnFor : {P : Type 0} → Commands P → CommandRefusals P → List ℕ → Limits → Early → List ℕ → List ℕ
-    → InitiatorPdu → Spot → P → List ℕ → Spot → P → TurnEnd → Type 0
-TurnFor commands refuses address limits early header carried (asks.ScsiCommand command) old port out new port' end =
+-- A turn of a normal session: a PDU with these fields in its header and this data segment, and with unsolicited data
+-- that came before its turn, was answered by `out`. The target's address is `address`.
+abbrev pub FeatureTurn : {P : Type 0} → Commands P → CommandRefusals P → List ℕ → Limits → Early → InitiatorPdu
+    → List ℕ → List ℕ → Spot → P → List ℕ → Spot → P → TurnEnd → Type 0
+FeatureTurn commands refuses address limits early (asks.ScsiCommand command) header carried old port out new port' end =
     CommandTurn commands refuses limits command early header carried
     (command_step old.flow limits command (length carried)) old port out new port' end
-TurnFor commands refuses address limits early header carried (asks.DataOut data_out) old port out new port' end =
+FeatureTurn commands refuses address limits early (asks.DataOut data_out) header carried old port out new port' end =
     DataTurn commands refuses limits carried (data_step old.flow data_out (length old.bytes) (length carried)) old port
     out new port' end
-TurnFor commands refuses address limits early header carried (asks.NopOut nop) old port out new port' end =
+FeatureTurn commands refuses address limits early (asks.NopOut nop) header carried old port out new port' end =
     ReactionTurn address limits header carried (received old.flow nop.immediate) (to_nop_out old.flow nop) old out new
     end × (port' ≡ port)
-TurnFor commands refuses address limits early header carried (asks.Text request) old port out new port' end =
+FeatureTurn commands refuses address limits early (asks.Text request) header carried old port out new port' end =
     ReactionTurn address limits header carried (received old.flow request.immediate) (to_text old.flow request) old out
     new end × (port' ≡ port)
-TurnFor commands refuses address limits early header carried (asks.Logout request) old port out new port' end =
+FeatureTurn commands refuses address limits early (asks.Logout request) header carried old port out new port' end =
     ReactionTurn address limits header carried (received old.flow request.immediate) (to_logout old.flow request) old
     out new end
     × (port' ≡ port)
 -- a task management request was done when it was read
-TurnFor commands refuses address limits early header carried (asks.TaskManagement request) old port out new port' end =
+FeatureTurn commands refuses address limits early (asks.TaskManagement request) header carried old port out new port'
+    end =
     StaysSilent old out new end × (port' ≡ port)
 -- a login in the full feature phase is PROTOCOL ERROR, another opcode COMMAND NOT SUPPORTED
-TurnFor commands refuses address limits early header carried (asks.Login request) old port out new port' end =
+FeatureTurn commands refuses address limits early (asks.Login request) header carried old port out new port' end =
     IsRejected header 0x04 old out new end × (port' ≡ port)
-TurnFor commands refuses address limits early header carried (asks.Unknown opcode) old port out new port' end =
+FeatureTurn commands refuses address limits early (asks.Unknown opcode) header carried old port out new port' end =
     IsRejected header 0x05 old out new end × (port' ≡ port)
-
--- A turn of a normal session: a PDU with this header and this data segment, and with unsolicited data that came before
--- its turn, was answered by `out`. The target's address is `address`.
-abbrev pub FeatureTurn : {P : Type 0} → Commands P → CommandRefusals P → List ℕ → Limits → Early → List ℕ → List ℕ
-    → Spot → P → List ℕ → Spot → P → TurnEnd → Type 0
-FeatureTurn commands refuses address limits early header carried old port out new port' end =
-    TurnFor commands refuses address limits early header carried (initiator_pdu header) old port out new port' end

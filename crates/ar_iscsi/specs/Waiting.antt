@@ -54,5 +54,6 @@ abbrev pub no_early : Early
 no_early = record { bytes = []; collecting = None }
 
 -- a PDU as it is kept
-abbrev pub kept : List ℕ → List ℕ → WaitingState → WaitingPdu
-kept header carried state = record { header = header; carried = carried; state = state; early = no_early }
+abbrev pub kept : List ℕ → InitiatorPdu → List ℕ → WaitingState → WaitingPdu
+kept header fields carried state =
+    record { header = header; fields = fields; carried = carried; state = state; early = no_early }

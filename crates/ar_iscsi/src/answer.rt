@@ -3,12 +3,15 @@
 //
 //     bytes    | header | padding, header | padding, SCSI Response |
 //     carried           |    data         |    data                |
-ghost use Rattle.std.specs.Prelude.{◌≡◌, ◌<◌, ◌≤◌, ◌++◌, ◌^◌, [], IfOk, OnOk, length, slice_index_or};
+ghost use Rattle.std.specs.Prelude.{◌≡◌, ◌<◌, ◌≤◌, ◌++◌, ◌^◌, [], IfNone, IfOk, IfSome, OnOk, length};
+ghost use Rattle.std.specs.Prelude.{slice_index_or};
 ghost use Rattle.ar_frames.specs.Stream.{Sending};
 ghost use Rattle.ar_iscsi.specs.Answer.{AreCut, PutsCut, no_cut, woven};
+ghost use Rattle.ar_iscsi.specs.Digest.{sent_by};
 ghost use Rattle.ar_iscsi.specs.Reply.{PutsDataIn};
 ghost use Rattle.ar_iscsi.specs.Response.{target_pdu};
 
+use crate::digest::{CrcTable, Digests};
 use crate::response::{SequenceNumbers, TargetPdu, put_padding, put_pdu, target_header};
 use ar_frames::{Sent, Sink, send_parts};
 use bytes::Bytes;
@@ -123,15 +126,36 @@ impl Answer {
         }
     }
 
-    /// Sends the answer; each PDU with data by one call, if the stream takes it whole.
-    pub(crate) fn send<W: Sink>(&self, writer: &mut W) -> Sent
+    /// Sends the answer with these digests. None: memory for it ran out, and nothing was written.
+    pub(crate) fn send_with<W: Sink>(
+        &self,
+        alloc: Global,
+        writer: &mut W,
+        digests: Digests,
+        table: &CrcTable,
+    ) -> Option<Sent>
+        ensures sent { IfSome result (λ sent. Sending (W.state writer.old) (W.state writer.new)
+            (sent_by digests self.now) sent) }
+        ensures same { IfNone result (W.state writer.new ≡ W.state writer.old) }
+    {
+        if digests.is_plain() {
+            return Some(self.send(writer));
+        }
+        match self.joined(alloc) {
+            Ok(pdus) => table.send(alloc, writer, digests, &pdus),
+            Err(_) => None,
+        }
+    }
+
+    // Sends the answer; each PDU with data by one call, if the stream takes it whole.
+    fn send<W: Sink>(&self, writer: &mut W) -> Sent
         ensures { Sending (W.state writer.old) (W.state writer.new) self.now result }
     {
         send_woven(writer, &self.cuts, &self.bytes, self.carried.as_slice())
     }
 
-    /// A copy of the answer in one piece.
-    pub(crate) fn joined(&self, alloc: Global) -> Result<Vec<u8>, AllocError>
+    // A copy of the answer in one piece.
+    fn joined(&self, alloc: Global) -> Result<Vec<u8>, AllocError>
         ensures { IfOk result (λ all. all.items ≡ self.now) }
     {
         join(alloc, &self.cuts, &self.bytes, self.carried.as_slice())

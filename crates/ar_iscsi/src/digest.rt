@@ -1,11 +1,14 @@
 // Digests of headers and data (RFC 7143, 13.1): CRC32C by a table of 256 words, with a look-up for each byte.
 //
 //     | header | additional segments | header digest | data segment | padding | data digest |
-ghost use Rattle.std.specs.Prelude.{◌≡◌, ◌<◌, ◌/◌, ◌+◌, ◌++◌, ℕ, suc, IfOk, OnOk, IsFalse, IsTrue};
+ghost use Rattle.std.specs.Prelude.{◌≡◌, ◌<◌, ◌/◌, ◌+◌, ◌++◌, ℕ, suc, IfNone, IfOk, IfSome, OnOk};
+ghost use Rattle.std.specs.Prelude.{IsFalse, IsTrue};
 ghost use Rattle.std.specs.Prelude.{length, slice_index, take};
+ghost use Rattle.ar_frames.specs.Stream.{Sending};
 ghost use Rattle.ar_iscsi.specs.Digest as digest;
 
 use crate::request::segment_len;
+use ar_frames::{Sent, Sink, send};
 use std::alloc::{AllocError, Global};
 
 /// The digests that the PDUs of a full feature phase carry.
@@ -154,6 +157,27 @@ impl CrcTable {
         }
         all.extend_from_slice(rest)?;
         Ok(all)
+    }
+
+    /// Sends a target's PDUs with these digests. None: memory for them ran out, and nothing was written.
+    pub(crate) fn send<W: Sink>(
+        &self,
+        alloc: Global,
+        writer: &mut W,
+        digests: Digests,
+        pdus: &[u8],
+    ) -> Option<Sent>
+        ensures sent { IfSome result (λ sent. Sending (W.state writer.old) (W.state writer.new)
+            (digest.sent_by digests pdus.now) sent) }
+        ensures same { IfNone result (W.state writer.new ≡ W.state writer.old) }
+    {
+        if digests.is_plain() {
+            return Some(send(writer, pdus));
+        }
+        match self.digested(alloc, digests, pdus) {
+            Ok(all) => Some(send(writer, &all)),
+            Err(_) => None,
+        }
     }
 
     /// Whether a piece after `first` ends in the digest of both, if one is wanted; `covered` bytes are before it.

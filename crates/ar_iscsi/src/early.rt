@@ -6,7 +6,7 @@ ghost use Rattle.ar_iscsi.specs.Early as rule;
 
 use crate::flow::Collecting;
 use crate::negotiation::Limits;
-use crate::request::{DataOut, InitiatorPdu, initiator_pdu};
+use crate::request::{DataOut, InitiatorPdu};
 use crate::task::{DataStep, data_step_for, may_follow, unsolicited};
 use crate::turn::shared;
 use crate::waiting_pdu::{Early, WaitingPdu, WaitingState};
@@ -73,7 +73,7 @@ fn early_of(limits: &Limits, kept: &WaitingPdu) -> Option<Collecting>
     match kept.state {
         WaitingState::Undone => early_for(
             limits,
-            &initiator_pdu(&kept.header),
+            &kept.fields,
             kept.carried.len(),
             kept.early.collecting,
         ),

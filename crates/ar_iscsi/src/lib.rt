@@ -15,6 +15,7 @@ mod login;
 mod login_phase;
 mod management;
 mod negotiation;
+mod pdu_read;
 mod reaction;
 mod receive;
 mod reply;
@@ -24,8 +25,9 @@ mod session;
 mod target;
 mod targets;
 mod task;
+mod tasks;
+mod terms;
 mod text;
-mod transfer;
 mod turn;
 mod verdict;
 mod waiting;
@@ -41,8 +43,8 @@ pub use negotiation::{
     KeysSeen, Limits, Negotiation, SessionKind, TargetChoice, negotiated, target_of,
 };
 pub use reaction::{
-    COMMAND_NOT_SUPPORTED, INVALID_PDU_FIELD, PROTOCOL_ERROR, Reaction, to_logout, to_nop_out,
-    to_text,
+    COMMAND_NOT_SUPPORTED, DATA_DIGEST_ERROR, INVALID_PDU_FIELD, PROTOCOL_ERROR, Reaction,
+    to_logout, to_nop_out, to_text,
 };
 pub use receive::{ReceiveEnd, Received, receive_pdu};
 pub use request::{
@@ -50,12 +52,13 @@ pub use request::{
     TextRequest, initiator_pdu,
 };
 pub use response::{LoginResponse, LoginStage, Residual, SequenceNumbers, TargetPdu, put_pdu};
-pub use session::{FeatureEnd, MOST_SEGMENT, serve_feature};
+pub use session::{FeatureEnd, MOST_SEGMENT, Session};
 pub use target::{IscsiEnd, NoUnits, serve_target};
 pub use targets::answer_targets;
 pub use task::{CommandStep, DataStep, command_step, data_step, wanted_len};
+pub use terms::Terms;
 pub use text::answer_text;
-pub use turn::{TurnEnd, Work, take_turn};
+pub use turn::TurnEnd;
 pub use verdict::{LoginStatus, LoginStep, judged, stage_of, status_code, step_of};
 pub use waiting_pdu::{Early, WaitingPdu, WaitingState};
 

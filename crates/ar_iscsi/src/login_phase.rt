@@ -117,6 +117,8 @@ fn answer_next<R: Source, W: Sink, P: Port + LoginObserver>(
             result_of_request(answered)
         }
         Received::Nothing(reason) => RequestResult::Ended(LoginEnd::Unread(reason)),
+        // (a login has no digests)
+        Received::Damaged(_) => unreachable!(),
     }
 }
 

@@ -6,40 +6,30 @@ ghost use Rattle.ar_iscsi.specs.Arrival.{ManagesTasks, MayUse};
 ghost use Rattle.ar_iscsi.specs.Management as rule;
 
 use crate::flow::{Collecting, Flow, lun_number};
-use crate::request::{InitiatorPdu, Lun, ScsiCommand, TaskManagement, initiator_pdu};
-use crate::turn::Work;
+use crate::request::{InitiatorPdu, Lun, ScsiCommand, TaskManagement};
+use crate::tasks::Tasks;
 use crate::waiting_pdu::{WaitingPdu, WaitingState};
 use ar_target::{ResetOutcome, ResetPort};
 
-/// Drops the commands that a task management request means, resets its units, and returns its response.
-pub(crate) fn manage_tasks<P: ResetPort>(
-    work: &mut Work,
-    waiting: &mut Vec<WaitingPdu>,
-    port: &mut P,
-    request: &TaskManagement,
-) -> u8
-    requires logged { P.has_login port.old ≡ true }
-    ensures manages { ManagesTasks P.resets request.now
-        (record {
-          session = record { flow = work.old.flow; bytes = work.old.collected.items };
-          waiting = waiting.old.items;
-        })
-        port.old
-        (record {
-          session = record { flow = work.new.flow; bytes = work.new.collected.items };
-          waiting = waiting.new.items;
-        })
-        port.new result }
-    ensures once { MayUse P.commands P.resets port.old port.new }
-    ensures stays { P.has_login port.new ≡ true }
-    ensures out { work.new.out ≡ work.old.out }
-    ensures limits { work.new.limits ≡ work.old.limits }
-{
-    let is_there = means_one(request, &work.flow, waiting);
-    drop_waiting(request, waiting);
-    drop_collected(request, work);
-    let outcome = reset_units(request, port);
-    response_to(request, is_there, outcome)
+impl Tasks {
+    /// Drops the commands that a task management request means, resets its units, and returns its response.
+    pub(crate) fn manage_tasks<P: ResetPort>(
+        &mut self,
+        port: &mut P,
+        request: &TaskManagement,
+    ) -> u8
+        requires logged { P.has_login port.old ≡ true }
+        ensures manages { ManagesTasks P.resets request.now self.old.spot port.old self.new.spot port.new result }
+        ensures once { MayUse P.commands P.resets port.old port.new }
+        ensures stays { P.has_login port.new ≡ true }
+        ensures out { self.new.out ≡ self.old.out }
+    {
+        let is_there = means_one(request, &self.work.flow(), &self.waiting);
+        drop_waiting(request, &mut self.waiting);
+        self.work.drop_collected(request);
+        let outcome = reset_units(request, port);
+        response_to(request, is_there, outcome)
+    }
 }
 
 // Whether a request means a command that is there.
@@ -78,21 +68,8 @@ fn manage(request: &TaskManagement, pdu: &mut WaitingPdu)
     }
 }
 
-// Drops the WRITE whose data are collected, if it is meant by a request.
-fn drop_collected(request: &TaskManagement, work: &mut Work)
-    ensures flow { work.new.flow ≡ rule.managed_flow request.now work.old.flow }
-    ensures bytes { work.new.collected.items ≡ rule.managed_bytes request.now work.old.flow work.old.collected.items }
-    ensures out { work.new.out ≡ work.old.out }
-    ensures limits { work.new.limits ≡ work.old.limits }
-{
-    if drops_collected(request, work.flow.collecting) {
-        work.flow = work.flow.reopened();
-        work.collected.clear();
-    }
-}
-
-// Whether a request means the WRITE whose data are collected.
-fn drops_collected(request: &TaskManagement, collecting: Option<Collecting>) -> bool
+/// Whether a request means the WRITE whose data are collected.
+pub(crate) fn drops_collected(request: &TaskManagement, collecting: Option<Collecting>) -> bool
     ensures { result ≡ rule.drops_collected request.now collecting }
 {
     match collecting {
@@ -105,8 +82,8 @@ fn drops_collected(request: &TaskManagement, collecting: Option<Collecting>) -> 
 fn drops(request: &TaskManagement, pdu: &WaitingPdu) -> bool
     ensures { result ≡ rule.drops request.now pdu.now }
 {
-    match initiator_pdu(&pdu.header) {
-        InitiatorPdu::ScsiCommand(command) => means(request, &command),
+    match &pdu.fields {
+        InitiatorPdu::ScsiCommand(command) => means(request, command),
         _ => false,
     }
 }

@@ -25,7 +25,10 @@ pub enum Reaction {
     Rejects(u8),
 }
 
-/// Reject: protocol error (RFC 7143, 11.17.1).
+/// Reject: data (payload) digest error (RFC 7143, 11.17.1).
+pub const DATA_DIGEST_ERROR: u8 = 0x02;
+
+/// Reject: protocol error.
 pub const PROTOCOL_ERROR: u8 = 0x04;
 
 /// Reject: the command isn't supported.

@@ -3,12 +3,11 @@
 ghost use Rattle.std.specs.Prelude.{◌≡◌, ◌≤◌, ◌++◌, ℕ, List, [], length, take};
 ghost use Rattle.ar_iscsi.specs.Pdu.{ahs_len, segment_len};
 ghost use Rattle.ar_iscsi.specs.Digest.{closed};
-ghost use Rattle.ar_iscsi.specs.Receive.{ReceivesDigested, ReceivesPdu, ReceivesSent};
+ghost use Rattle.ar_iscsi.specs.Receive.{ComesUnkept, ReceivesDigested, ReceivesPdu, ReceivesSent};
 
 use crate::digest::{CrcTable, Digests, closes_data, digest_len};
 use crate::request::segment_len;
-use crate::transfer::{Came, fill, skip};
-use ar_frames::Source;
+use ar_frames::{FillResult, Source, fill};
 
 /// Why no whole PDU was received.
 #[derive(Clone, Copy, Debug, PartialEq, Eq)]
@@ -23,8 +22,8 @@ pub enum ReceiveEnd {
     Read,
     /// A PDU's data segment has this many bytes, more than the limit.
     TooLong(u32),
-    /// A digest of a header or of data is wrong.
-    WrongDigest,
+    /// The digest of a header is wrong.
+    WrongHeader,
 }
 
 /// What was received.
@@ -32,6 +31,8 @@ pub enum ReceiveEnd {
 pub enum Received {
     /// A PDU with this header; its data segment is in front in the buffer.
     Pdu([u8; 48]),
+    /// A PDU with this header, whose data digest is wrong. It was read to its end.
+    Damaged([u8; 48]),
     /// No whole PDU, for this reason.
     Nothing(ReceiveEnd),
 }
@@ -43,11 +44,11 @@ pub fn receive_pdu<R: Source>(reader: &mut R, buffer: &mut [u8]) -> Received
 {
     let mut header = [0; 48];
     match fill(reader, &mut header) {
-        Came::All => receive_rest(reader, buffer, &header),
-        Came::Ended(0) => Received::Nothing(ReceiveEnd::End),
-        Came::Ended(_) => Received::Nothing(ReceiveEnd::Cut),
-        Came::Failed(0) => Received::Nothing(ReceiveEnd::Idle),
-        Came::Failed(_) => Received::Nothing(ReceiveEnd::Read),
+        FillResult::Full => receive_rest(reader, buffer, &header),
+        FillResult::Ended(0) => Received::Nothing(ReceiveEnd::End),
+        FillResult::Ended(_) => Received::Nothing(ReceiveEnd::Cut),
+        FillResult::Failed(0) => Received::Nothing(ReceiveEnd::Idle),
+        FillResult::Failed(_) => Received::Nothing(ReceiveEnd::Read),
     }
 }
 
@@ -60,9 +61,9 @@ fn receive_rest<R: Source>(reader: &mut R, buffer: &mut [u8], header: &[u8; 48])
         return Received::Nothing(ReceiveEnd::TooLong(len));
     }
     match skip(reader, 4 * header[4] as usize) {
-        Came::All => receive_segment(reader, buffer, header, len as usize),
-        Came::Ended(_) => Received::Nothing(ReceiveEnd::Cut),
-        Came::Failed(_) => Received::Nothing(ReceiveEnd::Read),
+        FillResult::Full => receive_segment(reader, buffer, header, len as usize),
+        FillResult::Ended(_) => Received::Nothing(ReceiveEnd::Cut),
+        FillResult::Failed(_) => Received::Nothing(ReceiveEnd::Read),
     }
 }
 
@@ -80,9 +81,9 @@ fn receive_segment<R: Source>(
         result }
 {
     match fill(reader, &mut buffer[..len]) {
-        Came::All => receive_padding(reader, header, len),
-        Came::Ended(_) => Received::Nothing(ReceiveEnd::Cut),
-        Came::Failed(_) => Received::Nothing(ReceiveEnd::Read),
+        FillResult::Full => receive_padding(reader, header, len),
+        FillResult::Ended(_) => Received::Nothing(ReceiveEnd::Cut),
+        FillResult::Failed(_) => Received::Nothing(ReceiveEnd::Read),
     }
 }
 
@@ -94,9 +95,9 @@ fn receive_padding<R: Source>(reader: &mut R, header: &[u8; 48], len: usize) -> 
         buffer result }
 {
     match skip(reader, (4 - len % 4) % 4) {
-        Came::All => Received::Pdu(*header),
-        Came::Ended(_) => Received::Nothing(ReceiveEnd::Cut),
-        Came::Failed(_) => Received::Nothing(ReceiveEnd::Read),
+        FillResult::Full => Received::Pdu(*header),
+        FillResult::Ended(_) => Received::Nothing(ReceiveEnd::Cut),
+        FillResult::Failed(_) => Received::Nothing(ReceiveEnd::Read),
     }
 }
 
@@ -128,11 +129,11 @@ fn receive_digested<R: Source>(
 {
     let mut header = [0; 48];
     match fill(reader, &mut header) {
-        Came::All => receive_front(reader, buffer, digests, table, &header),
-        Came::Ended(0) => Received::Nothing(ReceiveEnd::End),
-        Came::Ended(_) => Received::Nothing(ReceiveEnd::Cut),
-        Came::Failed(0) => Received::Nothing(ReceiveEnd::Idle),
-        Came::Failed(_) => Received::Nothing(ReceiveEnd::Read),
+        FillResult::Full => receive_front(reader, buffer, digests, table, &header),
+        FillResult::Ended(0) => Received::Nothing(ReceiveEnd::End),
+        FillResult::Ended(_) => Received::Nothing(ReceiveEnd::Cut),
+        FillResult::Failed(0) => Received::Nothing(ReceiveEnd::Idle),
+        FillResult::Failed(_) => Received::Nothing(ReceiveEnd::Read),
     }
 }
 
@@ -155,12 +156,12 @@ fn receive_front<R: Source>(
     let mut room = [0; 1024];
     let front = &mut room[..additional + digest_len(digests.header)];
     match fill(reader, front) {
-        Came::All if table.is_right(digests.header, header, front, additional) => {
+        FillResult::Full if table.is_right(digests.header, header, front, additional) => {
             receive_body(reader, buffer, digests, table, header, len as usize)
         }
-        Came::All => Received::Nothing(ReceiveEnd::WrongDigest),
-        Came::Ended(_) => Received::Nothing(ReceiveEnd::Cut),
-        Came::Failed(_) => Received::Nothing(ReceiveEnd::Read),
+        FillResult::Full => Received::Nothing(ReceiveEnd::WrongHeader),
+        FillResult::Ended(_) => Received::Nothing(ReceiveEnd::Cut),
+        FillResult::Failed(_) => Received::Nothing(ReceiveEnd::Read),
     }
 }
 
@@ -180,9 +181,9 @@ fn receive_body<R: Source>(
         (R.state reader.new) buffer.new result }
 {
     match fill(reader, &mut buffer[..len]) {
-        Came::All => receive_tail(reader, digests, table, header, &buffer[..len]),
-        Came::Ended(_) => Received::Nothing(ReceiveEnd::Cut),
-        Came::Failed(_) => Received::Nothing(ReceiveEnd::Read),
+        FillResult::Full => receive_tail(reader, digests, table, header, &buffer[..len]),
+        FillResult::Ended(_) => Received::Nothing(ReceiveEnd::Cut),
+        FillResult::Failed(_) => Received::Nothing(ReceiveEnd::Read),
     }
 }
 
@@ -205,9 +206,20 @@ fn receive_tail<R: Source>(
     let mut room = [0; 8];
     let tail = &mut room[..padding + digest_len(is_wanted)];
     match fill(reader, tail) {
-        Came::All if table.is_right(is_wanted, payload, tail, padding) => Received::Pdu(*header),
-        Came::All => Received::Nothing(ReceiveEnd::WrongDigest),
-        Came::Ended(_) => Received::Nothing(ReceiveEnd::Cut),
-        Came::Failed(_) => Received::Nothing(ReceiveEnd::Read),
+        FillResult::Full if table.is_right(is_wanted, payload, tail, padding) => Received::Pdu(
+            *header,
+        ),
+        FillResult::Full => Received::Damaged(*header),
+        FillResult::Ended(_) => Received::Nothing(ReceiveEnd::Cut),
+        FillResult::Failed(_) => Received::Nothing(ReceiveEnd::Read),
     }
+}
+
+// Reads `len` bytes and drops them.
+fn skip<R: Source>(reader: &mut R, len: usize) -> FillResult
+    requires { len ≤ 1024 }
+    ensures { ComesUnkept (R.state reader.old) (R.state reader.new) len result }
+{
+    let mut piece = [0; 1024];
+    fill(reader, &mut piece[..len])
 }

@@ -1,16 +1,14 @@
 // A whole session with the target of a host, or for discovery: its login, and its full feature phase.
-ghost use Rattle.std.specs.Prelude.{◌≡◌, false, true, IfOk, vec_len, length};
+ghost use Rattle.std.specs.Prelude.{◌≡◌, false, true, IfOk, vec_len};
 ghost use Rattle.ar_iscsi.specs.Phase.{most_segment};
 ghost use Rattle.ar_iscsi.specs.Target as session;
 
-use crate::answer::Answer;
-use crate::digest::CrcTable;
 use crate::flow::Flow;
 use crate::login::{LoginState, LoginWork};
 use crate::login_phase::{LoginEnd, log_in};
 use crate::negotiation::{Limits, Negotiation, SessionKind, TargetChoice};
-use crate::session::{FeatureEnd, MOST_SEGMENT, serve_feature};
-use crate::turn::Work;
+use crate::session::{FeatureEnd, MOST_SEGMENT, Session};
+use crate::terms::Terms;
 use ar_frames::{Login, Port, Sink, Source};
 use ar_scsi::{Reply, Sense};
 use ar_target::{LoginObserver, ResetOutcome, ResetPort};
@@ -87,7 +85,7 @@ pub fn serve_target<R: Source, W: Sink, P: ResetPort + LoginObserver>(
         (R.state reader.old) (R.state reader.new) (W.state writer.old) (W.state writer.new) port.old port.new result }
 {
     match segment_buffer(alloc) {
-        Ok(mut buffer) => serve_buffered(alloc, reader, writer, port, address, &mut buffer),
+        Ok(buffer) => serve_buffered(alloc, reader, writer, port, address, buffer),
         Err(AllocError) => IscsiEnd::NoBuffer,
     }
 }
@@ -110,10 +108,10 @@ fn serve_buffered<R: Source, W: Sink, P: ResetPort + LoginObserver>(
     writer: &mut W,
     port: &mut P,
     address: &[u8],
-    buffer: &mut [u8],
+    mut buffer: Vec<u8>,
 ) -> IscsiEnd
     requires unlogged { P.has_login port.old ≡ false }
-    requires room { length buffer.old ≡ most_segment }
+    requires room { vec_len buffer ≡ most_segment }
     ensures { session.TargetSession P.logins P.commands P.refuses P.resets address.now
         (R.state reader.old) (R.state reader.new) (W.state writer.old) (W.state writer.new) port.old port.new result }
 {
@@ -128,7 +126,7 @@ fn serve_buffered<R: Source, W: Sink, P: ResetPort + LoginObserver>(
         name: Vec::new(alloc),
         out: Vec::new(alloc),
     };
-    match log_in(alloc, reader, writer, port, &mut work, buffer) {
+    match log_in(alloc, reader, writer, port, &mut work, &mut buffer) {
         LoginEnd::Entered => {
             lift_limit(reader, work.state.so_far.kind);
             let state = work.state;
@@ -157,52 +155,35 @@ fn serve_entered<R: Source, W: Sink, P: ResetPort>(
     port: &mut P,
     address: &[u8],
     state: LoginState,
-    buffer: &mut [u8],
+    buffer: Vec<u8>,
 ) -> FeatureEnd
     requires logged { state.so_far.kind ≡ SessionKind.Normal → P.has_login port.old ≡ true }
-    requires room { length buffer.old ≡ most_segment }
+    requires room { vec_len buffer ≡ most_segment }
     ensures { session.IsFeature P.commands P.refuses P.resets address.now state
         (R.state reader.old) (R.state reader.new) (W.state writer.old) (W.state writer.new) port.old port.new result }
 {
-    let mut work = Work {
-        flow: Flow {
-            stat_sn: state.stat_sn,
-            exp_cmd_sn: state.cmd_sn,
-            next_tag: 0,
-            collecting: None,
-        },
-        limits: state.so_far.limits,
-        collected: Vec::new(alloc),
-        out: Answer::new(alloc),
-        table: CrcTable::new(),
+    let flow = Flow {
+        stat_sn: state.stat_sn,
+        exp_cmd_sn: state.cmd_sn,
+        next_tag: 0,
+        collecting: None,
     };
-    let mut waiting = Vec::new(alloc);
+    let mut session = Session::new(alloc, flow, buffer);
     match state.so_far.kind {
         SessionKind::Normal => {
-            work.limits = normal_limits(&state.so_far);
-            serve_feature(
-                alloc,
-                reader,
-                writer,
-                port,
+            let terms = Terms {
+                limits: normal_limits(&state.so_far),
                 address,
-                &mut work,
-                &mut waiting,
-                buffer,
-            )
+            };
+            session.serve(reader, writer, port, &terms)
         }
         _ => {
-            let mut idle = NoUnits { has_login: true };
-            serve_feature(
-                alloc,
-                reader,
-                writer,
-                &mut idle,
+            let terms = Terms {
+                limits: state.so_far.limits,
                 address,
-                &mut work,
-                &mut waiting,
-                buffer,
-            )
+            };
+            let mut idle = NoUnits { has_login: true };
+            session.serve(reader, writer, &mut idle, &terms)
         }
     }
 }

@@ -5,6 +5,7 @@ ghost use Rattle.std.specs.Prelude.{◌≡◌, ◌<◌, ◌++◌, ◌∷◌, [],
 ghost use Rattle.ar_iscsi.specs.Waiting as rule;
 
 use crate::flow::{Flow, WINDOW};
+use crate::pdu_read::PduRead;
 use crate::request::InitiatorPdu;
 use crate::turn::shared_copy;
 use crate::waiting_pdu::{Early, WaitingPdu, WaitingState};
@@ -72,17 +73,18 @@ pub(crate) fn no_early() -> Early
 pub(crate) fn keep(
     waiting: &mut Vec<WaitingPdu>,
     alloc: Global,
-    header: &[u8; 48],
-    carried: &[u8],
+    pdu: &PduRead<'_>,
     state: WaitingState,
 ) -> Result<(), AllocError>
-    ensures { OnOk result (waiting.new.items ≡ waiting.old.items ++ rule.kept header.now carried.now state ∷ []) }
+    ensures { OnOk result (waiting.new.items ≡ waiting.old.items
+        ++ rule.kept pdu.now.header.now pdu.now.fields pdu.now.carried.now state ∷ []) }
 {
-    let Some(carried) = shared_copy(alloc, carried) else {
+    let Some(carried) = shared_copy(alloc, pdu.carried) else {
         return Err(AllocError);
     };
     waiting.push(WaitingPdu {
-        header: *header,
+        header: *pdu.header,
+        fields: pdu.fields,
         carried,
         state,
         early: no_early(),

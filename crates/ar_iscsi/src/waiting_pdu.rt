@@ -1,5 +1,6 @@
 // A PDU as it is kept until the data of a WRITE before it have come.
 use crate::flow::Collecting;
+use crate::request::InitiatorPdu;
 use bytes::Bytes;
 
 /// What is left to do with a PDU that waits, in its turn.
@@ -17,6 +18,8 @@ pub enum WaitingState {
 #[derive(Debug, Drop)]
 pub struct WaitingPdu {
     pub header: [u8; 48],
+    /// The fields of the header.
+    pub fields: InitiatorPdu,
     /// Its data segment.
     pub carried: Bytes,
     pub state: WaitingState,

@@ -40,7 +40,17 @@ const PONG: &[u8] = b"\
     \x00\x00\x00\x1F\x00\x00\x00\x00\x00\x00\x00\x00\x00\x00\x00\x00\
     \xB2\xFE\xFD\x0B";
 
-const WRONG: IscsiEnd = IscsiEnd::Feature(FeatureEnd::Unread(ReceiveEnd::WrongDigest));
+// The Reject of that NOP-Out, with reason 02h (RFC 7143, 11.17.1) and its digest. Its data are the header, so that they
+// and their digest are the NOP-Out's own bytes.
+const REJECT: &[u8] = b"\
+    \x3F\x80\x02\x00\x00\x00\x00\x30\x00\x00\x00\x00\x00\x00\x00\x00\
+    \xFF\xFF\xFF\xFF\x00\x00\x00\x00\x00\x00\x00\x01\x00\x00\x00\x10\
+    \x00\x00\x00\x1F\x00\x00\x00\x00\x00\x00\x00\x00\x00\x00\x00\x00\
+    \x0C\xD0\xCE\x32";
+
+const WRONG_HEADER: IscsiEnd = IscsiEnd::Feature(FeatureEnd::Unread(ReceiveEnd::WrongHeader));
+
+const WRONG_DATA: IscsiEnd = IscsiEnd::Feature(FeatureEnd::WrongData);
 
 #[test]
 fn a_session_with_digests(rt: HostRuntime) {
@@ -60,14 +70,17 @@ fn changed(rt: &impl Abort, alloc: Global, bytes: &[u8], place: usize) -> Vec<u8
     changed
 }
 
-// A bit of a header or of data is another one.
+// A bit of a header is another one, or of data or their padding: then the PDU is rejected.
 #[test]
 fn wrong_digests_end_the_session(rt: HostRuntime) {
     let alloc = rt.alloc();
     let ping = changed(&rt, alloc, PING, 47);
-    plays(&rt, alloc, &[LOGIN, &ping], WRONG, &[LOGGED_IN]);
-    let data = changed(&rt, alloc, PING_DATA, 0);
-    plays(&rt, alloc, &[LOGIN, PING, &data], WRONG, &[LOGGED_IN]);
+    plays(&rt, alloc, &[LOGIN, &ping], WRONG_HEADER, &[LOGGED_IN]);
+    for place in [0, 7, 11] {
+        let data = changed(&rt, alloc, PING_DATA, place);
+        let answer = [LOGGED_IN, REJECT, PING];
+        plays(&rt, alloc, &[LOGIN, PING, &data], WRONG_DATA, &answer);
+    }
 }
 
 fn has_digest(rt: &impl Abort, bytes: &[u8], digest: [u8; 4]) {

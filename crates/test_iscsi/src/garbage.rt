@@ -100,7 +100,8 @@ fn is_of_input(end: IscsiEnd) -> bool {
             FeatureEnd::Unread(_)
             | FeatureEnd::LoggedOut
             | FeatureEnd::BrokenData
-            | FeatureEnd::Rejected,
+            | FeatureEnd::Rejected
+            | FeatureEnd::WrongData,
         ) => true,
         _ => false,
     }

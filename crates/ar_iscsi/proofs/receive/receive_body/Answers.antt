@@ -6,8 +6,8 @@ use Rattle.ar_iscsi.specs.Digest.{closed}
 use Rattle.ar_iscsi.proofs.Receiving.{digested_front}
 use Rattle.ar_iscsi.proofs.receive.receive_body.Goals as goal
 
-pub returns-in-All : goal.returns-in-All
-returns-in-All g c = λ ahs ahs_is.
+pub returns-in-Full : goal.returns-in-Full
+returns-in-Full g c = λ ahs ahs_is.
     let piece = c.fill.new.into in
     let len = c.args.len in
     let buffer = piece ++ drop len c.args.buffer.now in
@@ -18,5 +18,5 @@ returns-in-All g c = λ ahs ahs_is.
     let within : len ≤ length buffer = omega (arith, length-append piece (drop len c.args.buffer.now), size) in
     let same : length (take len buffer) ≡ len = length-take-le len buffer within in
     digested_front c.args.digests _ _ _ (closed c.args.digests.header (c.args.header.now ++ ahs)) (take len buffer)
-    buffer _ c.receive_tail.result (Reading-same _ _ _ _ false front c.in-All.ensures.read)
+    buffer _ c.receive_tail.result (Reading-same _ _ _ _ false front c.in-Full.ensures.read)
     (c.receive_tail.ensures buffer ahs (ap (λ (n : ℕ). take n buffer) (sym same)) (omega (arith, same, within)) ahs_is)

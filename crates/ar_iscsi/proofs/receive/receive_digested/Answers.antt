@@ -2,7 +2,7 @@ use Rattle.std.proofs.Common.{[]}
 use Rattle.ar_iscsi.proofs.Receiving.{digested_front}
 use Rattle.ar_iscsi.proofs.receive.receive_digested.Goals as goal
 
-pub returns-in-All : goal.returns-in-All
-returns-in-All g c =
-    digested_front c.args.digests _ _ _ [] c.fill.new.into _ _ c.receive_front.result c.in-All.ensures.read
+pub returns-in-Full : goal.returns-in-Full
+returns-in-Full g c =
+    digested_front c.args.digests _ _ _ [] c.fill.new.into _ _ c.receive_front.result c.in-Full.ensures.read
     c.receive_front.ensures

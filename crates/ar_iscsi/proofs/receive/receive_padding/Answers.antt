@@ -16,13 +16,13 @@ returns-in-Ended g c = λ buffer ahs within ahs_is.
     let wanted : length came.piece ≡ padding_len (segment_len header) =
     came.piece_is ∙ ap padding_len c.requires in
     let part : length (take n came.piece) < padding_len (segment_len header) =
-    omega (arith, length-take-le n came.piece (omega (arith, came.comes.short.0)), came.comes.short.0, wanted) in
+    omega (arith, length-take-le n came.piece (omega (arith, came.comes.stops.0)), came.comes.stops.0, wanted) in
     subst (λ (l : List ℕ). ReadsNoPdu l (length buffer) (g.R.Source.state c.args.reader.now)
     (g.R.Source.state c.skip.new.reader) end.Cut)
     (sym (append_assoc header ahs payload))
     (stops_cut _ _ _ header (ahs ++ payload) (take n came.piece) (padding_len (segment_len header)) c.told-header
     (omega (arith, within, c.requires))
-    (omega (arith, length-append ahs payload, ahs_is, size, c.requires)) part came.comes.read came.comes.short.1)
+    (omega (arith, length-append ahs payload, ahs_is, size, c.requires)) part came.comes.read came.comes.stops.1)
 
 pub returns-in-Failed : goal.returns-in-Failed
 returns-in-Failed g c = λ buffer ahs within ahs_is.
@@ -34,7 +34,7 @@ returns-in-Failed g c = λ buffer ahs within ahs_is.
     let wanted : length came.piece ≡ padding_len (segment_len header) =
     came.piece_is ∙ ap padding_len c.requires in
     let part : length (take n came.piece) < padding_len (segment_len header) =
-    omega (arith, length-take-le n came.piece (omega (arith, came.comes.short)), came.comes.short, wanted) in
+    omega (arith, length-take-le n came.piece (omega (arith, came.comes.stops)), came.comes.stops, wanted) in
     subst (λ (l : List ℕ). ReadsNoPdu l (length buffer) (g.R.Source.state c.args.reader.now)
     (g.R.Source.state c.skip.new.reader) end.Read)
     (sym (append_assoc header ahs payload))
