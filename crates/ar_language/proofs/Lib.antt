@@ -4,5 +4,6 @@ pub mod Going
 pub mod LineLemmas
 pub mod ParseLemmas
 pub mod Parting
+pub mod ScanLemmas
 pub mod Tails
 pub mod WordLemmas

@@ -1,10 +1,11 @@
 -- What a word is answered with, from what the words after it are read as.
-use Rattle.std.proofs.Common.{◌≡◌, ◌∙◌, ℕ, ap, sym, subst, List, Option, Some, None, Result, refl}
+use Rattle.std.proofs.Common.{◌≡◌, ◌∙◌, ◌==◌, ℕ, true, ap, sym, subst, List, [], ◌∷◌, length, Option, Some, None}
+use Rattle.std.proofs.Common.{Result, refl, rules, tests}
 use Rattle.std.specs.Option.{ok_or}
 use Rattle.ar_language.specs.declared.fault.FaultKind.{FaultKind}
 use Rattle.ar_language.specs.declared.fault.FaultKind.TheVariants.{BadArgument}
 use Rattle.ar_language.specs.declared.order.Order.{Order}
-use Rattle.ar_language.specs.Forms.{Words, Gives, ParsesAs}
+use Rattle.ar_language.specs.Forms.{Words, Gives, ParsesAs, ReadsOrder}
 
 -- a name that is this text is read as it
 pub named : (Reads : List ℕ → Words → Result Order FaultKind
@@ -32,3 +33,9 @@ pub gives_as : (Form Form' : Type 0) (Asked Asked' : Order → Type 0) (o : Opti
     → Gives Form' Asked' o
 gives_as Form Form' Asked Asked' None there back as_well h = λ form. h (back form)
 gives_as Form Form' Asked Asked' (Some order) there back as_well h = (there h.0, as_well order h.1)
+
+-- an order of one word
+pub alone_as : (name : List ℕ) (words : Words) (r : Result Order FaultKind) → (length words == 0) ≡ true
+    → ReadsOrder name [] r → ReadsOrder name words r
+alone_as name [] r none reads = reads
+alone_as name (word ∷ words) r none reads = absurd (search (rules, tests))

@@ -1,5 +1,6 @@
 // Says what is wrong with a faulty line: the word, its column, and what is wanted there. It goes by a table of the
 // forms of all lines, which is also their help.
+use crate::scan::is_printable;
 use crate::words::{MOST_WORDS, block, byte, first_words};
 use ar_numbers::{number, sectors};
 use std::fmt::{Display, Formatter};
@@ -269,11 +270,6 @@ pub fn explanation_of(line: &[u8]) -> Option<Explanation<'_>> {
         }
         _ => None,
     }
-}
-
-// Whether lines may have a byte: space to `~`.
-fn is_printable(byte: u8) -> bool {
-    byte >= b' ' && byte <= b'~'
 }
 
 // What is wrong with the words of a line that isn't empty.

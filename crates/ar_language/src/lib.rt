@@ -11,6 +11,7 @@ mod next;
 mod order;
 mod parse;
 mod recent;
+mod scan;
 mod words;
 
 pub use explain::{Argument, Explanation, LineForm, Wanted, explanation_of, line_forms};

@@ -3,12 +3,13 @@
 ghost use Rattle.std.specs.Prelude.{◌≡◌, ◌+◌, if◌then◌else◌, IfOk, IfSome, IsTrue, is_some, ◌≢◌, ◌==◌, ◌&&◌, ◌||◌, not};
 ghost use Rattle.std.specs.Prelude.{true, false, length, ◌-◌, ◌≤◌, ◌<◌, ◌++◌, [], ◌∷◌, None, OnOk, IfErr, OnErr};
 ghost use Rattle.std.specs.Prelude.{unwrap_or, vec_len, vec_capacity};
-ghost use Rattle.std.specs.List.{list_all, prefix_len};
+ghost use Rattle.std.specs.List.{list_all};
 ghost use Rattle.std.specs.Io.Buffered.{reader_buffer, reader_capacity, reader_inner, writer_buffer};
 ghost use Rattle.ar_language.specs.Lines.{lines_of, Took, IsPart, IsFirst, IsLacking, IsFaultFrom, IsUnasked};
 ghost use Rattle.ar_language.specs.Lines.{is_printable, IsLine, front_of, is_bad_next, is_given, is_lacking};
 ghost use Rattle.ar_language.specs.Lines.{part_fault, with_bad};
 
+use crate::scan::printable_len;
 use crate::{Fault, FaultKind};
 use std::alloc::Global;
 use std::io::{BufRead, BufReader, BufWriter, Read, Write};
@@ -214,16 +215,6 @@ fn part_of(bytes: &[u8]) -> (&[u8], Option<u8>)
 {
     let len = printable_len(bytes);
     (&bytes[..len], bytes.get(len).copied())
-}
-
-// The number of printable characters at the front.
-fn printable_len(bytes: &[u8]) -> usize
-    ensures { result ≡ prefix_len is_printable bytes.now }
-{
-    bytes
-        .iter()
-        .position(|byte| !(*byte >= b' ' && *byte <= b'~'))
-        .unwrap_or(bytes.len())
 }
 
 // Appends printable characters to a line. The byte after them, if one was read, has to be a line feed.

@@ -1,5 +1,6 @@
 // Parses a line to an order. The first word names the order, and the others must have exactly its form.
 ghost use Rattle.std.specs.Prelude.{◌≡◌, ◌≢◌, ◌⊎◌, true, false, ℕ, ◌+◌, ◌-◌, ◌*◌, ◌<◌, codes, length, IfErr};
+ghost use Rattle.std.specs.Prelude.{IfSome, Ok, []};
 ghost use Rattle.std.specs.Option.{SomeIff};
 ghost use Rattle.ar_language.specs.Blocks.{read_10_block, read_16_block, write_10_block, write_16_block};
 ghost use Rattle.ar_numbers.specs.Numbers.{IsDecimal, size_sectors};
@@ -60,8 +61,44 @@ fn order_in_words(words: &[&str]) -> Result<Option<Order>, FaultKind>
     ensures few { IfErr result (λ kind. (kind ≡ FaultKind.UnknownWord) ⊎ (kind ≡ FaultKind.BadArgument)) }
 {
     match words.split_first() {
-        Some((name, arguments)) => order_of(name, arguments).map(Some),
+        Some((name, arguments)) => named_order(name, arguments).map(Some),
         None => Ok(None),
+    }
+}
+
+// Parses the arguments of the order with this name. A line of one word that occurs often is compared with one name.
+fn named_order(name: &str, arguments: &[&str]) -> Result<Order, FaultKind>
+    ensures reads { ReadsOrder name.now arguments.now result }
+    ensures few { IfErr result (λ kind. (kind ≡ FaultKind.UnknownWord) ⊎ (kind ≡ FaultKind.BadArgument)) }
+{
+    if !arguments.is_empty() {
+        return order_of(name, arguments);
+    }
+    match frequent_order(name) {
+        Some(order) => Ok(order),
+        None => order_of(name, arguments),
+    }
+}
+
+// The order of one word with this name, if it is one of those that occur often.
+fn frequent_order(name: &str) -> Option<Order>
+    ensures { IfSome result (λ order. ReadsOrder name.now [] (Ok order)) }
+{
+    let (frequent, order) = frequent_with(name.as_bytes().first().copied()?)?;
+    if name == frequent { Some(order) } else { None }
+}
+
+// The name that begins with this byte of an order of one word that occurs often, and the order.
+fn frequent_with(first: u8) -> Option<(&'static str, Order)>
+    ensures { IfSome result (λ named. ReadsOrder named.0.now [] (Ok named.1)) }
+{
+    match first {
+        b'd' => Some(("demote", Order::Act(Action::Demote))),
+        b'c' => Some(("clean", Order::Act(Action::Clean))),
+        b'f' => Some(("flush", Order::Act(Action::Flush))),
+        b'b' => Some(("balance", Order::Act(Action::Balance))),
+        b'r' => Some(("rebuild", Order::Act(Action::Rebuild))),
+        _ => None,
     }
 }
 

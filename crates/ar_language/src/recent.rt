@@ -1,6 +1,7 @@
 // Remembers what was read last, so that a faulty line can be looked at as it was. A line of at most 4,096 bytes is
 // there whole while the reader above is in the piece that ends it.
 use crate::explain::{Explanation, explanation_of};
+use crate::scan::line_feeds;
 use crate::{Fault, FaultKind};
 use std::alloc::Global;
 use std::io::{self, Read};
@@ -59,11 +60,8 @@ impl Recent {
     // Remembers a piece that was read, and forgets what is too old.
     fn note(&mut self, piece: &[u8]) {
         let spare = self.bytes.len().saturating_sub(KEPT);
-        for byte in &self.bytes[..spare] {
-            if *byte == b'\n' {
-                self.ended = self.ended.saturating_add(1);
-            }
-        }
+        let ended = u32::try_from(line_feeds(&self.bytes[..spare])).unwrap_or(u32::MAX);
+        self.ended = self.ended.saturating_add(ended);
         self.bytes.drain(..spare);
         if self.has_failed || self.bytes.extend_from_slice(piece).is_err() {
             self.has_failed = true;

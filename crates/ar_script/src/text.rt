@@ -1,27 +1,32 @@
 // Answers as text, appended to the output: each function appends exactly the text that specs/Texts.antt gives.
-ghost use Rattle.std.specs.Prelude.{◌≡◌, ◌<◌, true, [], ◌∷◌, OnOk, map, codes};
-ghost use Rattle.std.specs.Fmt.{digit_glyph};
+ghost use Rattle.std.specs.Prelude.{◌≡◌, ◌+◌, ◌<◌, ◌≤◌, ◌++◌, true, [], ◌∷◌, OnOk, map, codes};
+ghost use Rattle.std.specs.Fmt.{decimal, digit_glyph};
+ghost use Rattle.arrayvec.specs.ArrayString.{array_string_len};
 ghost use Rattle.std.specs.Io.KnownBytes.{Appends};
 ghost use Rattle.ar_book.specs.Tables.{has_unit};
 ghost use Rattle.ar_picture.specs.Writing.{AddsSome};
 ghost use Rattle.ar_script.specs.Texts.{balance_text, class_name, data_words, done_text, flush_text, gap, group_text};
 ghost use Rattle.ar_script.specs.Texts.{groups_text, health_text, hex_byte, home_text, level_mark, levels_text, line};
 ghost use Rattle.ar_script.specs.Texts.{marks_text, move_text, outcome_text, rebuild_text, reply_text, row_text};
-ghost use Rattle.ar_script.specs.Texts.{run_text, runs_of, sense_text, taken_text, part_flush_text, words};
+ghost use Rattle.ar_script.specs.Texts.{key_words, run_text, runs_of, sense_text, taken_text, part_flush_text, words};
 
 use crate::runs::run_len;
 use ar_core::{
     Array, Balance, Class, DiskRefusal, Flush, GroupUse, Health, HomeOf, LevelOf, Move, OutcomeOf,
-    PartFlush, Rebuild, Refusal, Shown, UnitRefusal,
+    PartFlush, Rebuild, Refusal, Shown, Slot, UnitRefusal,
 };
-use ar_disks::{Addr, Disk};
+use ar_disks::{Addr, Disk, Key};
 use ar_language::Notation;
 use ar_scsi::{Reply, Status};
+use arrayvec::ArrayString;
 use std::io;
 use std::io::Write;
 
 /// The answer to a query about a unit that doesn't exist.
 const NO_UNIT: Refusal = Refusal::Unit(UnitRefusal::Absent);
+
+/// The most bytes of a line of a destaged or moved block: two words, five numbers and the spaces before them.
+const LINE: usize = 64;
 
 /// Writes the outcome of an event, as a line.
 pub fn write_outcome<W: Write, N>(
@@ -133,13 +138,21 @@ fn write_flush<W: Write>(out: &mut W, flush: Flush) -> io::Result<()>
     ensures text { OnOk result (Appends (W.contents out.old) (W.contents out.new) (flush_text flush)) }
 {
     match flush {
-        Flush::Flushed(key) => {
-            let (host, lun, rb) = (key.addr.host.number(), key.addr.lun, key.rb);
-            writeln!(out, "flushed {host} {lun} {rb}")
-        }
+        Flush::Flushed(key) => out.write_all(flushed_line(key).as_str().as_bytes()),
         Flush::Idle => writeln!(out, "idle"),
         Flush::Broken => writeln!(out, "broken"),
     }
+}
+
+// The line of a block that was destaged.
+fn flushed_line(key: Key) -> ArrayString<LINE>
+    ensures { result.bytes ≡ flush_text (Flush.Flushed key) }
+{
+    let mut line = ArrayString::new();
+    line.push_str("flushed");
+    push_key(&mut line, key);
+    line.push_str("\n");
+    line
 }
 
 // The script has no word for this event.
@@ -158,14 +171,56 @@ fn write_move<W: Write>(out: &mut W, answer: Move) -> io::Result<()>
     ensures text { OnOk result (Appends (W.contents out.old) (W.contents out.new) (move_text answer)) }
 {
     match answer {
-        Move::Moved { key, to } => {
-            let (host, lun, rb) = (key.addr.host.number(), key.addr.lun, key.rb);
-            let (group, slot) = (to.group, to.slot);
-            writeln!(out, "moved {host} {lun} {rb} to {group} {slot}")
-        }
+        Move::Moved { key, to } => out.write_all(moved_line(key, to).as_str().as_bytes()),
         Move::Idle => writeln!(out, "idle"),
         Move::Broken => writeln!(out, "broken"),
     }
+}
+
+// The line of a block that was moved. (Without `writeln!`, which writes each word and space of it apart.)
+fn moved_line(key: Key, to: Slot) -> ArrayString<LINE>
+    ensures { result.bytes ≡ move_text (Move.Moved key to) }
+{
+    let mut line = ArrayString::new();
+    line.push_str("moved");
+    push_key(&mut line, key);
+    push_slot(&mut line, to);
+    line.push_str("\n");
+    line
+}
+
+// Appends the numbers of a block: its host, its LUN and its own.
+fn push_key(line: &mut ArrayString<LINE>, key: Key)
+    requires room { array_string_len line.old + 33 ≤ 64 }
+    ensures bytes { line.new.bytes ≡ line.old.bytes ++ codes " " ++ words (key_words key []) }
+    ensures short { array_string_len line.new ≤ array_string_len line.old + 33 }
+{
+    push_number(line, u32::from(key.addr.host.number()));
+    push_number(line, u32::from(key.addr.lun));
+    push_number(line, key.rb);
+}
+
+// Appends the slot that a block was moved to.
+fn push_slot(line: &mut ArrayString<LINE>, to: Slot)
+    requires room { array_string_len line.old + 25 ≤ 64 }
+    ensures bytes { line.new.bytes
+        ≡ line.old.bytes ++ codes " to " ++ words (decimal to.group ∷ decimal to.slot ∷ []) }
+    ensures short { array_string_len line.new ≤ array_string_len line.old + 25 }
+{
+    line.push_str(" to");
+    push_number(line, to.group);
+    push_number(line, u32::from(to.slot));
+}
+
+// Appends a space and a number of at most ten digits.
+fn push_number(line: &mut ArrayString<LINE>, number: u32)
+    requires room { array_string_len line.old + 11 ≤ 64 }
+    ensures bytes { line.new.bytes ≡ line.old.bytes ++ codes " " ++ decimal number }
+    ensures short { array_string_len line.new ≤ array_string_len line.old + 11 }
+{
+    let mut digits = itoa::Buffer::new();
+    line.push_str(" ");
+    line.push_str(digits.format(number));
 }
 
 fn write_balance<W: Write>(out: &mut W, answer: Balance) -> io::Result<()>

@@ -4,7 +4,7 @@ use Rattle.std.proofs.lemmas.Iterator.Search.{position_from_yields_List}
 use Rattle.std.specs.List.{position_or_len}
 use Rattle.ar_language.proofs.Gathering.{found_or}
 use Rattle.ar_language.proofs.Parting.{is_hidden, shown_front, hidden_within}
-use Rattle.ar_language.proofs.lines.printable_len.Goals as goal
+use Rattle.ar_language.proofs.scan.near_len.Goals as goal
 
 pub returns : goal.returns
 returns c =
