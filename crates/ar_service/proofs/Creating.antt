@@ -2,7 +2,7 @@
 use Rattle.std.proofs.Common.{◌≡◌, ◌+◌, ◌<◌, ◌++◌, ℕ, List, [], ◌∷◌, length, take, get_or, slice_index_or, refl, sym}
 use Rattle.std.proofs.Common.{subst}
 use Rattle.std.proofs.lemmas.List.{take_more}
-use Rattle.ar_history.specs.Kept.{KeptState}
+use Rattle.ar_served.specs.Kept.{KeptState}
 use Rattle.ar_service.specs.Service.{AreCreated, AreProvided, IsCreated, IsProvided}
 use Rattle.ar_service.specs.declared.service.NewUnit.{NewUnit}
 

@@ -1,10 +1,10 @@
 -- An operator's orders on the shared array.
 use Rattle.std.specs.Prelude.{◌≡◌, ℕ, ◌++◌, Bool, true, false, List, [], OnOk, Option, Some, None, Result, Ok, codes}
 use Rattle.std.specs.declared.alloc.AllocError.{AllocError}
-use Rattle.ar_history.specs.Kept.{KeptState}
-use Rattle.ar_history.specs.declared.store_status.StoreState.{StoreState}
-use Rattle.ar_history.specs.declared.store_status.StoreState.TheVariants.{Sound, Degraded, Failing, GivenUp}
-use Rattle.ar_history.specs.declared.store_status.StoreStatus.{StoreStatus}
+use Rattle.ar_served.specs.Kept.{KeptState}
+use Rattle.ar_served.specs.declared.store_status.StoreState.{StoreState}
+use Rattle.ar_served.specs.declared.store_status.StoreState.TheVariants.{Sound, Degraded, Failing, GivenUp}
+use Rattle.ar_served.specs.declared.store_status.StoreStatus.{StoreStatus}
 use Rattle.ar_language.specs.declared.order.Question.TheVariants as questions
 use Rattle.ar_operator.specs.Executing.{Executes}
 use Rattle.ar_operator.specs.declared.order.OperatorOrder.{OperatorOrder}

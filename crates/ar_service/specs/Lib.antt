@@ -1,8 +1,5 @@
-pub mod Attached
 pub mod Control
-pub mod Lengths
 pub mod Monitoring
-pub mod Names
 pub mod Service
 pub mod Watching
 -- definitions of lower crates that clauses of this crate cite

@@ -7,12 +7,12 @@ use Rattle.ar_core.specs.Views.{sectors_at}
 use Rattle.ar_core.specs.declared.event.OutcomeOf.{OutcomeOf}
 use Rattle.ar_core.specs.declared.event.OutcomeOf.TheVariants as outcomes
 use Rattle.ar_history.specs.Audit.{IsFirstMismatch, IsHostsPart}
-use Rattle.ar_history.specs.History.{is_command}
-use Rattle.ar_history.specs.Kept.{KeptState}
-use Rattle.ar_history.specs.Seat.{SeatState}
+use Rattle.ar_served.specs.History.{is_command}
+use Rattle.ar_served.specs.Kept.{KeptState}
+use Rattle.ar_served.specs.Seat.{SeatState}
 use Rattle.ar_history.specs.declared.audit.Mismatch.{Mismatch}
 use Rattle.ar_history.specs.declared.audit.Report.{Report}
-use Rattle.ar_history.specs.declared.entry.Entry.{Entry}
+use Rattle.ar_served.specs.declared.entry.Entry.{Entry}
 use Rattle.ar_language.specs.declared.order.Action.TheVariants as actions
 use Rattle.ar_operator.specs.Executing.{Operated}
 use Rattle.ar_service.specs.declared.service.NewUnit.{NewUnit}

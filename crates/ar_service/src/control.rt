@@ -4,20 +4,19 @@ ghost use Rattle.std.specs.Prelude.{◌≡◌, ◌⊎◌, [], OnOk, false, lengt
 ghost use Rattle.ar_operator.specs.Executing.{IsArrayOrder};
 ghost use Rattle.ar_service.specs.Control.{AddsLine, AnswersWith, DoneAtOneMoment, ExecutesLasting, is_act, line_added};
 ghost use Rattle.ar_service.specs.Control.{line_of, state_line, store_failed};
-ghost use Rattle.ar_service.specs.Watching.{health_watched};
+ghost use Rattle.ar_shown.specs.Shown.{health_watched};
 
 use crate::doors::OperatedArray;
-use crate::shown::ControlledArray;
-use crate::tallies::Tallies;
 use ar_cli::VERSION;
 use ar_disks::Host;
-use ar_history::{ServedArray, StoreState, StoreStatus};
 use ar_language::{Action, Question};
 use ar_operator::{
     Controller, Inventory, OperatorOrder, SpareDisk, write_counts, write_help, write_session,
     write_version,
 };
+use ar_served::{ServedArray, StoreState, StoreStatus};
 use ar_sessions::Desk;
+use ar_shown::{ControlledArray, Tallies};
 use ar_status::{EventKind, EventLog};
 use std::alloc::{AllocError, Global};
 use std::sync::Wait;

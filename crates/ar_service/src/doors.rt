@@ -2,13 +2,10 @@
 ghost use Rattle.std.specs.Prelude.{◌≡◌, ◌<◌};
 ghost use Rattle.ar_service.specs.Watching.{hosts_logged_in, is_logged_in};
 
-use crate::attached::Initiators;
 use crate::initiators::{IscsiPort, Targets};
 use crate::monitoring::Monitor;
 use crate::operators::{OperatorHandler, OperatorRoom, PendingStops};
-use crate::shown::{Beside, ControlledArray};
 use crate::spares::Spares;
-use crate::tallies::Tallies;
 use crate::watching::Watch;
 use ar_disks::Host;
 use ar_frames::{Linked, PartsWrite, Sink, Source};
@@ -16,6 +13,7 @@ use ar_iscsi::IscsiEnd;
 use ar_latency::CommandLatencies;
 use ar_operator::{Fuse, OperatorEnd, UnitNames, disk_totals, lost_disks};
 use ar_sessions::{Desk, Door, Handler, NoMemory, SharedDoor, Starter, run_pool, start_pool};
+use ar_shown::{Beside, ControlledArray, Initiators, Tallies};
 use ar_status::{Activity, ArrayName, ArrayStatus, EventLog, SessionNumbers};
 use log::Log;
 use std::alloc::{AllocError, Global};
@@ -350,7 +348,7 @@ impl<O: Door + Drop, T> SideDoor<O, T> {
 }
 
 // Serves hosts by the foreground beside the threads of the other doors and of a monitor, and returns once all have
-// ended.
+// ended. They are ended also where not all of them could be started.
 fn serve_beside<
     R: Threads + Wait + Sync,
     O: Door + Drop + Send,
@@ -367,36 +365,15 @@ fn serve_beside<
         rt,
         move |scope| -> Result<(), NoMemory>
             requires { F.pre foreground }
-        { serve_in_scope(scope, rt, sides, monitor, foreground) },
+        {
+            let served = match start_threads(scope, rt, sides, monitor) {
+                Ok(()) => foreground(),
+                Err(fault) => Err(fault),
+            };
+            monitor.end();
+            served
+        },
     )
-}
-
-// The same in the scope of the threads. They are ended also where not all of them could be started.
-fn serve_in_scope<
-    's,
-    E,
-    R: Wait + Sync,
-    O: Door + Drop + Send,
-    T: Handler<O::Reader, O::Writer, OperatorEnd> + Sync,
-    W: Handler<O::Reader, O::Writer, bool> + Sync,
-    I: Handler<O::Reader, O::Writer, IscsiEnd> + Sync,
-    V: Monitor + Sync,
-    F: FnOnce() -> Result<(), NoMemory> + Drop,
->(
-    scope: &'s Scope<'s, E>,
-    rt: &'s R,
-    sides: Sides<'s, O, T, W, I>,
-    monitor: &'s V,
-    foreground: F,
-) -> Result<(), NoMemory>
-    requires { F.pre foreground }
-{
-    let served = match start_threads(scope, rt, sides, monitor) {
-        Ok(()) => foreground(),
-        Err(fault) => Err(fault),
-    };
-    monitor.end();
-    served
 }
 
 // Starts the threads beside those of hosts: of the other doors, of the background maintenance, and of a monitor.

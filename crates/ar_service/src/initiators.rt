@@ -2,15 +2,14 @@
 // target takes the host's seat, as one over the array's own frames does, and returns it at its end.
 ghost use Rattle.std.specs.Prelude.{◌≡◌};
 
-use crate::attached::{Attached, Initiators};
 use crate::doors::OperatedArray;
-use crate::tallies::Tallies;
 use ar_disks::Host;
 use ar_frames::{Login, Port, Progress, Sink, Source};
-use ar_history::ServedArray;
 use ar_iscsi::{IscsiEnd, LoginEnd, LoginStatus, serve_target};
 use ar_scsi::Reply;
+use ar_served::ServedArray;
 use ar_sessions::{Desk, Handler, LockPort, Refusals};
+use ar_shown::{Attached, Initiators, Tallies};
 use ar_target::{
     Attributes, BlockRun, DeviceServer, DiscardPort, FlushOutcome, FlushPort, InitiatorLogin,
     InventoryPort, LoginObserver,

@@ -4,27 +4,20 @@
 #![tactic(auto)]
 
 mod announced;
-mod attached;
 mod control;
 mod doors;
-mod initiator_name;
 mod initiators;
-mod lengths;
 mod listing;
 mod monitoring;
 mod operators;
 mod runtime;
 mod service;
-mod shown;
 mod spares;
-mod tallies;
 mod watching;
 
 pub use announced::OperatorPlace;
-pub use attached::{Attached, Initiators};
 pub use control::LockController;
 pub use doors::{OperatedArray, SideDoors, run_operated};
-pub use initiator_name::InitiatorName;
 pub use initiators::{IscsiPort, Targets};
 pub use monitoring::Monitor;
 pub use operators::{MOST_OPERATORS, PendingStops};

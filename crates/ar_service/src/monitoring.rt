@@ -4,10 +4,10 @@ ghost use Rattle.std.specs.Prelude.{◌≡◌, ◌≤◌, length};
 ghost use Rattle.ar_service.specs.Monitoring.{last_warned};
 
 use crate::doors::OperatedArray;
-use crate::shown::ControlledArray;
 use ar_memory::{memory_left, share_reached};
 use ar_operator::{Fuse, lost_disks};
 use ar_sessions::run_background;
+use ar_shown::ControlledArray;
 use ar_status::{EventKind, RecentEvent, RecentEvents, StoreHealth, StoreNumbers};
 use log::{Log, error, info, warn};
 use std::sync::Wait;

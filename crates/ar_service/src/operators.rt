@@ -2,10 +2,10 @@
 // to refuse one operator more.
 use crate::control::LockController;
 use crate::doors::OperatedArray;
-use crate::shown::ControlledArray;
 use ar_frames::{Sink, Source, send};
 use ar_operator::{Buffers, OperatorEnd, converse_in};
 use ar_sessions::{Handler, Refusals};
+use ar_shown::ControlledArray;
 use log::Log;
 use std::alloc::{AllocError, Global};
 use std::sync::atomic::{AtomicU64, Ordering};

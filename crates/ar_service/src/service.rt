@@ -1,27 +1,26 @@
 // A whole service: units, doors, sessions, and the audit at the end.
 ghost use Rattle.std.specs.Prelude.{◌≡◌, [], ◌∷◌, Err, IfOk, IfErr, OnOk, map};
-ghost use Rattle.ar_history.specs.Seat.{SeatState};
-ghost use Rattle.ar_history.specs.declared.counts.HostCounts.{HostCounts};
+ghost use Rattle.ar_served.specs.Seat.{SeatState};
+ghost use Rattle.ar_served.specs.declared.counts.HostCounts.{HostCounts};
 ghost use Rattle.ar_volume.specs.Image.{is_broken};
 ghost use Rattle.ar_service.specs.Service.{AreProvided, CreatesUnits, FailsAudit, IsAudited, IsProvided, refusal_in};
 
 use crate::ServiceRuntime;
 use crate::announced::{Announced, OperatorPlace};
-use crate::attached::Initiators;
 use crate::doors::{OperatedArray, SideDoors, TARGET_THREADS, run_operated};
 use crate::initiators::IscsiPort;
 use crate::operators::{MOST_OPERATORS, PendingStops};
-use crate::shown::{ControlledArray, health_of};
 use crate::spares::Spares;
-use crate::tallies::Tallies;
 use ar_core::{Array, Health, OutcomeOf, Refusal};
 use ar_disks::{Addr, Disk};
-use ar_history::{CountedArray, Counts, Kept, Mismatch, OperableArray, Report, Seat};
+use ar_history::{CountedArray, Kept, Mismatch, Report};
 use ar_operator::{DiskMaker, Fuse, WantedDisk};
+use ar_served::{Counts, OperableArray, Seat};
 use ar_sessions::{
     ANY_NUMBER, Desk, ListenFault, MOST_AT_ONCE, NoMemory, Protocol, Starter, TcpDoor, TcpReader,
     TcpWriter, Timeouts,
 };
+use ar_shown::{ControlledArray, Initiators, Tallies, health_of};
 use ar_status::{Activity, ArrayName, EventLog};
 use std::alloc::Global;
 use std::hash::RandomState;
@@ -267,8 +266,9 @@ fn commit<A: OperableArray<L>, L: Ledger>(array: &mut A) -> Result<(), ServiceFa
     }
 }
 
-// Serves an array by a plan behind a lock, once its units are created. Returns the operators that wait for the end,
-// what came of the service, the array, and the desk with the hosts' seats.
+// Serves an array by a plan behind a lock, once its units are created: listens, and serves hosts, operators, initiators
+// and HTTP clients. Returns the operators that wait for the end, what came of the service, the array, and the desk with
+// the hosts' seats.
 fn serve_array<
     's,
     A: ControlledArray<L, M> + Drop + Send,
@@ -315,8 +315,12 @@ fn serve_array<
         stop,
         ended: &ended,
     };
-    let (stops, served) = match made {
-        Ok(()) => serve_plan(rt, &operated, stop, plan),
+    let announcer = Announcer::new(rt, announced_of(&plan), stop);
+    let (stops, served) = match doors_after(made, rt, alloc, stop, plan) {
+        Ok((hosts, doors)) => {
+            let (stops, served) = run_operated(&operated, hosts, doors, &announcer);
+            (stops, announcer.judge(served))
+        }
         Err(fault) => (PendingStops::none(alloc), Err(fault)),
     };
     (stops, served, array.into_inner(), desk.into_inner())
@@ -349,30 +353,6 @@ fn with_spares(
     }
 }
 
-// Listens, and serves hosts, operators, initiators and HTTP clients.
-fn serve_plan<
-    's,
-    A: ControlledArray<L, M> + Drop + Send,
-    L: Ledger + Send + Sync,
-    M: Copy + Send + Sync,
-    R: ServiceRuntime + Sync,
->(
-    rt: &'s R,
-    operated: &OperatedArray<'_, R, A, L, M>,
-    stop: &'s AtomicBool,
-    plan: Plan<'_>,
-) -> (TcpStops<'s, R>, Result<(), ServiceFault>) {
-    let announced = announced_of(&plan);
-    match open_doors(rt, operated.alloc, stop, plan) {
-        Ok((hosts, doors)) => {
-            let announcer = Announcer::new(rt, announced, stop);
-            let (stops, served) = run_operated(operated, hosts, doors, &announcer);
-            (stops, announcer.judge(served))
-        }
-        Err(fault) => (PendingStops::none(operated.alloc), Err(fault)),
-    }
-}
-
 // Where a plan's service listens.
 fn announced_of<'a>(plan: &Plan<'a>) -> Announced<'a> {
     Announced {
@@ -381,6 +361,18 @@ fn announced_of<'a>(plan: &Plan<'a>) -> Announced<'a> {
         http: plan.http.map(|http| http.port),
         operators: plan.operator_place,
     }
+}
+
+// The doors of a plan, once its units are created.
+fn doors_after<'s, R: ServiceRuntime + Sync>(
+    made: Result<(), ServiceFault>,
+    rt: &'s R,
+    alloc: Global,
+    stop: &'s AtomicBool,
+    plan: Plan<'_>,
+) -> Result<(TcpDoor<'s, R>, SideDoors<TcpDoor<'s, R>>), ServiceFault> {
+    made?;
+    open_doors(rt, alloc, stop, plan)
 }
 
 // Opens the doors of a plan.

@@ -5,10 +5,9 @@ ghost use Rattle.ar_service.specs.Monitoring.{failed_disk};
 
 use crate::control::execute_listed;
 use crate::doors::OperatedArray;
-use crate::shown::ControlledArray;
-use crate::tallies::Tallies;
 use ar_language::Action;
 use ar_operator::{Fuse, OperatorOrder, SpareDisk, WantedDisk};
+use ar_shown::{ControlledArray, Tallies};
 use ar_status::{ArrayHealth, EventLog};
 use log::{Log, warn};
 use std::alloc::{AllocError, Global};

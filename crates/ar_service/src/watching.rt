@@ -4,12 +4,12 @@ ghost use Rattle.std.specs.Prelude.{◌≡◌, IfOk};
 ghost use Rattle.ar_service.specs.Watching.{CopiesMoment, IsDrawing, MayDraw, text_drawn};
 
 use crate::doors::OperatedArray;
-use crate::listing::{Sessions, host_sessions, inventory_of};
-use crate::shown::{Beside, ControlledArray};
+use crate::listing::host_sessions;
 use ar_frames::Linked;
 use ar_operator::Inventory;
 use ar_picture::{Picture, write_svg};
 use ar_sessions::{Handler, Refusals};
+use ar_shown::{Beside, ControlledArray, Sessions, inventory_of};
 use ar_status::{ArrayInventory, ArrayStatus, EventLog, Look, Watched, serve_named};
 use log::Log;
 use std::alloc::{AllocError, Global};

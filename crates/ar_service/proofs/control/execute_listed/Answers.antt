@@ -3,7 +3,7 @@ use Rattle.std.proofs.Common.{subst}
 use Rattle.std.specs.Prelude.{OnOk}
 use Rattle.std.specs.declared.alloc.AllocError.{AllocError}
 use Rattle.ar_service.specs.Control.{AnswersWith, is_act, store_failed}
-use Rattle.ar_history.specs.Kept.{KeptState}
+use Rattle.ar_served.specs.Kept.{KeptState}
 use Rattle.ar_operator.specs.Executing.{Executes}
 use Rattle.ar_service.proofs.control.execute_listed.Goals as goal
 

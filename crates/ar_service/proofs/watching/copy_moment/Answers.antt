@@ -1,6 +1,6 @@
 use Rattle.std.proofs.Common.{rules, length, if◌then◌else◌, subst, sym}
 use Rattle.ar_status.specs.declared.events.RecentEvents.{RecentEvents}
-use Rattle.ar_service.specs.Watching.{IsStatusOf}
+use Rattle.ar_shown.specs.Shown.{IsStatusOf}
 use Rattle.ar_service.proofs.watching.copy_moment.Goals as goal
 
 -- the status that the array gives, with the picture of the same moment
