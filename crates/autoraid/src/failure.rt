@@ -1,9 +1,9 @@
 // Failures of the program, with their messages and exit status.
 use crate::drawing::DrawingFault;
 use crate::serve::ServeFault;
-use crate::stored::StoreFault;
 use ar_cli::ExitStatus;
 use ar_language::Fault;
+use ar_stored::StoreFault;
 use thiserror::Error;
 
 /// Why the program exits with a status other than 0. A refused command line has a fault of its own.

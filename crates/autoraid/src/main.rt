@@ -12,7 +12,6 @@ mod command_line;
 mod dialogue;
 mod drawing;
 mod failure;
-mod images;
 mod makes;
 mod operators;
 mod serve;
@@ -51,7 +50,7 @@ fn main(rt: HostRuntime) -> ExitCode {
         Ok(Order::Run(array, options)) => run(&rt, setup_of(array), &options),
         Ok(Order::Create(options)) => create(&rt, alloc, &options),
         Ok(Order::Check(folder)) => check(&rt, alloc, folder.as_str()),
-        Ok(Order::Export(unit)) => images::export(&rt, alloc, &unit).map_err(Failure::Store),
+        Ok(Order::Export(unit)) => ar_stored::export(&rt, alloc, &unit).map_err(Failure::Store),
         Ok(Order::Import(unit)) => import(&rt, alloc, &unit),
         Ok(Order::Serve(options)) => {
             let (done, is_read) = serve_hosts(rt, &rt, alloc, options);
@@ -73,17 +72,17 @@ fn order(rt: &HostRuntime) -> Result<Order, UsageFault> {
 }
 
 fn create(rt: &HostRuntime, alloc: Global, options: &CreateOptions) -> Result<(), Failure> {
-    stored::create(rt, alloc, options).map_err(Failure::Store)
+    ar_stored::create(rt, alloc, options).map_err(Failure::Store)
 }
 
 fn check(rt: &HostRuntime, alloc: Global, folder: &str) -> Result<(), Failure> {
-    stored::check(rt, alloc, folder).map_err(Failure::Store)
+    ar_stored::check(rt, alloc, folder).map_err(Failure::Store)
 }
 
 // Writes standard input to a unit. The log has what failed.
 fn import(rt: &HostRuntime, alloc: Global, unit: &StoredUnit) -> Result<(), Failure> {
     let logged = Logged::new(rt, Level::Warn, TimedConsole(rt));
-    images::import(&logged.with_target(TARGET), rt, alloc, unit).map_err(Failure::Store)
+    ar_stored::import(&logged.with_target(TARGET), rt, alloc, unit).map_err(Failure::Store)
 }
 
 // Serves hosts an array, that of a store or a new one, beside the thread that writes the log, and returns also whether

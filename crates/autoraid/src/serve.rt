@@ -1,4 +1,7 @@
 // Serves an array to hosts and operators, and prints what came of it.
+ghost use Rattle.std.specs.Prelude.{◌≡◌, false, Ok, Err, OnOk, IfErr};
+ghost use Rattle.autoraid.specs.Ends.{EndsWell, ExitsBy, IsFailureOf, stop_answer};
+
 use crate::command_line::{RandomNumbers, Service};
 use crate::operators::{OperatorsEntry, remove_file};
 use ar_command_line::Audit;
@@ -90,14 +93,20 @@ pub fn conclude<R: ServiceRuntime>(
     service: &Service,
     stops: TcpStops<'_, R>,
     served: Result<Closing, ServiceFault>,
-) -> Result<(), ServeFault> {
+) -> Result<(), ServeFault>
+    ensures well { OnOk result (EndsWell served) }
+    ensures status { ExitsBy served result }
+    ensures fails { IfErr result (IsFailureOf served) }
+{
     let done = tell(rt, alloc, service, served);
     stops.answer(answer_after(&done));
     done
 }
 
 // What an operator is answered to `stop`.
-fn answer_after(done: &Result<(), ServeFault>) -> &'static [u8] {
+fn answer_after(done: &Result<(), ServeFault>) -> &'static [u8]
+    ensures { result.now ≡ stop_answer done.now }
+{
     match done {
         Ok(()) | Err(ServeFault::DataLost) => b"stopped\n",
         Err(ServeFault::Mismatch) => b"fault: mismatch\n",
@@ -114,7 +123,11 @@ fn tell(
     alloc: Global,
     service: &Service,
     served: Result<Closing, ServiceFault>,
-) -> Result<(), ServeFault> {
+) -> Result<(), ServeFault>
+    ensures well { OnOk result (EndsWell served) }
+    ensures status { ExitsBy served result }
+    ensures fails { IfErr result (IsFailureOf served) }
+{
     match served {
         Ok(closing) => tell_closing(rt, service.options.audit, closing),
         Err(ServiceFault::Mismatch(mismatch)) => Err(tell_mismatch(rt, mismatch)),
@@ -131,7 +144,11 @@ fn tell(
 }
 
 // Prints what is reported. An array that has failed is a failure of the server, too.
-fn tell_closing(rt: &impl Print, audit: Audit, closing: Closing) -> Result<(), ServeFault> {
+fn tell_closing(rt: &impl Print, audit: Audit, closing: Closing) -> Result<(), ServeFault>
+    ensures well { OnOk result (closing.data_lost ≡ false) }
+    ensures status { ExitsBy (Ok closing) result }
+    ensures fails { IfErr result (IsFailureOf (Ok closing)) }
+{
     match print_closing(rt, audit, closing) {
         Ok(()) if closing.data_lost => Err(ServeFault::DataLost),
         Ok(()) => Ok(()),
@@ -155,7 +172,10 @@ fn print_closing(rt: &impl Print, audit: Audit, closing: Closing) -> io::Result<
     }
 }
 
-fn tell_mismatch(rt: &impl Print, mismatch: Mismatch) -> ServeFault {
+fn tell_mismatch(rt: &impl Print, mismatch: Mismatch) -> ServeFault
+    ensures status { ExitsBy (Err (ServiceFault.Mismatch mismatch)) (Err result) }
+    ensures fails { IsFailureOf (Err (ServiceFault.Mismatch mismatch)) result }
+{
     let Mismatch { host, position } = mismatch;
     let host = host.number();
     match println!(rt; "closed mismatch {host} {position}") {
@@ -165,7 +185,10 @@ fn tell_mismatch(rt: &impl Print, mismatch: Mismatch) -> ServeFault {
 }
 
 // The failure of a unit that can't be created, by its number on the command line.
-fn refused(alloc: Global, service: &Service, number: usize, refusal: Refusal) -> ServeFault {
+fn refused(alloc: Global, service: &Service, number: usize, refusal: Refusal) -> ServeFault
+    ensures status { ExitsBy (Err (ServiceFault.Unit number refusal)) (Err result) }
+    ensures fails { IsFailureOf (Err (ServiceFault.Unit number refusal)) result }
+{
     match word_of(alloc, service, number) {
         Ok(word) => ServeFault::Unit { word, refusal },
         Err(_) => ServeFault::NoMemory,
@@ -173,7 +196,10 @@ fn refused(alloc: Global, service: &Service, number: usize, refusal: Refusal) ->
 }
 
 // That of a unit that is there with another length.
-fn other_size(alloc: Global, service: &Service, number: usize, sectors: u32) -> ServeFault {
+fn other_size(alloc: Global, service: &Service, number: usize, sectors: u32) -> ServeFault
+    ensures status { ExitsBy (Err (ServiceFault.OtherSize number sectors)) (Err result) }
+    ensures fails { IsFailureOf (Err (ServiceFault.OtherSize number sectors)) result }
+{
     match word_of(alloc, service, number) {
         Ok(word) => ServeFault::OtherSize { word, sectors },
         Err(_) => ServeFault::NoMemory,

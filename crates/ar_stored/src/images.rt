@@ -3,15 +3,19 @@
 ghost use Rattle.std.specs.Prelude.{◌≡◌, ◌∷◌, [], map};
 ghost use Rattle.ar_durable.specs.Durable.{AreRecords};
 
-use crate::stored::{FusedSource, StoreCause, StoreFault, compact, fault, setup_in};
+use crate::fault::{StoreCause, StoreFault, fault};
+use crate::setup::setup_in;
+use crate::source::FusedSource;
+use crate::taking_up::compact;
 use ar_command_line::StoredUnit;
 use ar_core::OutcomeOf;
 use ar_disks::{Addr, Disk, SECTOR_LEN};
 use ar_durable::{CommitPolicy, DurableArray, Store, StoreFolders, open_in, replay, restart};
-use ar_history::{LiveArray, Seat};
+use ar_history::LiveArray;
 use ar_media::{Media, RegularFile};
 use ar_operator::{Fuse, FusedDisk, FusedMaker, start_fused};
 use ar_scsi::{Reply, Status};
+use ar_served::Seat;
 use bytes::Bytes;
 use log::Log;
 use std::alloc::Global;
