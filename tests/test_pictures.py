@@ -1,7 +1,7 @@
 """What `run --picture` and the word `picture` draw: each extent once, health, units and their colours; files that are
 full.
 
-Text maps of small arrays are scenarios, in crates/test_scenarios/data/pictures.script.
+Text maps of small arrays are scenarios, in tests/scenarios/pictures.script.
 """
 import os
 import re

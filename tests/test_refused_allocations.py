@@ -15,7 +15,8 @@ import tempfile
 import threading
 import time
 
-from tests.harness import BUSY, LOGIN, Case, free_port, program, ran, tests_of, text_of, untimed, write_10
+from tests.harness import BUSY, LOGIN, Case, free_port, program, ran, tests_of, untimed, write_10
+from tests.test_scenarios import scenarios_of
 
 REFUSE = r"""
 #include <errno.h>
@@ -59,19 +60,11 @@ COUNTED_BUSY = re.compile(r'^autoraid_host_commands_total\{host="0",operation="\
 
 
 class Script:
-    """A scenario of test_scenarios: its lines, and for each what is printed."""
+    """A scenario: its lines, and for each what is printed."""
 
     def __init__(self, file, name, options):
-        self.options, self.lines, self.wanted = options, [], []
-        text = text_of("crates", "test_scenarios", "data", file + ".script")
-        begins = re.search(rf"^== {re.escape(name)}( \[.*\])?$", text, re.MULTILINE)
-        for row in text[begins.end() + 1 :].split("\n== ")[0].splitlines():
-            if row.startswith("  = "):
-                self.wanted[-1].append(row[4:])
-            elif row and not row.startswith("#"):
-                line, equals, answer = row.partition(" = ")
-                self.lines.append(line)
-                self.wanted.append([answer] if equals else [])
+        rows, _ = next(it for it in scenarios_of(file) if it.name == name).script()
+        self.options, self.lines, self.wanted = options, *zip(*rows)
 
     def judged(self, status, out, error):
         """What is wrong with a run, or None; and how the refusal was reported."""
