@@ -23,7 +23,7 @@ use ar_checkpoint::CheckpointError;
 use ar_compaction::{MAX_NAME, StoreHead};
 use ar_core::{Array, NewDisk, Outcome, PartFlush};
 use ar_disks::{Addr, Disk, Host};
-use ar_history::{CountedArray, LiveArray};
+use ar_live::{CountedArray, LiveArray};
 use ar_log::LogError;
 use ar_media::Media;
 use ar_record::Record;

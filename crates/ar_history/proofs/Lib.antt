@@ -2,6 +2,4 @@ pub mod Answering
 pub mod Auditing
 pub mod Changing
 pub mod Commands
-pub mod Keeping
 pub mod Memory
-pub mod Unmapping

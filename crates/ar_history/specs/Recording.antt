@@ -1,41 +1,21 @@
--- How a live array and one that stores its history record what was done.
-use Rattle.std.specs.Prelude.{◌≡◌, ◌+◌, ◌-◌, ◌<◌, ◌++◌, ◌∷◌, [], ℕ, Bool, true, false, List, length, take}
-use Rattle.std.specs.Prelude.{Option, Some, None, Ok}
+-- How an array that stores its history records what was done.
+use Rattle.std.specs.Prelude.{◌≡◌, ◌+◌, ◌<◌, ◌++◌, ◌∷◌, [], ℕ, true, false, List, length, Option, Some, None}
 use Rattle.ar_scsi.specs.declared.reply.Reply.{Reply}
 use Rattle.ar_scsi.specs.Reply.{busy}
-use Rattle.ar_extents.specs.Follows.{Keeps, Anywhere}
 use Rattle.ar_unit.specs.Unit.{UnitState, answer, unit_run, IsGiven}
 use Rattle.ar_unit.specs.Broken.{shape_of, where_broken}
 use Rattle.ar_volume.specs.Sectors.{Address}
-use Rattle.ar_volume.specs.Image.{ArrayState, is_broken, image}
-use Rattle.ar_core.specs.Events.{Event, Outcome}
+use Rattle.ar_volume.specs.Image.{is_broken, image}
+use Rattle.ar_core.specs.Events.{Event}
 use Rattle.ar_core.specs.Step.{is_busy, entry_at}
 use Rattle.ar_core.specs.declared.event.EventOf.TheVariants as events
 use Rattle.ar_core.specs.declared.event.OutcomeOf.TheVariants as outcomes
 use Rattle.ar_served.specs.declared.entry.Exchange.{Exchange}
-use Rattle.ar_served.specs.declared.entry.Entry.{Entry}
 use Rattle.ar_served.specs.declared.entry.Entry.TheVariants as entries
 use Rattle.ar_served.specs.History.{replay}
 use Rattle.ar_served.specs.Kept.{KeptState, MayGrow, exchange_of, replayed_unit}
 use Rattle.ar_served.specs.Seat.{SeatState}
-
--- a history without its last entry
-abbrev pub before_last : List Entry → List Entry
-before_last history = take (length history - 1) history
-
--- the entry of a create, resize or delete, if it is done
-abbrev pub entry_asked : Event → Option Entry
-entry_asked (events.Make addr sectors) = Some (entries.Make addr sectors)
-entry_asked (events.Grow addr sectors) = Some (entries.Grow addr sectors)
-entry_asked (events.Remove addr) = Some (entries.Remove addr)
-entry_asked event = None
-
--- a create, resize or delete was done
-abbrev pub is_done : Outcome → Bool
-is_done (outcomes.Make (Ok done)) = true
-is_done (outcomes.Grow (Ok done)) = true
-is_done (outcomes.Remove (Ok done)) = true
-is_done outcome = false
+use Rattle.ar_live.specs.Live.{entry_asked}
 
 -- the unit that a kept array's history makes, with the array's own pending UNIT ATTENTION
 abbrev pub history_unit : KeptState → Address → UnitState
@@ -83,12 +63,6 @@ abbrev pub ServesHost : KeptState → SeatState → ℕ → List ℕ → List �
 ServesHost old before lun cdb payload reply (Some position) new after =
     IsRecorded old before lun cdb payload reply position new after
 ServesHost old before lun cdb payload reply None new after = IsUnrecorded old before lun cdb payload reply new after
-
--- no table, no cache entry and no row of any disk has changed
-pub record LeavesStorage (old new : ArrayState) : Type 0 where
-  pub tables : new.store.book ≡ old.store.book
-  pub cache : new.cache ≡ old.cache
-  pub rows : Keeps Anywhere old.store.disks new.store.disks
 
 -- The memory that is allocated to record an event: a history with capacity left keeps it, a full one may grow. An
 -- event that leaves no entry, and one on a failed array, allocates nothing.

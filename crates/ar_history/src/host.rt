@@ -8,8 +8,9 @@ ghost use Rattle.ar_core.specs.Step.{Steps, is_busy};
 ghost use Rattle.ar_served.specs.Counts.{CountsCommand, CountsNothing};
 ghost use Rattle.ar_served.specs.Kept.{StaysKept, exchange_of};
 ghost use Rattle.ar_served.specs.Serving.{Begins, BeginsByPlace, DoesCommand, HasCapacity};
-ghost use Rattle.ar_history.specs.Recording.{ServesHost, LeavesStorage, with_reply};
 ghost use Rattle.ar_served.specs.Serving.{Allocates, ServesCommand};
+ghost use Rattle.ar_live.specs.Live.{LeavesStorage};
+ghost use Rattle.ar_history.specs.Recording.{ServesHost, with_reply};
 
 use crate::Kept;
 use ar_core::{EventOf, OutcomeOf};

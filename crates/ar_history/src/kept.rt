@@ -1,20 +1,20 @@
 // A live array with its history stored: the stored list is the one that contracts see of the live array, so that what
 // is proved of that one (`HistoryAgrees`) is true of it. The ledger's total is the number of commands in the history.
-ghost use Rattle.std.specs.Prelude.{◌≡◌, ◌<◌, ◌≤◌, ◌+◌, [], ◌∷◌, count_by, map};
+ghost use Rattle.std.specs.Prelude.{◌≡◌, ◌≤◌, [], ◌∷◌, count_by, map};
 ghost use Rattle.ar_served.specs.Counts.{no_counts};
 ghost use Rattle.ar_served.specs.History.{is_command};
 ghost use Rattle.ar_served.specs.Kept.{HistoryAgrees};
 ghost use Rattle.ar_served.specs.Seat.{SeatState};
 ghost use Rattle.ar_served.specs.Served.{after_refusal};
 
-use crate::LiveArray;
 use ar_core::Array;
 use ar_disks::{Disk, Host};
+use ar_live::{LiveArray, seats};
 use ar_scsi::Reply;
 use ar_served::{Counts, Entry, Seat};
 use std::alloc::Global;
 use std::marker::Model;
-use std::sync::ledger::{Blank, Book, Ledger, Share};
+use std::sync::ledger::{Blank, Book, Ledger};
 
 /// An array with its stored history. The ledger counts the commands in it; each seat's share counts those of its host.
 ///
@@ -136,48 +136,5 @@ impl<D: Disk, L: Ledger> Kept<D, L> {
         ensures { result ≡ self.now.events }
     {
         self.live.events()
-    }
-}
-
-// The seats of the four hosts, each with a part of the ledger.
-pub(crate) fn seats<L: Ledger>(alloc: Global, share: &mut Share<L>) -> [Seat<L>; 4]
-    requires parts { share.old.parts ≡ 4 }
-    requires amount { share.old.amount ≡ 0 }
-    ensures hosts { map (λ (s : SeatState). s.host.number) result ≡ 0 ∷ 1 ∷ 2 ∷ 3 ∷ [] }
-    ensures transcripts { map (λ (s : SeatState). s.transcript) result ≡ [] ∷ [] ∷ [] ∷ [] ∷ [] }
-    ensures rooms { map (λ (s : SeatState). s.room) result ≡ 0 ∷ 0 ∷ 0 ∷ 0 ∷ [] }
-    ensures commands { map (λ (s : SeatState). s.commands) result ≡ 0 ∷ 0 ∷ 0 ∷ 0 ∷ [] }
-{
-    [
-        seat(alloc, share, 0),
-        seat(alloc, share, 1),
-        seat(alloc, share, 2),
-        seat(alloc, share, 3),
-    ]
-}
-
-// The seat of a host, with one part of the ledger.
-fn seat<L: Ledger>(alloc: Global, share: &mut Share<L>, number: u8) -> Seat<L>
-    requires number { number < 4 }
-    requires parts { 0 < share.old.parts }
-    requires amount { share.old.amount ≡ 0 }
-    ensures host { result.host.number ≡ number }
-    ensures transcript { result.transcript ≡ [] }
-    ensures room { result.room ≡ 0 }
-    ensures commands { result.commands ≡ 0 }
-    ensures parts { share.new.parts + 1 ≡ share.old.parts }
-    ensures amount { share.new.amount ≡ 0 }
-{
-    Seat::new(alloc, host(number), share.split_off(1, 0))
-}
-
-// The host of a number.
-fn host(number: u8) -> Host
-    requires { number < 4 }
-    ensures { result.number ≡ number }
-{
-    match Host::new(number) {
-        Some(host) => host,
-        None => unreachable!(),
     }
 }

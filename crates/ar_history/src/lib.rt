@@ -4,19 +4,12 @@
 #![tactic(auto)]
 
 mod audit;
-mod counted;
 mod discard;
-mod history;
 mod host;
 mod kept;
-mod live;
-mod live_host;
-mod live_operate;
 mod operate;
 mod served_array;
 
 pub use audit::{Mismatch, Report, first_difference};
-pub use counted::CountedArray;
 pub use host::Served;
 pub use kept::Kept;
-pub use live::LiveArray;

@@ -8,12 +8,13 @@ ghost use Rattle.ar_core.specs.Step.{Steps, is_quiet};
 ghost use Rattle.ar_served.specs.Counts.{CountsNothing, CountsOperation, CountsTask};
 ghost use Rattle.ar_served.specs.Kept.{HistoryAgrees, MayGrow, StaysKept, history_entry};
 ghost use Rattle.ar_served.specs.Operations.{Does, IsNoMemory, IsRefused, event_of, event_of_task};
-ghost use Rattle.ar_history.specs.Recording.{AllocatesFor, entry_asked};
+ghost use Rattle.ar_live.specs.Live.{entry_asked};
+ghost use Rattle.ar_history.specs.Recording.{AllocatesFor};
 
 use crate::Kept;
-use crate::live_operate::is_done;
 use ar_core::{Event, EventOf, Outcome, OutcomeOf, PartFlush, Refusal, UnitRefusal};
 use ar_disks::{Addr, Disk};
+use ar_live::is_done;
 use ar_served::{Entry, Operation, OperationOf, Task, reserve_place};
 use std::sync::ledger::Ledger;
 

@@ -13,7 +13,7 @@ use Rattle.ar_served.specs.declared.entry.Entry.TheVariants as entries
 use Rattle.ar_served.specs.declared.entry.Exchange.{Exchange}
 use Rattle.ar_disks.specs.declared.address.Host.{Host}
 use Rattle.ar_served.specs.History.{address_in, unit_entry, entries_at, replay, Fits, IsLegal}
-use Rattle.ar_history.proofs.Keeping.{one_at, replay_more}
+use Rattle.ar_live.proofs.Keeping.{one_at, replay_more}
 use Rattle.ar_record.specs.Record.{RecordData, Command}
 use Rattle.ar_record.specs.Replay.{own_in, own_of, unit_of, changes_unit}
 use Rattle.ar_record.proofs.Replaying.{no_other_changes, own_of-append}

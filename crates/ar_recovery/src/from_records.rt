@@ -9,7 +9,7 @@ use crate::Recovery;
 use ar_core::NewDisk;
 use ar_disks::Disk;
 use ar_extents::StartFault;
-use ar_history::LiveArray;
+use ar_live::LiveArray;
 use ar_record::Record;
 use std::alloc::Global;
 use std::collections::VecDeque;

@@ -11,7 +11,7 @@ ghost use Rattle.ar_recovery.specs.Recovering.{Redoes, RedoesCommand};
 use ar_core::{Array, Health, NewDisk, OutcomeOf};
 use ar_disks::{Addr, Disk};
 use ar_extents::StartFault;
-use ar_history::LiveArray;
+use ar_live::LiveArray;
 use ar_record::{Record, changes_unit};
 use ar_scsi::{Reply, Status};
 use ar_served::{OperationOf, Task, is_idle};

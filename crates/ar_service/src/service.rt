@@ -13,7 +13,8 @@ use crate::operators::{MOST_OPERATORS, PendingStops};
 use crate::spares::Spares;
 use ar_core::{Array, Health, OutcomeOf, Refusal};
 use ar_disks::{Addr, Disk};
-use ar_history::{CountedArray, Kept, Mismatch, Report};
+use ar_history::{Kept, Mismatch, Report};
+use ar_live::CountedArray;
 use ar_operator::{DiskMaker, Fuse, WantedDisk};
 use ar_served::{Counts, OperableArray, Seat};
 use ar_sessions::{

@@ -11,7 +11,7 @@ use ar_command_line::StoredUnit;
 use ar_core::OutcomeOf;
 use ar_disks::{Addr, Disk, SECTOR_LEN};
 use ar_durable::{CommitPolicy, DurableArray, Store, StoreFolders, open_in, replay, restart};
-use ar_history::LiveArray;
+use ar_live::LiveArray;
 use ar_media::{Media, RegularFile};
 use ar_operator::{Fuse, FusedDisk, FusedMaker, start_fused};
 use ar_scsi::{Reply, Status};

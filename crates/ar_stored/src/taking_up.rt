@@ -16,8 +16,8 @@ use ar_copies::{CopiedFile, Losses};
 use ar_durable::{
     CopyFault, OpenedStore, Store, StoreFolders, checkpoint_in, open_copies_in, restart,
 };
-use ar_history::LiveArray;
 use ar_journal::CopyState;
+use ar_live::LiveArray;
 use ar_media::RegularFile;
 use ar_operator::{Fuse, FusedDisk, FusedMaker, start_fused};
 use log::{Log, warn};

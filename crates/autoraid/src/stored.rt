@@ -12,7 +12,7 @@ use ar_compaction::StoreHead;
 use ar_copies::Losses;
 use ar_disks::Disk;
 use ar_durable::{CommitPolicy, DurableArray, Store};
-use ar_history::LiveArray;
+use ar_live::LiveArray;
 use ar_media::Media;
 use ar_operator::{DiskMaker, Fuse, FusedDisk, FusedMaker};
 use ar_service::{

@@ -1,6 +1,6 @@
 use denote.Exit.{yes}
 use denote.Param.Send.{param_send, arg_send, given_send}
-use Rattle.ar_history.proofs.counted.CountedArray.TheSendSync as counted
+use Rattle.ar_live.proofs.counted.CountedArray.TheSendSync as counted
 use Rattle.ar_history.proofs.kept.Kept.TheSendSync as kept
 use Rattle.ar_service.proofs.service.serve.Goals as goal
 

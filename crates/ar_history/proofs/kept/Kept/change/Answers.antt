@@ -3,8 +3,9 @@ use Rattle.std.specs.Prelude.{count_by}
 use Rattle.ar_served.specs.declared.entry.Entry.{Entry}
 use Rattle.ar_served.specs.History.{is_command}
 use Rattle.ar_served.specs.Kept.{HistoryAgrees}
-use Rattle.ar_history.specs.Recording.{is_done}
-use Rattle.ar_history.proofs.Changing.{done_count, grown_done}
+use Rattle.ar_live.specs.Live.{is_done}
+use Rattle.ar_live.proofs.Changing.{done_count}
+use Rattle.ar_history.proofs.Changing.{grown_done}
 use Rattle.ar_history.proofs.kept.Kept.change.Goals as goal
 
 pub invariant_of-self : goal.invariant_of-self

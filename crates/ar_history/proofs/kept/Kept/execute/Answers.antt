@@ -4,7 +4,8 @@ use Rattle.ar_disks.specs.declared.address.Host.{Host}
 use Rattle.ar_served.specs.declared.entry.Exchange.{Exchange}
 use Rattle.ar_served.specs.Kept.{KeptState}
 use Rattle.ar_served.specs.Serving.{ServesCommand}
-use Rattle.ar_history.specs.Recording.{ServesHost, LeavesStorage}
+use Rattle.ar_live.specs.Live.{LeavesStorage}
+use Rattle.ar_history.specs.Recording.{ServesHost}
 use Rattle.ar_volume.specs.Image.{ArrayState}
 use Rattle.ar_history.proofs.Commands.{unrecorded, serves_from}
 use Rattle.ar_history.proofs.Memory.{begun_does, leaves_blocks}

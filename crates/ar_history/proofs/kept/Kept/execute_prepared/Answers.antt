@@ -11,7 +11,8 @@ use Rattle.ar_served.specs.Kept.{KeptState, HistoryAgrees}
 use Rattle.ar_served.specs.Seat.{SeatState}
 use Rattle.ar_served.specs.Serving.{Begins, ServesCommand, is_recorded}
 use Rattle.ar_history.specs.Recording.{IsUnrecorded, ServesHost}
-use Rattle.ar_history.proofs.Commands.{IsBusyFor, unrecorded, unrecorded_busy, unrecorded_history, recorded_parts}
+use Rattle.ar_live.proofs.Commands.{IsBusyFor, recorded_parts}
+use Rattle.ar_history.proofs.Commands.{unrecorded, unrecorded_busy, unrecorded_history}
 use Rattle.ar_history.proofs.Commands.{served_unstored, begins_busy}
 use Rattle.ar_history.proofs.kept.Kept.execute_prepared.Goals as goal
 

@@ -4,7 +4,7 @@ use Rattle.ar_volume.specs.Image.{ArrayState}
 use Rattle.ar_served.specs.declared.entry.Entry.{Entry}
 use Rattle.ar_served.specs.History.{is_command}
 use Rattle.ar_served.specs.Kept.{HistoryAgrees}
-use Rattle.ar_history.proofs.Keeping.{kept_none}
+use Rattle.ar_live.proofs.Keeping.{kept_none}
 use Rattle.ar_history.proofs.kept.Kept.start.Goals as goal
 
 pub invariant_of-kept : goal.invariant_of-kept

@@ -1,5 +1,0 @@
-use Rattle.ar_history.proofs.Unmapping.{unmap_not_busy}
-use Rattle.ar_history.proofs.live.LiveArray.discard.Goals as goal
-
-pub returns-clause-done : goal.returns-clause-done
-returns-clause-done g c = unmap_not_busy _ _ _ _ _ _ _ _ c.unmap-reply.ensures.serves

@@ -1,0 +1,5 @@
+pub mod Changing
+pub mod Commands
+pub mod Keeping
+pub mod Memory
+pub mod Unmapping
