@@ -101,7 +101,7 @@ class Copies(Mirrored):
         self.are_same("after a stop")
 
     def test_either_is_lost(self):
-        """After a kill the contents are those of the copy that is left, and the other is made anew."""
+        """After a kill the contents are those of the copy that is left, and the other is written again."""
         self.creates()
         for number, folder in enumerate(self.folders * 2):
             self.killed_after(8 * number, 8)
@@ -113,7 +113,7 @@ class Copies(Mirrored):
             self.holds_sectors(server, 8 * number + 8, f"without {folder}")
             server.kill()
             said = server.ended().error
-            self.holds(f"store {folder}: made anew from the other copy" in said, "a line of the log", said)
+            self.holds(f"store {folder}: written again from the other copy" in said, "a line of the log", said)
             self.are_same(f"after a start without {folder}")
 
     def test_each_file_is_damaged(self):

@@ -3,3 +3,4 @@ pub mod Replays
 pub mod Appends
 pub mod Switching
 pub mod Graduating
+pub mod Storing

@@ -6,10 +6,14 @@
 mod error;
 mod gradual;
 mod log_replay;
+mod opening;
 mod reading;
 mod replacing;
+mod store;
 mod successor;
 
 pub use error::CheckpointError;
 pub use gradual::{GradualCheckpoint, make_piece};
+pub use opening::{RestartError, open_store};
 pub use replacing::checkpoint;
+pub use store::Store;

@@ -35,10 +35,11 @@ use Rattle.ar_checkpoint.specs.Successor.{log_records}
 use Rattle.ar_compaction.specs.Compaction.{IsCompaction}
 use Rattle.ar_durable.specs.Crashes.{AreCalls, AreCommitted, HoldsPrefix, HoldsUnits, KeepsCommitted, LeavesPrefix}
 use Rattle.ar_durable.specs.Crashes.{MakesPieces, MakesPrefix}
-use Rattle.ar_durable.specs.Durable.{AreRecords, DurableState, MakesUnits, NotesIf}
-use Rattle.ar_durable.specs.Store.{AppendsOrKeeps, IsAllClean, KeepsMedia, KeepsRecords, KeepsStoredUnits, MayLeave}
-use Rattle.ar_durable.specs.Store.{RecordStore, closed_store, is_given_up, stored_records}
-use Rattle.ar_durable.proofs.Keeping.{log_records-push, not_both}
+use Rattle.ar_recovery.specs.Stored.{AreRecords, MakesUnits}
+use Rattle.ar_durable.specs.Durable.{DurableState, NotesIf}
+use Rattle.ar_checkpoint.specs.Store.{AppendsOrKeeps, IsAllClean, KeepsMedia, KeepsRecords, KeepsStoredUnits, MayLeave}
+use Rattle.ar_checkpoint.specs.Store.{RecordStore, closed_store, is_given_up, stored_records}
+use Rattle.ar_checkpoint.proofs.Storing.{log_records-push, not_both}
 
 -- the first part of a history is that of a longer one
 pub prefix_grows : (records : List RecordData) (entries history more : List Entry) → MakesPrefix records entries history

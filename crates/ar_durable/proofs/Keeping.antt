@@ -1,12 +1,7 @@
 -- The records of a store go along with the history.
-use Rattle.std.proofs.Common.{◌≡◌, ◌≢◌, inl, inr, ℕ, Bool, true, false, cond, ◌&&◌, List, [], ◌∷◌, ◌++◌, Option, Some}
-use Rattle.std.proofs.Common.{None, IsTrue, Vec}
-use Rattle.std.specs.Option.{is_some}
-use Rattle.std.proofs.Common.{Result, Ok, Err, OnOk, IfErr, IfNone, IfSome, not, refl, sym, ◌∙◌, ap, subst}
-use Rattle.std.proofs.Common.{append_assoc, append-nil}
-use Rattle.std.specs.List.{flat_map}
+use Rattle.std.proofs.Common.{◌≡◌, ℕ, Bool, true, false, cond, ◌&&◌, List, [], ◌∷◌, ◌++◌, Option, Some, None, Vec}
+use Rattle.std.proofs.Common.{inl, inr, IsTrue, Ok, Err, refl, sym, ◌∙◌, ap, subst, append_assoc, append-nil}
 use Rattle.std.specs.declared.alloc.Global.{Global}
-use Rattle.std.proofs.lemmas.Grind.{flat_map-append}
 use Rattle.ar_disks.specs.declared.address.Addr.{Addr}
 use Rattle.ar_disks.specs.declared.address.Host.{Host}
 use Rattle.ar_disks.specs.Disk.{DiskState}
@@ -17,12 +12,9 @@ use Rattle.ar_core.specs.Events.{Outcome}
 use Rattle.ar_core.specs.declared.event.EventOf.TheVariants as events
 use Rattle.ar_core.specs.declared.event.OutcomeOf.TheVariants as outcomes
 use Rattle.ar_log.specs.Codec.{Batch}
-use Rattle.ar_log.specs.Failure.{is_final}
-use Rattle.ar_log.specs.Log.{Appends, HoldsBatches, KeepsBatches, batches_of}
-use Rattle.ar_log.specs.declared.error.LogError.{LogError}
+use Rattle.ar_log.specs.Log.{HoldsBatches, batches_of}
 use Rattle.ar_log.proofs.Standing.{batches_of_stands}
-use Rattle.ar_journal.specs.Journal.{ClosesJournal, IsReady, batches_now}
-use Rattle.ar_journal.specs.declared.journal.Journal.{Journal}
+use Rattle.ar_journal.specs.Journal.{IsReady, batches_now}
 use Rattle.ar_journal.proofs.Naming.{chosen_named}
 use Rattle.ar_served.specs.declared.entry.Entry.{Entry}
 use Rattle.ar_served.specs.declared.entry.Entry.TheVariants as entries
@@ -35,27 +27,13 @@ use Rattle.ar_record.specs.Replay.{changes_unit, own_of, unit_of}
 use Rattle.ar_record.proofs.Records.{all_decoded-append, decoded_again}
 use Rattle.ar_record.proofs.Replaying.{own_of-append, unit_of-append}
 use Rattle.ar_recovery.specs.Logging.{records_of}
+use Rattle.ar_recovery.specs.Stored.{AreRecords, MakesUnits}
 use Rattle.ar_recovery.proofs.Logging.{log_suffices}
 use Rattle.ar_recovery.proofs.Recovering.{own_records-append}
+use Rattle.ar_checkpoint.specs.Store.{KeepsStoredUnits, RecordStore, is_given_up, stored_records}
 use Rattle.ar_checkpoint.specs.Successor.{log_records}
-use Rattle.ar_checkpoint.specs.Gradual.{GoesWithIf, HasFirstBatch, KeepsLogUnits, other_medium}
-use Rattle.ar_checkpoint.proofs.Graduating.{follows_appended}
-use Rattle.ar_checkpoint.specs.declared.gradual.GradualCheckpoint.{GradualCheckpoint}
-use Rattle.ar_durable.specs.Store.{KeepsStoredUnits, RecordStore, Lasts, is_given_up, stored_records}
-use Rattle.ar_durable.specs.Durable.{AreRecords, EncodesTo, MakesUnits, NotesIf, is_made, is_grown, is_removed}
-
-pub not_both : (b : Bool) → b ≡ true → b ≡ false → ⊥
-not_both b is not = let e : true ≡ false = sym is ∙ not in cc e
-
--- the records of one batch more
-pub log_records-push : (batches : List Batch) (batch : Batch) → batches ≢ []
-    → log_records (batches ++ batch ∷ []) ≡ log_records batches ++ all_decoded batch
-log_records-push [] batch some = absurd (some refl)
-log_records-push (head ∷ batches) batch some =
-    ap all_decoded
-    (flat_map-append (λ (b : Batch). b) batches (batch ∷ [])
-    ∙ ap (λ (l : Batch). flat_map (λ (b : Batch). b) batches ++ l) (append-nil batch))
-    ∙ all_decoded-append (flat_map (λ (b : Batch). b) batches) batch
+use Rattle.ar_checkpoint.proofs.Storing.{not_both}
+use Rattle.ar_durable.specs.Durable.{EncodesTo, Lasts, NotesIf, is_made, is_grown, is_removed}
 
 module _ {M : Type 0} (seen : M → List ℕ) (may_leave : M → List ℕ → Type 0) (is_clean : M → Bool) where
   -- the records with one more that waits
@@ -113,18 +91,6 @@ module _ {M : Type 0} (seen : M → List ℕ) (may_leave : M → List ℕ → Ty
         same = was.same;
       }))
 
-  -- the records that waited are in the journal, and none waits
-  pub committed : (old new : Journal M) (waiting : Batch) → HasFirstBatch seen is_clean old
-      → old.active.is_closed ≡ false
-      → IsTrue (is_clean old.active.media)
-      → batches_now seen new ≡ batches_now seen old ++ waiting ∷ []
-      → log_records (batches_now seen new) ++ all_decoded []
-      ≡ log_records (batches_now seen old) ++ all_decoded waiting
-  committed old new waiting head going clean appended =
-      append-nil (log_records (batches_now seen new))
-      ∙ ap log_records appended
-      ∙ log_records-push (batches_now seen old) waiting (head going clean)
-
   -- after a commit every crash leaves the history's records
   pub lasts : (store : RecordStore M) (history : List Entry) → IsReady seen may_leave is_clean store.journal
       → is_given_up store ≡ false → store.waiting ≡ [] → AreRecords seen is_clean store history → IsLegal history
@@ -141,62 +107,6 @@ module _ {M : Type 0} (seen : M → List ℕ) (may_leave : M → List ℕ → Ty
       ∙ ap (λ (w : Batch). unit_of (log_records (batches_now seen store.journal) ++ all_decoded w) a) (sym none)
       ∙ made.same a
       ∙ log_suffices made.full history made.log legal a
-
--- an append, by how it ended: the first batch stays, and a checkpoint goes with the journal still
-push_some : (l : List Batch) (x : Batch) → l ++ x ∷ [] ≡ [] → ⊥
-push_some [] x none = cc none
-push_some (y ∷ l) x none = cc none
-
-was_open : {M T : Type 0} (old new : Journal M) (result : Result T LogError) (is_closed : Bool)
-    → old.active.is_closed ≡ is_closed → ClosesJournal old new result → new.active.is_closed ≡ false
-    → old.active.is_closed ≡ false
-was_open old new result true is closes now =
-    absurd (not_both new.active.is_closed (ap (λ (j : Journal _). j.active.is_closed) (closes.closed is).1 ∙ is) now)
-was_open old new result false is closes now = is
-
-pub first_appended : {M : Type 0} (seen : M → List ℕ) (may_leave : M → List ℕ → Type 0) (is_clean : M → Bool)
-    (batch : Batch) (old new : Journal M) (result : Result Unit LogError)
-    → ClosesJournal old new result
-    → OnOk result (IsTrue (is_clean old.active.media) → Appends seen may_leave batch old.active new.active)
-    → IfErr result (λ e. is_final e ≡ false → old.active.is_closed ≡ false → IsTrue (is_clean old.active.media)
-    → KeepsBatches seen may_leave old.active new.active)
-    → is_clean new.active.media ≡ is_clean old.active.media
-    → HasFirstBatch seen is_clean old → HasFirstBatch seen is_clean new
-first_appended seen may_leave is_clean batch old new (Ok x) closes acknowledged kept same first = λ now clean none.
-    push_some (batches_now seen old) batch (sym (acknowledged (subst IsTrue same clean)).batches ∙ none)
-first_appended seen may_leave is_clean batch old new (Err e) closes acknowledged kept same first = λ now clean none.
-    (let before = was_open old new (Err e) old.active.is_closed refl closes now in
-    let was = subst IsTrue same clean in
-    first before was (sym (kept (sym (closes.closes before) ∙ now) before was).batches ∙ none))
-
-pub goes_with_appended : {M : Type 0} (seen : M → List ℕ) (may_leave : M → List ℕ → Type 0) (is_clean : M → Bool)
-    (batch : Batch) (old new : Journal M) (result : Result Unit LogError) (checkpoint : Option (GradualCheckpoint M))
-    → ClosesJournal old new result
-    → OnOk result (IsTrue (is_clean old.active.media) → Appends seen may_leave batch old.active new.active)
-    → IfErr result (λ e. is_final e ≡ false → old.active.is_closed ≡ false → IsTrue (is_clean old.active.media)
-    → KeepsBatches seen may_leave old.active new.active)
-    → is_clean new.active.media ≡ is_clean old.active.media
-    → GoesWithIf seen may_leave is_clean old checkpoint → GoesWithIf seen may_leave is_clean new checkpoint
-goes_with_appended seen may_leave is_clean batch old new result None closes acknowledged kept same goes = tt
-goes_with_appended seen may_leave is_clean batch old new result (Some checkpoint) closes acknowledged kept same goes =
-    follows_appended seen may_leave is_clean batch old new result checkpoint closes acknowledged kept same goes
-
--- a piece of a checkpoint keeps what the records make of each unit, with those that wait
-pub stored_kept : {M : Type 0} (seen : M → List ℕ) (is_clean : M → Bool) (old new : Journal M) (waiting : Batch)
-    (checkpoint next : Option (GradualCheckpoint M))
-    → KeepsLogUnits seen is_clean old checkpoint next new
-    → KeepsStoredUnits seen is_clean
-    (record { journal = old; waiting = waiting; other = other_medium old checkpoint })
-    (record { journal = new; waiting = waiting; other = other_medium new next })
-stored_kept seen is_clean old new waiting checkpoint next keeps = record {
-  going = keeps.was_open;
-  clean = λ now all. record {
-    active = keeps.active now all.active all.other;
-    other = keeps.other now all.active all.other;
-  };
-  units = λ now all a. keeps.units now all.active all.other a;
-  waiting = refl;
-}
 
 -- a store that keeps what its records make of each unit has records of the same history
 pub records_kept : {M : Type 0} (seen : M → List ℕ) (is_clean : M → Bool) (old new : RecordStore M)
@@ -216,20 +126,6 @@ records_kept seen is_clean old new history keeps are = λ going all.
           ∙ sym (unit_of-append a log (all_decoded old.waiting))
           ∙ was.same a;
     })
-
--- what holds where there is none, if there is none
-pub where_none : {T : Type 0} (found : Option T) (none : Bool) (X : Type 0) → is_some found ≡ not none → none ≡ true
-    → IfNone found X → X
-where_none None none X is holds given = given
-where_none (Some x) none X is holds given =
-    absurd (let e : true ≡ false = is ∙ ap not holds in cc e)
-
--- what holds where there is one, if there is one
-pub where_some : {T : Type 0} (found : Option T) (none : Bool) (X : Type 0) → is_some found ≡ not none → none ≡ false
-    → IfSome found (λ _. X) → X
-where_some None none X is holds given =
-    absurd (let e : false ≡ true = is ∙ ap not holds in cc e)
-where_some (Some x) none X is holds given = given
 
 -- the record of a command, if it is noted, is that of its entry
 pub command_same : (recorded changes : Bool) (a : Address) (host : Host) (lun : ℕ) (cdb payload : List ℕ)

@@ -1,4 +1,3 @@
 pub mod Crashing
 pub mod Discarding
 pub mod Keeping
-pub mod Replaying

@@ -14,7 +14,7 @@ use Rattle.ar_checkpoint.specs.Successor.{log_records}
 use Rattle.ar_volume.specs.Image.{image, is_broken}
 use Rattle.ar_volume.specs.Sectors.{Address}
 use Rattle.ar_durable.specs.Durable.{DurableState}
-use Rattle.ar_durable.specs.Store.{IsAllClean, KeepsMedia, KeepsStoredUnits, RecordStore, is_given_up}
+use Rattle.ar_checkpoint.specs.Store.{IsAllClean, KeepsMedia, KeepsStoredUnits, RecordStore, is_given_up}
 
 -- These records make each unit what its own entries in the first part of the history make it, which has all committed
 -- entries.

@@ -1,3 +1,2 @@
 pub mod Crashes
 pub mod Durable
-pub mod Store

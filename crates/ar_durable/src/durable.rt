@@ -10,16 +10,15 @@ ghost use Rattle.ar_served.specs.Seat.{SeatState};
 ghost use Rattle.ar_served.specs.Served.{AnswersCommand, DestagesPart, DiscardsSectors, Maintains, Operates};
 ghost use Rattle.ar_served.specs.Served.{acknowledges, after_refusal, asks_commit};
 ghost use Rattle.ar_durable.specs.Crashes.{AreCommitted, KeepsCommitted};
-ghost use Rattle.ar_durable.specs.Durable.{AreRecords};
-ghost use Rattle.ar_durable.specs.Store.{Lasts};
+ghost use Rattle.ar_recovery.specs.Stored.{AreRecords};
+ghost use Rattle.ar_durable.specs.Durable.{Lasts};
 
-use crate::Store;
 use crate::records::{
     encoded, encoded_command, is_acknowledged, is_added, is_forced, is_grown, is_made, is_noted,
     is_removed, note_if,
 };
 use crate::sharing::Sharing;
-use ar_checkpoint::CheckpointError;
+use ar_checkpoint::{CheckpointError, Store};
 use ar_compaction::{MAX_NAME, StoreHead};
 use ar_core::{Array, NewDisk, Outcome, PartFlush};
 use ar_disks::{Addr, Disk, Host};
@@ -95,7 +94,8 @@ pub struct DurableArray<'a, D: Disk, L: Ledger, M: Media, R> {
 
 impl<'a, D: Disk, L: Ledger, M: Media, R> Model for DurableArray<'a, D, L, M, R> {
     ghost use Rattle.std.specs.Prelude.{◌≡◌, IsTrue, false};
-    ghost use Rattle.ar_durable.specs.Durable.{AreRecords, DurableState};
+    ghost use Rattle.ar_recovery.specs.Stored.{AreRecords};
+    ghost use Rattle.ar_durable.specs.Durable.{DurableState};
 
     ghost Value = { DurableState M };
 

@@ -8,7 +8,7 @@ ghost use Rattle.ar_record.specs.Replay.{changes_unit};
 ghost use Rattle.ar_record.specs.Record.{Command, IsEncodable, data_of};
 ghost use Rattle.ar_durable.specs.Durable.{EncodesTo, NotesIf, is_grown, is_made, is_removed};
 
-use crate::Store;
+use ar_checkpoint::Store;
 use ar_core::{Array, OutcomeOf};
 use ar_disks::{Addr, Disk};
 use ar_media::Media;

@@ -17,7 +17,7 @@ use std::time::Clock;
 impl<'a, D: Disk + Drop, L: Ledger, M: Media + Drop, R: Clock + Log> ServedArray<L>
     for DurableArray<'a, D, L, M, R> {
     ghost use Rattle.std.specs.Prelude.{false, true};
-    ghost use Rattle.ar_durable.specs.Store.{Lasts};
+    ghost use Rattle.ar_durable.specs.Durable.{Lasts};
 
     ghost state = { λ durable. durable.kept };
 

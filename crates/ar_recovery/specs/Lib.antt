@@ -1,5 +1,6 @@
 pub mod Logging
 pub mod Recovering
+pub mod Stored
 pub use Rattle.ar_record.specs.Record
 pub use Rattle.ar_record.specs.Replay
 pub use Rattle.ar_unit.specs.Unit

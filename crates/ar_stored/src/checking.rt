@@ -1,12 +1,10 @@
 // A store is read and executed, and what it holds is printed.
-use crate::fault::{StoreCause, StoreFault, fault};
-use crate::setup::setup_in;
-use crate::source::FusedSource;
+use crate::executing::{ReadStore, read_store};
+use crate::fault::{StoreCause, StoreFault};
 use ar_compaction::StoreHead;
 use ar_core::Array;
 use ar_disks::{Addr, Disk, Host};
-use ar_durable::{open_in, replay};
-use ar_operator::{Fuse, FusedMaker, start_fused};
+use ar_operator::Fuse;
 use std::alloc::Global;
 use std::io;
 
@@ -16,16 +14,16 @@ const ADDRESSES: u8 = 32;
 /// Reads all of the store in a folder and executes its records on an array in memory, and prints what it holds. Nothing
 /// is written.
 pub fn check(rt: &HostRuntime, alloc: Global, folder: &str) -> Result<(), StoreFault> {
-    check_store(rt, alloc, folder).map_err(|cause| fault(alloc, folder, cause))
+    check_store(rt, alloc, folder).map_err(|cause| StoreFault::new(alloc, folder, cause))
 }
 
 fn check_store(rt: &HostRuntime, alloc: Global, folder: &str) -> Result<(), StoreCause> {
-    let (head, mut reader) = open_in(rt, alloc, folder)?;
     let fuses = Fuse::twelve();
-    let array = start_fused(alloc, setup_in(&head, 0), &fuses).map_err(|_| StoreCause::Start)?;
-    let mut source = FusedSource::new(FusedMaker::new(&fuses));
-    let mut makes = head.makes;
-    let (live, records) = replay(alloc, &mut reader, array, &mut source, &mut makes)?;
+    let ReadStore {
+        head,
+        live,
+        records,
+    } = read_store(rt, alloc, folder, &fuses)?;
     let reported = tell_contents(rt, &head, live.array(), records);
     drop(live);
     reported.map_err(|_| StoreCause::Write)

@@ -1,10 +1,10 @@
 // A new store.
 ghost use Rattle.std.specs.Prelude.{◌≤◌, IfOk, length};
 
-use crate::fault::{StoreCause, StoreFault, fault};
+use crate::fault::{StoreCause, StoreFault};
 use ar_command_line::CreateOptions;
 use ar_compaction::{Makes, StoreHead};
-use ar_durable::{create_in, has_store};
+use ar_folder::{create_in, has_store};
 use std::alloc::Global;
 use std::io;
 use std::random::RandomSource;
@@ -12,15 +12,15 @@ use std::random::RandomSource;
 /// Creates a store with an array without units, in one folder or two, and says so.
 pub fn create(rt: &HostRuntime, alloc: Global, options: &CreateOptions) -> Result<(), StoreFault> {
     let folder = options.store.as_str();
-    let head = new_head(rt, alloc, options).map_err(|cause| fault(alloc, folder, cause))?;
+    let head = new_head(rt, alloc, options).map_err(|cause| StoreFault::new(alloc, folder, cause))?;
     let Some(mirror) = &options.mirror else {
         create_copy(rt, alloc, folder, &head)?;
         return tell(alloc, folder, println!(rt; "created {folder}"));
     };
     let mirror = mirror.as_str();
     // Nothing is created where there is a store already.
-    if has_store(rt, alloc, mirror).map_err(|error| fault(alloc, mirror, error.into()))? {
-        return Err(fault(alloc, mirror, StoreCause::Exists));
+    if has_store(rt, alloc, mirror).map_err(|error| StoreFault::new(alloc, mirror, error.into()))? {
+        return Err(StoreFault::new(alloc, mirror, StoreCause::Exists));
     }
     create_copy(rt, alloc, folder, &head)?;
     create_copy(rt, alloc, mirror, &head)?;
@@ -59,10 +59,10 @@ fn create_copy(
 ) -> Result<(), StoreFault>
     requires { length head.now.name.items ≤ 64 }
 {
-    create_in(rt, alloc, folder, head).map_err(|error| fault(alloc, folder, error.into()))
+    create_in(rt, alloc, folder, head).map_err(|error| StoreFault::new(alloc, folder, error.into()))
 }
 
 // The fault of a store of which the result can't be printed.
 fn tell(alloc: Global, folder: &str, printed: io::Result<()>) -> Result<(), StoreFault> {
-    printed.map_err(|_| fault(alloc, folder, StoreCause::Write))
+    printed.map_err(|_| StoreFault::new(alloc, folder, StoreCause::Write))
 }

@@ -1,14 +1,13 @@
-// Why a store isn't created, checked, taken up or filled.
-use ar_checkpoint::CheckpointError;
+// Why a store isn't created, checked or taken up.
+use ar_checkpoint::{CheckpointError, RestartError};
 use ar_compaction::HeadError;
-use ar_core::Refusal;
-use ar_durable::{FolderError, RestartError};
+use ar_folder::FolderError;
 use ar_log::LogError;
 use std::alloc::Global;
 use std::io::ErrorKind;
 use thiserror::Error;
 
-/// Why a store isn't created, checked, taken up or filled, and its folder.
+/// Why a store isn't created, checked or taken up, and its folder.
 #[derive(Debug, Drop, Error)]
 #[error("store {folder}: {cause}")]
 pub struct StoreFault {
@@ -16,7 +15,17 @@ pub struct StoreFault {
     cause: StoreCause,
 }
 
-/// Why a store isn't created, checked, taken up or filled.
+impl StoreFault {
+    /// The fault of the store in a folder. Out of memory, the folder isn't named.
+    pub fn new(alloc: Global, folder: &str, cause: StoreCause) -> StoreFault {
+        StoreFault {
+            folder: String::from_str(alloc, folder).unwrap_or_else(|_| String::new(alloc)),
+            cause,
+        }
+    }
+}
+
+/// Why a store isn't created, checked or taken up.
 #[derive(Clone, Copy, Debug, PartialEq, Eq, Error)]
 pub enum StoreCause {
     #[error("no store is there")]
@@ -59,22 +68,6 @@ pub enum StoreCause {
     Random,
     #[error("standard output can't be written")]
     Write,
-    #[error("the unit isn't there")]
-    NoUnit,
-    #[error("the unit can't be created: {0}")]
-    Refused(Refusal),
-    #[error("standard output is a terminal, and an image is no text")]
-    Terminal,
-    #[error("standard input can't be read")]
-    Input,
-    #[error("the image has more than {0} sectors")]
-    LongImage(u32),
-    #[error("the image ends in a part of a sector")]
-    PartSector,
-    #[error("a command to its array has failed")]
-    Failed,
-    #[error("can't be written")]
-    Commit,
     #[error("no memory")]
     NoMemory,
 }
@@ -117,13 +110,5 @@ pub(crate) fn cause_of(error: LogError) -> StoreCause {
         LogError::OtherVersion => StoreCause::OtherVersion,
         LogError::Damaged { offset } => StoreCause::Damaged(offset),
         error => StoreCause::Read(error),
-    }
-}
-
-// The fault of the store in a folder. Out of memory, the folder isn't named.
-pub(crate) fn fault(alloc: Global, folder: &str, cause: StoreCause) -> StoreFault {
-    StoreFault {
-        folder: String::from_str(alloc, folder).unwrap_or_else(|_| String::new(alloc)),
-        cause,
     }
 }

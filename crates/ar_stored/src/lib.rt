@@ -1,18 +1,18 @@
-//! What the program does with a store beside serving it: a store is created, checked and taken up, its log is replaced,
-//! and what a unit holds is written out or filled from an image.
+//! What the program does with a store beside serving it: a store is created, checked and taken up, and its log is
+//! replaced.
 #![tactic(auto)]
 
 mod checking;
 mod creating;
+mod executing;
 mod fault;
-mod images;
 mod setup;
 mod source;
 mod taking_up;
 
 pub use checking::check;
 pub use creating::create;
+pub use executing::{ReadStore, Restarted, read_store, restart_store};
 pub use fault::{StoreCause, StoreFault};
-pub use images::{export, import};
-pub use setup::{folders_of, policy_of, setup_in};
+pub use setup::{folders_of, setup_in};
 pub use taking_up::{StoreFile, TakenUp, compact, take_up};

@@ -1,13 +1,9 @@
 // What the command line asks of a store, and what the store's head says.
 use crate::fault::StoreCause;
-use ar_command_line::{ShapeOptions, StoreOptions, SyncMode};
+use ar_command_line::{ShapeOptions, StoreOptions};
 use ar_compaction::StoreHead;
-use ar_durable::{CommitPolicy, StoreFolders};
+use ar_folder::StoreFolders;
 use ar_script::Setup;
-use std::time::Duration;
-
-/// A log that is shorter than this, in bytes, isn't replaced while it is served.
-const LEAST_LOG: usize = 64 << 20;
 
 /// The configuration of a store's array, with a cache of this size in blocks.
 pub fn setup_in(head: &StoreHead, cache: u32) -> Setup {
@@ -55,14 +51,5 @@ pub(crate) fn folder_in<'a>(folders: StoreFolders<'a>, is_second: bool) -> &'a s
     match folders.second {
         Some(second) if is_second => second,
         _ => folders.first,
-    }
-}
-
-/// When records are committed.
-pub fn policy_of(options: &StoreOptions) -> CommitPolicy {
-    CommitPolicy {
-        always: options.sync == SyncMode::Always,
-        every: Duration::from_secs(u64::from(options.commit_every)),
-        least_log: LEAST_LOG,
     }
 }

@@ -1,7 +1,7 @@
 // The disks that records add.
 use ar_disks::Geometry;
-use ar_durable::DiskSource;
 use ar_operator::{DiskMaker, FusedDisk, FusedMaker};
+use ar_recovery::DiskSource;
 use std::alloc::Global;
 
 /// The disks that records add, each on the fuse of its number.

@@ -4,22 +4,19 @@ ghost use Rattle.ar_media.specs.Regular.{regular_is_clean, regular_may_leave, re
 ghost use Rattle.ar_copies.specs.Copied.{copied_is_clean, copied_may_leave, copied_seen};
 ghost use Rattle.ar_journal.specs.Reader.{IsReading, batches_read};
 ghost use Rattle.ar_checkpoint.specs.Successor.{IsHeadAlone};
-ghost use Rattle.ar_durable.specs.Durable.{AreRecords};
+ghost use Rattle.ar_recovery.specs.Stored.{AreRecords};
 
 use crate::checking::count_units;
-use crate::fault::{StoreCause, StoreFault, cause_of, fault};
-use crate::setup::{check_disks, check_shape, folder_in, folders_of, setup_in};
-use crate::source::FusedSource;
-use ar_command_line::StoreOptions;
-use ar_compaction::{Makes, StoreHead};
+use crate::executing::{Restarted, restart_store};
+use crate::fault::{StoreCause, StoreFault, cause_of};
+use crate::setup::{check_disks, check_shape, folder_in, folders_of};
+use ar_command_line::{ShapeOptions, StoreOptions};
 use ar_copies::{CopiedFile, Losses};
-use ar_durable::{
-    CopyFault, OpenedStore, Store, StoreFolders, checkpoint_in, open_copies_in, restart,
-};
+use ar_folder::{CopyFault, OpenedStore, StoreFolders, checkpoint_in, open_copies_in};
 use ar_journal::CopyState;
 use ar_live::LiveArray;
 use ar_media::RegularFile;
-use ar_operator::{Fuse, FusedDisk, FusedMaker, start_fused};
+use ar_operator::{Fuse, FusedDisk};
 use log::{Log, warn};
 use std::alloc::Global;
 use std::io;
@@ -29,16 +26,7 @@ use std::time::{Clock, Instant};
 pub type StoreFile<'a> = CopiedFile<'a, RegularFile>;
 
 /// A store that was taken up.
-#[derive(Drop)]
-pub struct TakenUp<'a> {
-    pub head: StoreHead,
-    /// The array on which the records were executed.
-    pub live: LiveArray<FusedDisk<'a>>,
-    /// The store, which goes on.
-    pub store: Store<StoreFile<'a>>,
-    /// How many units were made at each address.
-    pub makes: Makes,
-}
+pub type TakenUp<'a> = Restarted<'a, StoreFile<'a>>;
 
 /// Opens a store, executes its records on a new array, with a cache of this size in blocks, and prints what that took.
 /// The store goes on with the records of the array's history. Of two copies the log has what was made of each.
@@ -59,13 +47,13 @@ pub fn take_up<'a, R: Print + Clock + Log>(
     let opened = match open_copies_in(files, alloc, folders, losses) {
         Ok(opened) => opened,
         Err(CopyFault { is_second, error }) => {
-            return Err(fault(alloc, folder_in(folders, is_second), error.into()));
+            return Err(StoreFault::new(alloc, folder_in(folders, is_second), error.into()));
         }
     };
     tell_copies(rt, folders, opened.first, opened.second);
     match restart_array(rt, alloc, options, cache, fuses, opened, began) {
         Ok(taken) => Ok(taken),
-        Err(cause) => Err(fault(alloc, folders.first, cause)),
+        Err(cause) => Err(StoreFault::new(alloc, folders.first, cause)),
     }
 }
 
@@ -82,11 +70,11 @@ fn tell_copy<R: Log>(rt: &R, folder: &str, state: CopyState) {
     match state {
         CopyState::Taken | CopyState::Extended => {}
         CopyState::Rewritten => {
-            warn!(rt; "store {folder}: made anew from the other copy, which it differed from");
+            warn!(rt; "store {folder}: written again from the other copy, which it differed from");
         }
         CopyState::Restored(error) => {
             let cause = cause_of(error);
-            warn!(rt; "store {folder}: made anew from the other copy: {cause}");
+            warn!(rt; "store {folder}: written again from the other copy: {cause}");
         }
         CopyState::GivenUp(error) => {
             let cause = cause_of(error);
@@ -114,19 +102,22 @@ fn restart_array<'a, R: Print + Clock>(
 {
     let OpenedStore { head, reader, .. } = opened;
     check_shape(&head, options.shape)?;
-    let array = start_fused(alloc, setup_in(&head, cache), fuses).map_err(|_| StoreCause::Start)?;
-    let mut source = FusedSource::new(FusedMaker::new(fuses));
-    let mut makes = head.makes;
-    let (live, store, records) = restart(alloc, reader, array, &mut source, &mut makes)?;
-    check_disks(live.array().disks(), options.shape)?;
+    let taken = restart_store(alloc, cache, fuses, head, reader)?;
+    tell_taken(rt, options.shape, &taken.live, taken.records, began)?;
+    Ok(taken)
+}
+
+// Compares the number of disks with what the command line asks for, and prints what the start has done.
+fn tell_taken<'a, R: Print + Clock>(
+    rt: &R,
+    shape: ShapeOptions,
+    live: &LiveArray<FusedDisk<'a>>,
+    records: u64,
+    began: Option<Instant>,
+) -> Result<(), StoreCause> {
+    check_disks(live.array().disks(), shape)?;
     let units = count_units(live.array());
-    tell_start(rt, units, records, began).map_err(|_| StoreCause::Write)?;
-    Ok(TakenUp {
-        head,
-        live,
-        store,
-        makes,
-    })
+    tell_start(rt, units, records, began).map_err(|_| StoreCause::Write)
 }
 
 // Prints what a start has done.

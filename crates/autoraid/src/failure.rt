@@ -1,8 +1,8 @@
 // Failures of the program, with their messages and exit status.
-use crate::drawing::DrawingFault;
-use crate::serve::ServeFault;
 use ar_cli::ExitStatus;
-use ar_language::Fault;
+use ar_images::ImageFault;
+use ar_play::PlayFault;
+use ar_server::ServeFault;
 use ar_stored::StoreFault;
 use thiserror::Error;
 
@@ -13,16 +13,13 @@ pub enum Failure {
     #[error("write fault")]
     Write,
     #[error(transparent)]
-    Script(Fault),
-    /// A fault of a script, and what is wrong with its line.
-    #[error("{0}\n{1}")]
-    Line(Fault, String),
-    #[error(transparent)]
-    Drawing(DrawingFault),
+    Play(PlayFault),
     #[error(transparent)]
     Serve(ServeFault),
     #[error(transparent)]
     Store(StoreFault),
+    #[error(transparent)]
+    Image(ImageFault),
 }
 
 impl ExitStatus for Failure {
@@ -32,8 +29,7 @@ impl ExitStatus for Failure {
 
     fn status(&self) -> u8 {
         match self {
-            Failure::Serve(ServeFault::DataLost) => 3,
-            Failure::Serve(ServeFault::Store) => 4,
+            Failure::Serve(fault) => fault.status(),
             _ => 1,
         }
     }

@@ -8,31 +8,20 @@ ghost use Rattle.std.specs.Process.{exit_status};
 ghost use Rattle.ar_cli.specs.Exit.{status_after};
 ghost use Rattle.autoraid.specs.Failures.{status_of_failure};
 
-mod command_line;
-mod dialogue;
-mod drawing;
 mod failure;
-mod makes;
-mod operators;
-mod serve;
 mod stored;
 
 use ar_cli::{ExitStatus, end_with, fail, words_of};
 use ar_command_line::{
-    CreateOptions, Order, RunOptions, ServeOptions, StoredUnit, UsageFault, order_in,
+    ArrayOptions, CreateOptions, Order, RunOptions, ServeOptions, StoredUnit, UsageFault, order_in,
 };
-use ar_language::{Fault, Recent, Remembered};
 use ar_logging::{LogThread, TimedConsole};
-use ar_script::{Runner, Setup, run_on, run_script};
-use command_line::{RandomNumbers, Service, setup_of};
-use dialogue::{Manner, converse};
-use drawing::draw;
+use ar_play::run;
+use ar_server::{RandomNumbers, ServeFault, Service, run_server, setup_of};
 use failure::Failure;
 use log::{Level, Log, Logged};
-use serve::{ServeFault, run_server};
 use std::alloc::Global;
 use std::hash::RandomState;
-use std::io::{IsTerminal, Read};
 use std::net::{Net, TcpListener, TcpStream};
 use std::process::ExitCode;
 use std::random::RandomSource;
@@ -47,10 +36,10 @@ fn main(rt: HostRuntime) -> ExitCode {
     let alloc = rt.alloc();
     let done = match order(&rt) {
         Ok(Order::Shown(text)) => print!(rt; "{text}").map_err(|_| Failure::Write),
-        Ok(Order::Run(array, options)) => run(&rt, setup_of(array), &options),
+        Ok(Order::Run(array, options)) => play(&rt, array, &options),
         Ok(Order::Create(options)) => create(&rt, alloc, &options),
         Ok(Order::Check(folder)) => check(&rt, alloc, folder.as_str()),
-        Ok(Order::Export(unit)) => ar_stored::export(&rt, alloc, &unit).map_err(Failure::Store),
+        Ok(Order::Export(unit)) => ar_images::export(&rt, alloc, &unit).map_err(Failure::Image),
         Ok(Order::Import(unit)) => import(&rt, alloc, &unit),
         Ok(Order::Serve(options)) => {
             let (done, is_read) = serve_hosts(rt, &rt, alloc, options);
@@ -71,6 +60,10 @@ fn order(rt: &HostRuntime) -> Result<Order, UsageFault> {
     order_in(alloc, words.as_slice())
 }
 
+fn play(rt: &HostRuntime, array: ArrayOptions, options: &RunOptions) -> Result<(), Failure> {
+    run(rt, setup_of(array), options).map_err(Failure::Play)
+}
+
 fn create(rt: &HostRuntime, alloc: Global, options: &CreateOptions) -> Result<(), Failure> {
     ar_stored::create(rt, alloc, options).map_err(Failure::Store)
 }
@@ -82,7 +75,7 @@ fn check(rt: &HostRuntime, alloc: Global, folder: &str) -> Result<(), Failure> {
 // Writes standard input to a unit. The log has what failed.
 fn import(rt: &HostRuntime, alloc: Global, unit: &StoredUnit) -> Result<(), Failure> {
     let logged = Logged::new(rt, Level::Warn, TimedConsole(rt));
-    ar_stored::import(&logged.with_target(TARGET), rt, alloc, unit).map_err(Failure::Store)
+    ar_images::import(&logged.with_target(TARGET), rt, alloc, unit).map_err(Failure::Image)
 }
 
 // Serves hosts an array, that of a store or a new one, beside the thread that writes the log, and returns also whether
@@ -161,77 +154,4 @@ fn random_for(rt: &impl RandomSource, service: &Service) -> Result<RandomNumbers
         keys,
         array: u32::from_be_bytes(array),
     })
-}
-
-// Runs a script, and draws the array if a file is named. Its fault names what is wrong with its line.
-fn run(rt: &HostRuntime, setup: Setup, options: &RunOptions) -> Result<(), Failure> {
-    let manner = Manner {
-        echoes: options.echo,
-        at_terminal: rt.stdin().is_terminal() && rt.stdout().is_terminal(),
-    };
-    if options.picture.is_none() && !options.echo && !manner.at_terminal {
-        return run_plain(rt, setup);
-    }
-    match Runner::start(rt.alloc(), setup) {
-        Ok(mut runner) => {
-            let done = play_and_draw(rt, &mut runner, &options.picture, manner);
-            drop(runner);
-            done
-        }
-        Err(fault) => Err(Failure::Script(fault)),
-    }
-}
-
-// Runs a script whose answers alone are printed.
-fn run_plain(rt: &HostRuntime, setup: Setup) -> Result<(), Failure> {
-    let mut recent = Recent::new(rt.alloc());
-    let reader = Remembered::new(rt.stdin(), &mut recent);
-    let end = run_script(rt.alloc(), reader, rt.stdout(), setup).end;
-    explained(rt.alloc(), end, &recent)
-}
-
-// Runs a script, and draws the array after it. It is drawn also if a fault has ended the script; that fault takes
-// precedence over one of drawing.
-fn play_and_draw(
-    rt: &HostRuntime,
-    runner: &mut Runner,
-    file: &Option<String>,
-    manner: Manner,
-) -> Result<(), Failure> {
-    let mut recent = Recent::new(rt.alloc());
-    let ended = play(rt, runner, Remembered::new(rt.stdin(), &mut recent), manner);
-    let drawn = match file {
-        Some(file) => draw(rt, runner, file.as_str()),
-        None => Ok(()),
-    };
-    explained(rt.alloc(), ended, &recent)?;
-    drawn.map_err(Failure::Drawing)
-}
-
-// Runs a script on the array of a runner.
-fn play<I: Read + Drop>(
-    rt: &HostRuntime,
-    runner: &mut Runner,
-    input: I,
-    manner: Manner,
-) -> Result<(), Fault> {
-    if manner.echoes || manner.at_terminal {
-        converse(rt.alloc(), runner, input, rt.stdout(), manner)
-    } else {
-        run_on(rt.alloc(), runner, input, rt.stdout()).end
-    }
-}
-
-// How a script ended: a fault of a line together with what is wrong with it.
-fn explained(alloc: Global, ended: Result<(), Fault>, recent: &Recent) -> Result<(), Failure> {
-    let Err(fault) = ended else {
-        return Ok(());
-    };
-    let Some(explanation) = recent.explain(fault) else {
-        return Err(Failure::Script(fault));
-    };
-    match format!(in alloc; "{explanation}") {
-        Ok(text) => Err(Failure::Line(fault, text)),
-        Err(_) => Err(Failure::Script(fault)),
-    }
 }

@@ -1,29 +1,33 @@
 // Joins a store with the service: its array is taken up and served.
 ghost use Rattle.std.specs.Prelude.{◌≡◌};
-ghost use Rattle.ar_durable.specs.Durable.{AreRecords};
+ghost use Rattle.ar_recovery.specs.Stored.{AreRecords};
 
-use crate::command_line::{RandomNumbers, Service};
 use crate::failure::Failure;
-use crate::makes::{makes_with, numbers_of};
-use crate::operators::{OperatorsEntry, remove_file};
-use crate::serve::conclude;
+use ar_checkpoint::Store;
 use ar_command_line::{StoreOptions, SyncMode};
 use ar_compaction::StoreHead;
 use ar_copies::Losses;
 use ar_disks::Disk;
-use ar_durable::{CommitPolicy, DurableArray, Store};
+use ar_durable::{CommitPolicy, DurableArray};
 use ar_live::LiveArray;
 use ar_media::Media;
 use ar_operator::{DiskMaker, Fuse, FusedDisk, FusedMaker};
+use ar_server::{
+    OperatorsEntry, RandomNumbers, Service, conclude, makes_with, numbers_of, remove_file,
+};
 use ar_service::{
     Closing, OperatorListener, Plan, ServiceFault, ServiceRuntime, TcpStops, serve_lasting,
 };
 use ar_status::ArrayName;
-use ar_stored::{StoreFile, TakenUp, compact, folders_of, policy_of, setup_in, take_up};
+use ar_stored::{StoreFile, TakenUp, compact, folders_of, setup_in, take_up};
 use std::alloc::Global;
 use std::marker::Brand;
 use std::sync::atomic::AtomicBool;
 use std::sync::ledger::{Blank, Ledger};
+use std::time::Duration;
+
+/// A log that is shorter than this, in bytes, isn't replaced while it is served.
+const LEAST_LOG: usize = 64 << 20;
 
 /// Takes up the array of a store, and serves it. `files` is the runtime by which the store's files are opened, and that
 /// makes the file of an operators' socket.
@@ -66,6 +70,7 @@ fn serve_by<'s, R: ServiceRuntime + Sync>(
         live,
         store,
         makes,
+        ..
     } = match take_up(rt, files, alloc, options, cache, fuses, losses) {
         Ok(taken) => taken,
         Err(fault) => return Err(Failure::Store(fault)),
@@ -132,6 +137,15 @@ fn serve_taken_up<
     serve_lasting::<DurableArray<'s, D, L, M, R>, L, C, R>(
         rt, alloc, durable, seats, disks, stop, plan,
     )
+}
+
+// When records are committed.
+fn policy_of(options: &StoreOptions) -> CommitPolicy {
+    CommitPolicy {
+        always: options.sync == SyncMode::Always,
+        every: Duration::from_secs(u64::from(options.commit_every)),
+        least_log: LEAST_LOG,
+    }
 }
 
 // The plan of the service. Its units' names over iSCSI stay, since they have the store's identity; where each WRITE

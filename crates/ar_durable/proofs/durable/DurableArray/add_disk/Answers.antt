@@ -3,7 +3,7 @@ use Rattle.ar_served.specs.declared.entry.Entry.{Entry}
 use Rattle.ar_served.specs.Kept.{history_entry}
 use Rattle.ar_core.specs.declared.event.EventOf.TheVariants as events
 use Rattle.ar_record.specs.Record.{AddDisk}
-use Rattle.ar_durable.specs.Durable.{AreRecords}
+use Rattle.ar_recovery.specs.Stored.{AreRecords}
 use Rattle.ar_durable.proofs.Crashing.{noted_call}
 use Rattle.ar_durable.proofs.Keeping.{disk_same, noted}
 use Rattle.ar_durable.proofs.durable.DurableArray.add_disk.Goals as goal

@@ -6,7 +6,7 @@ use Rattle.ar_served.specs.declared.entry.Entry.TheVariants as entries
 use Rattle.ar_served.specs.Serving.{is_recorded}
 use Rattle.ar_record.specs.Record.{RecordData, Unmap}
 use Rattle.ar_record.specs.Replay.{own_of}
-use Rattle.ar_durable.specs.Durable.{AreRecords}
+use Rattle.ar_recovery.specs.Stored.{AreRecords}
 use Rattle.ar_durable.proofs.Discarding.{discard_grows, unmap_same}
 use Rattle.ar_durable.proofs.Crashing.{noted_call}
 use Rattle.ar_durable.proofs.Keeping.{noted}

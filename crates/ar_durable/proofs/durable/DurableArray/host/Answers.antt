@@ -7,7 +7,7 @@ use Rattle.ar_served.specs.Kept.{exchange_of}
 use Rattle.ar_served.specs.Serving.{is_recorded}
 use Rattle.ar_record.specs.Record.{RecordData, Command}
 use Rattle.ar_record.specs.Replay.{changes_unit, own_of}
-use Rattle.ar_durable.specs.Durable.{AreRecords}
+use Rattle.ar_recovery.specs.Stored.{AreRecords}
 use Rattle.ar_durable.proofs.Crashing.{noted_call}
 use Rattle.ar_durable.proofs.Keeping.{command_same, noted}
 use Rattle.ar_durable.proofs.durable.DurableArray.host.Goals as goal

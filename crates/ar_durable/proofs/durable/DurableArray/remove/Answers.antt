@@ -4,7 +4,7 @@ use Rattle.ar_served.specs.Kept.{history_entry}
 use Rattle.ar_core.specs.declared.event.EventOf.TheVariants as events
 use Rattle.ar_record.specs.Record.{RecordData, Remove}
 use Rattle.ar_record.specs.Replay.{own_of}
-use Rattle.ar_durable.specs.Durable.{AreRecords}
+use Rattle.ar_recovery.specs.Stored.{AreRecords}
 use Rattle.ar_durable.proofs.Crashing.{noted_call}
 use Rattle.ar_durable.proofs.Keeping.{remove_same, noted}
 use Rattle.ar_durable.proofs.durable.DurableArray.remove.Goals as goal
