@@ -25,19 +25,21 @@ pub(crate) struct Announced<'a> {
 impl Display for Announced<'_> {
     fn fmt<W: fmt::Write>(&self, f: &mut Formatter<W>) -> fmt::Result {
         f.write_str("listening")?;
-        if let Some(port) = self.port {
-            write!(f, " {port}")?;
-        }
-        if let Some(port) = self.iscsi {
-            write!(f, "\niSCSI on {port}")?;
-        }
-        if let Some(port) = self.http {
-            write!(f, "\nHTTP on {port}")?;
-        }
+        write_port(f, " ", self.port)?;
+        write_port(f, "\niSCSI on ", self.iscsi)?;
+        write_port(f, "\nHTTP on ", self.http)?;
         match self.operators {
-            Some(OperatorPlace::Port(port)) => write!(f, "\noperators on {port}"),
+            Some(OperatorPlace::Port(port)) => write_port(f, "\noperators on ", Some(port)),
             Some(OperatorPlace::Path(path)) => write!(f, "\noperators on {path}"),
             None => Ok(()),
         }
+    }
+}
+
+// Writes a port after these words, if there is one.
+fn write_port<W: fmt::Write>(f: &mut Formatter<W>, words: &str, port: Option<u16>) -> fmt::Result {
+    match port {
+        Some(port) => write!(f, "{words}{port}"),
+        None => Ok(()),
     }
 }

@@ -1,6 +1,6 @@
 // Initiators over iSCSI. Each connection is a session with the target of one host, or for discovery. A session with a
 // target takes the host's seat, as one over the array's own frames does, and returns it at its end.
-ghost use Rattle.std.specs.Prelude.{◌≡◌};
+ghost use Rattle.std.specs.Prelude.{◌≡◌, None};
 
 use crate::doors::OperatedArray;
 use ar_disks::Host;
@@ -79,6 +79,9 @@ fn address_of(alloc: Global, port: u16) -> Result<Vec<u8>, AllocError> {
     write!(address, "127.0.0.1:{port}").map_err(|_| AllocError)?;
     Ok(address)
 }
+
+// The port of a session that takes its host's seat.
+type SeatPort<'a, R, A, L> = PatientPort<'a, R, L, LockPort<'a, R, A, Desk<L>, L>>;
 
 // A port whose login waits for up to two seconds while another session has the host's seat: an initiator may log in
 // again as soon as it has logged out, and its last session is still being closed then. So is one that this login ends.
@@ -238,26 +241,49 @@ impl<
 
     // Serves a session.
     fn handle(&self, number: u64, mut reader: S, mut writer: W) -> IscsiEnd {
-        let (rt, alloc) = (self.array.rt, self.array.alloc);
-        let (array, desk, initiators) = (self.array.array, self.array.desk, self.array.initiators);
+        let mut server = self.server_for(number, progress_of(&reader));
+        let end = serve_target(
+            self.array.alloc,
+            &mut reader,
+            &mut writer,
+            &mut server,
+            &self.address,
+        );
+        self.close(number, server);
+        self.note_end(number, end);
+        end
+    }
+}
+
+impl<'a, R: Wait + Clock + Log, A: ServedArray<L> + Drop, L: Ledger, M> Targets<'a, R, A, L, M> {
+    // The server of the session of this number. No host is logged in.
+    fn server_for(
+        &self,
+        number: u64,
+        progress: Option<Arc<Progress>>,
+    ) -> DeviceServer<SeatPort<'a, R, A, L>>
+        ensures { result.port.port ≡ None }
+    {
+        let (rt, alloc, desk) = (self.array.rt, self.array.alloc, self.array.desk);
         let port = PatientPort {
             rt,
             desk,
-            initiators,
+            initiators: self.array.initiators,
             number,
-            progress: progress_of(&reader),
+            progress,
             tallies: self.array.tallies,
             host: 0,
-            port: LockPort::new(rt, alloc, array, desk),
+            port: LockPort::new(rt, alloc, self.array.array, desk),
         };
-        let mut server = DeviceServer::new(alloc, port, self.attributes);
-        let end = serve_target(alloc, &mut reader, &mut writer, &mut server, &self.address);
+        DeviceServer::new(alloc, port, self.attributes)
+    }
+
+    // Returns the seat of a session that has ended.
+    fn close(&self, number: u64, server: DeviceServer<SeatPort<'a, R, A, L>>) {
         let PatientPort { port, .. } = server.into_port();
         // (so that nobody sees it once another has the seat)
-        initiators.lock(rt).end(number);
+        self.array.initiators.lock(self.array.rt).end(number);
         let _receipt = port.finish();
-        self.note_end(number, end);
-        end
     }
 }
 

@@ -120,10 +120,16 @@ fn log_event<R: Log>(rt: &R, fuses: &[Fuse; 12], kind: EventKind) {
 
 // Logs that a disk has failed, and why.
 fn log_disk<R: Log>(rt: &R, fuses: &[Fuse; 12], disk: u8) {
-    match fuses.get(usize::from(disk)) {
-        Some(fuse) if fuse.is_out() => warn!(rt; "disk {disk} failed: an operator took it out"),
-        _ => warn!(rt; "disk {disk} failed: an access faulted"),
-    }
+    let is_out = match fuses.get(usize::from(disk)) {
+        Some(fuse) => fuse.is_out(),
+        None => false,
+    };
+    let why = if is_out {
+        "an operator took it out"
+    } else {
+        "an access faulted"
+    };
+    warn!(rt; "disk {disk} failed: {why}");
 }
 
 // Warns when a store loses one of its two copies, and returns whether it has.

@@ -203,9 +203,8 @@ impl<S: Drop, W: Drop> PendingStops<S, W> {
 
     /// No pending stop, with capacity for one of each of `threads` threads. Fails if out of memory.
     pub fn with_room(alloc: Global, threads: u32) -> Result<PendingStops<S, W>, AllocError> {
-        Ok(PendingStops {
-            streams: Vec::with_capacity(alloc, threads as usize)?,
-        })
+        let streams = Vec::with_capacity(alloc, threads as usize)?;
+        Ok(PendingStops { streams })
     }
 }
 
