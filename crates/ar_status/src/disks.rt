@@ -7,7 +7,7 @@ use serde::{Described, Serialize, Serializer};
 const DISKS_MAX: usize = 12;
 
 /// What was counted since the start of the disks of a number: of the one that has it, and of those that it replaced.
-#[derive(Clone, Copy, Debug, PartialEq, Eq, Serialize)]
+#[derive(Clone, Copy, Serialize)]
 pub struct DiskCounters {
     /// Rows that were read or written, or should have been.
     pub accesses: u64,

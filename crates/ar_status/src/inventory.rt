@@ -17,7 +17,7 @@ pub struct ArrayInventory {
 }
 
 /// How the sectors of an array are used: those that units may still be given, and the blocks of units, in sectors.
-#[derive(Clone, Copy, Debug, PartialEq, Eq, Serialize)]
+#[derive(Clone, Copy, Serialize)]
 pub struct SectorUsage {
     pub room_sectors: u64,
     pub mirrored_sectors: u64,
@@ -41,7 +41,7 @@ pub struct UnitUsage {
 }
 
 /// How much of a disk is used, and how it is.
-#[derive(Clone, Copy, Debug, PartialEq, Eq, Serialize)]
+#[derive(Clone, Copy, Serialize)]
 pub struct DiskUsage {
     pub disk: u8,
     /// In an operator's words.
@@ -58,7 +58,7 @@ pub struct DiskUsage {
 }
 
 /// What the session of a host did so far.
-#[derive(Clone, Copy, Debug, PartialEq, Eq, Serialize)]
+#[derive(Clone, Copy, Serialize)]
 pub struct HostSession {
     pub host: u8,
     /// The port of 127.0.0.1 that it comes from. None: it is over iSCSI.

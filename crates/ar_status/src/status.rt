@@ -82,7 +82,7 @@ pub enum StoreHealth {
 }
 
 /// The store that keeps what is done beyond the end of the program. The numbers saturate.
-#[derive(Clone, Copy, Debug, PartialEq, Eq, Serialize)]
+#[derive(Clone, Copy, Serialize)]
 pub struct StoreNumbers {
     pub state: StoreHealth,
     /// Bytes of its log.
@@ -96,7 +96,7 @@ pub struct StoreNumbers {
 }
 
 /// The sessions that are open.
-#[derive(Clone, Copy, Debug, PartialEq, Eq, Serialize)]
+#[derive(Clone, Copy, Serialize)]
 pub struct SessionNumbers {
     /// Whether a host is logged in, by host, 0 to 3.
     pub hosts: [bool; 4],
@@ -105,14 +105,14 @@ pub struct SessionNumbers {
 }
 
 /// Logins that were refused since the start, by door. That of hosts over frames counts none.
-#[derive(Clone, Copy, Debug, PartialEq, Eq, Serialize)]
+#[derive(Clone, Copy, Serialize)]
 pub struct RefusedLogins {
     pub iscsi: u64,
     pub operators: u64,
 }
 
 /// What was done for one host since the start. The numbers saturate.
-#[derive(Clone, Copy, Debug, PartialEq, Eq, Serialize)]
+#[derive(Clone, Copy, Serialize)]
 pub struct HostCounters {
     /// Commands with a reply other than BUSY.
     pub commands: u64,
@@ -124,7 +124,7 @@ pub struct HostCounters {
 }
 
 /// Replies to one host since the start, by the operation of their commands.
-#[derive(Clone, Copy, Debug, PartialEq, Eq, Serialize)]
+#[derive(Clone, Copy, Serialize)]
 pub struct OperationCounters {
     pub test_unit_ready: ReplyCounters,
     pub inquiry: ReplyCounters,
@@ -136,7 +136,7 @@ pub struct OperationCounters {
 }
 
 /// Replies by status.
-#[derive(Clone, Copy, Debug, PartialEq, Eq, Serialize)]
+#[derive(Clone, Copy, Serialize)]
 pub struct ReplyCounters {
     pub good: u64,
     pub check_condition: u64,
@@ -144,7 +144,7 @@ pub struct ReplyCounters {
 }
 
 /// Maintenance steps that did something since the start, by kind. The numbers saturate.
-#[derive(Clone, Copy, Debug, PartialEq, Eq, Serialize)]
+#[derive(Clone, Copy, Serialize)]
 pub struct MaintenanceSteps {
     pub flush: u64,
     pub demote: u64,
@@ -154,7 +154,7 @@ pub struct MaintenanceSteps {
 }
 
 /// What hosts' commands made the array do since the start. The numbers saturate.
-#[derive(Clone, Copy, Debug, PartialEq, Eq, Serialize)]
+#[derive(Clone, Copy, Serialize)]
 pub struct ArrayCounters {
     /// Writes that moved their block from a parity group to a mirrored one.
     pub promotions: u64,
