@@ -233,7 +233,7 @@ module _ {M : Type 0} (seen : M → List ℕ) (may : M → List ℕ → Type 0) 
               (then_left seen old.copies k H (call, bytes) may step.crash crash);
           cause = caused r step.cause;
           clean = to_new (λ n h. clean_since seen clean n h ≡ true → clean_since seen clean old.copies H ≡ true)
-              (then_was_clean seen old.copies k H (call, bytes) clean step.clean);
+              (then_was_clean seen old.copies k H (call, bytes) clean);
           closed = opened r step.closed apart;
           usable = subst (λ n. copies_usable usable n ≡ copies_usable usable old.copies) (sym note.0) step.usable;
         } in

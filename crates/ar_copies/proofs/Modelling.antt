@@ -1,5 +1,5 @@
 -- One call more of a file in copies.
-use Rattle.std.proofs.Common.{◌≡◌, inl, inr, ⊎_elim, ℕ, Bool, true, false, ◌&&◌, List, [], ◌∷◌, length}
+use Rattle.std.proofs.Common.{◌≡◌, ◌⊎◌, inl, inr, ⊎_elim, ℕ, Bool, true, false, ◌&&◌, List, [], ◌∷◌, length}
 use Rattle.std.proofs.Common.{if◌then◌else◌, refl, sym, ◌∙◌, ap, subst, arith, zip}
 use Rattle.std.proofs.lemmas.Bool.{cases_Bool}
 use Rattle.ar_media.specs.Media.{Only, OutcomesFollow, Elapses}
@@ -17,16 +17,19 @@ pub and_second : (x y : Bool) → (x && y) ≡ true → y ≡ true
 and_second true y is = is
 and_second false y is = absurd (not_both false is refl)
 
-and_true : (b : Bool) → (b && true) ≡ b
-and_true true = refl
-and_true false = refl
+pub and_both : {x y : Bool} → x ≡ true → y ≡ true → (x && y) ≡ true
+and_both one other = rw (one, other) refl
+
+and_known : (a b : Bool) → (a ≡ true → b ≡ true) → (a && b) ≡ a
+and_known true b follows = follows refl
+and_known false b follows = refl
 
 module _ {M : Type 0} (seen : M → List ℕ) where
   tracked_agrees : (now : Copies M) (past : List (Entry M)) → tracks seen now past ≡ true → agrees seen now ≡ true
   tracked_agrees now [] is = is
   tracked_agrees now (e ∷ earlier) is = and_second (tracks seen e.0 earlier) (agrees seen now) is
 
-  tracked_contents : (now : Copies M) (past : List (Entry M)) → tracks seen now past ≡ true
+  pub tracked_contents : (now : Copies M) (past : List (Entry M)) → tracks seen now past ≡ true
       → contents seen now past ≡ seen_first seen now
   tracked_contents now [] is = refl
   tracked_contents now (e ∷ earlier) is =
@@ -59,34 +62,34 @@ module _ {M : Type 0} (seen : M → List ℕ) where
     ]
 
     module _ (is_clean : M → Bool) where
-      tracked_clean : (now : Copies M) (before : List (Entry M)) → tracks seen now before ≡ true
-          → clean_since seen is_clean now before ≡ copies_clean is_clean now
-      tracked_clean now [] is = refl
-      tracked_clean now (e ∷ earlier) is =
-          ap (λ (b : Bool). if b then copies_clean is_clean now
-          else (clean_since seen is_clean e.0 earlier && is_honest e.1.0 e.1.1 (contents seen e.0 earlier))) is
+      -- whether what is added is clean, by whether the copies have the same bytes
+      abbrev newest_clean : Bool → Bool
+      newest_clean b = if b then copies_clean is_clean new else is_honest rec.0 rec.1 (contents seen old past)
 
-      clean_new : tracks seen new more ≡ false → clean_since seen is_clean new more
-          ≡ (clean_since seen is_clean old past && is_honest rec.0 rec.1 (contents seen old past))
-      clean_new is =
-          ap (λ (b : Bool). if b then copies_clean is_clean new
-          else (clean_since seen is_clean old past && is_honest rec.0 rec.1 (contents seen old past))) is
+      tracked_clean : (now : Copies M) (before : List (Entry M)) → tracks seen now before ≡ true
+          → clean_since seen is_clean now before ≡ true → copies_clean is_clean now ≡ true
+      tracked_clean now [] is clean = clean
+      tracked_clean now (e ∷ earlier) is clean =
+          and_second (clean_since seen is_clean e.0 earlier) (copies_clean is_clean now)
+          (sym (ap (λ (b : Bool). clean_since seen is_clean e.0 earlier && (if b then copies_clean is_clean now
+          else is_honest e.1.0 e.1.1 (contents seen e.0 earlier))) is) ∙ clean)
+
+      clean_new : (b : Bool) → tracks seen new more ≡ b → clean_since seen is_clean new more
+          ≡ (clean_since seen is_clean old past && newest_clean b)
+      clean_new b is = ap (λ t. clean_since seen is_clean old past && newest_clean t) is
 
       pub then_clean : copies_clean is_clean new ≡ copies_clean is_clean old
           → is_honest rec.0 rec.1 (contents seen old past) ≡ true
           → clean_since seen is_clean new more ≡ clean_since seen is_clean old past
       then_clean same honest = elim (cases_Bool (tracks seen new more)) [
-        | inl is ↦ tracked_clean new more is ∙ same ∙ sym (tracked_clean old past (tracked_before is))
-        | inr not ↦ clean_new not ∙ ap (λ b. clean_since seen is_clean old past && b) honest ∙ and_true _
+        | inl is ↦ clean_new true is ∙ and_known (clean_since seen is_clean old past) (copies_clean is_clean new)
+            (λ clean. same ∙ tracked_clean old past (tracked_before is) clean)
+        | inr not ↦ clean_new false not ∙ and_known (clean_since seen is_clean old past)
+            (is_honest rec.0 rec.1 (contents seen old past)) (λ clean. honest)
       ]
 
-      pub then_was_clean : (copies_clean is_clean new ≡ true → copies_clean is_clean old ≡ true)
-          → clean_since seen is_clean new more ≡ true → clean_since seen is_clean old past ≡ true
-      then_was_clean was now = elim (cases_Bool (tracks seen new more)) [
-        | inl is ↦ tracked_clean old past (tracked_before is) ∙ was (sym (tracked_clean new more is) ∙ now)
-        | inr not ↦ and_first (clean_since seen is_clean old past) (is_honest rec.0 rec.1 (contents seen old past))
-            (sym (clean_new not) ∙ now)
-      ]
+      pub then_was_clean : clean_since seen is_clean new more ≡ true → clean_since seen is_clean old past ≡ true
+      then_was_clean now = and_first (clean_since seen is_clean old past) (newest_clean (tracks seen new more)) now
 
       -- what a read of a clean file returned
       pub then_reads : (Value : List ℕ → Type 0)
@@ -97,9 +100,9 @@ module _ {M : Type 0} (seen : M → List ℕ) where
         | inl is ↦
             let was = tracked_before is in
             subst Value (sym (tracked_contents old past was))
-            (copied (tracked_agrees old past was) (sym (tracked_clean new more is) ∙ now))
+            (copied (tracked_agrees old past was) (tracked_clean new more is now))
         | inr not ↦ noted (and_second (clean_since seen is_clean old past)
-            (is_honest rec.0 rec.1 (contents seen old past)) (sym (clean_new not) ∙ now))
+            (is_honest rec.0 rec.1 (contents seen old past)) (sym (clean_new false not) ∙ now))
       ]
 
     module _ (may_leave : M → List ℕ → Type 0) where
@@ -124,6 +127,17 @@ module _ {M : Type 0} (seen : M → List ℕ) where
           → (x : List ℕ) → FileLeaves seen may_leave new more x → FileLeaves seen may_leave old past x
       then_left copied noted x (inl left) = tracked_leaves old past x (tracked_before left.0) (copied x left.1)
       then_left copied noted x (inr left) = noted x left.1
+
+      -- what is left is left of the old copies or, of a new one, has P
+      pub then_joins : (P : List ℕ → Type 0)
+          → ((x : List ℕ) → OneLeaves may_leave new x → OneLeaves may_leave old x ⊎ P x)
+          → ((x : List ℕ) → LeftAfter rec.0 rec.1 (contents seen old past) (FileLeaves seen may_leave old past) x
+          → FileLeaves seen may_leave old past x)
+          → (x : List ℕ) → FileLeaves seen may_leave new more x → FileLeaves seen may_leave old past x ⊎ P x
+      then_joins P copied noted x (inl left) =
+          ⊎_elim (λ was. inl (tracked_leaves old past x (tracked_before left.0) was)) (λ also. inr also)
+          (copied x left.1)
+      then_joins P copied noted x (inr left) = inl (noted x left.1)
 
       pub then_only : (agrees seen old ≡ true → Only (seen_first seen old) (OneLeaves may_leave new))
           → ((x : List ℕ) → LeftAfter rec.0 rec.1 (contents seen old past) (FileLeaves seen may_leave old past) x

@@ -34,6 +34,19 @@ OtherLeaves may_leave (Gone m) x = ⊥
 abbrev pub OneLeaves : {M : Type 0} → (M → List ℕ → Type 0) → Copies M → List ℕ → Type 0
 OneLeaves may_leave c x = may_leave c.reference x ⊎ OtherLeaves may_leave c.other x
 
+abbrev pub is_other_in_use : {M : Type 0} → OtherCopy M → Bool
+is_other_in_use Absent = false
+is_other_in_use (InUse m) = true
+is_other_in_use (GivenUp m) = false
+is_other_in_use (Gone m) = false
+
+-- what a crash may leave of the other copy in use
+abbrev pub CopyLeaves : {M : Type 0} → (M → List ℕ → Type 0) → OtherCopy M → List ℕ → Type 0
+CopyLeaves may_leave Absent x = ⊥
+CopyLeaves may_leave (InUse m) x = may_leave m x
+CopyLeaves may_leave (GivenUp m) x = ⊥
+CopyLeaves may_leave (Gone m) x = ⊥
+
 abbrev pub other_faults : {M : Type 0} → (M → ℕ) → OtherCopy M → ℕ
 other_faults faults Absent = 0
 other_faults faults (InUse m) = faults m
@@ -93,6 +106,10 @@ forget_other (Gone m) = Gone m
 -- a copy that is given up counts no more
 abbrev pub forgotten : {M : Type 0} → Copies M → Copies M
 forgotten c = record c { other = forget_other c.other }
+
+-- a copy is in use beside the reference
+abbrev pub joined : {M : Type 0} → Copies M → M → Copies M
+joined c m = record c { other = InUse m }
 
 abbrev pub kept_copies : {M : Type 0} → Copies M → Keep → Copies M
 kept_copies c Both = c

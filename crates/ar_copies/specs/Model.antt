@@ -43,9 +43,10 @@ abbrev pub LeavesSince : {M : Type 0} → (M → List ℕ) → (M → List ℕ �
     → Type 0
 LeavesSince seen may_leave now past t x = FileLeaves seen may_leave now past x ⊎ LeftEarlier seen may_leave past t x
 
--- no read has returned other bytes than were written
+-- no read has returned other bytes than were written, one of a copy that was replaced since neither
 abbrev pub clean_since : {M : Type 0} → (M → List ℕ) → (M → Bool) → Copies M → List (Entry M) → Bool
 clean_since seen is_clean now [] = copies_clean is_clean now
 clean_since seen is_clean now (e ∷ earlier) =
-    if tracks seen now (e ∷ earlier) then copies_clean is_clean now
-    else (clean_since seen is_clean e.0 earlier && is_honest e.1.0 e.1.1 (contents seen e.0 earlier))
+    clean_since seen is_clean e.0 earlier
+    && (if tracks seen now (e ∷ earlier) then copies_clean is_clean now
+    else is_honest e.1.0 e.1.1 (contents seen e.0 earlier))

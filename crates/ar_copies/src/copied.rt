@@ -5,6 +5,7 @@ ghost use Rattle.ar_media.specs.Media.{Only};
 ghost use Rattle.ar_copies.specs.Recorded.{measured, read, wrote, resized, synced};
 
 use crate::copies::{Copies, OtherCopy};
+use crate::joining::CopiedMedia;
 use crate::losses::Losses;
 use crate::past::{CallList, Past};
 use ar_media::{Call, Media, MediaError};
@@ -24,7 +25,7 @@ pub struct CopiedFile<'a, M> {
 
 impl<'a, M: Media + Drop> CopiedFile<'a, M> {
     ghost use Rattle.ar_copies.specs.Copied.{copied_seen, copied_may_leave, copied_is_clean, copied_faults};
-    ghost use Rattle.ar_copies.specs.Copied.{copied_is_usable, Noted};
+    ghost use Rattle.ar_copies.specs.Copied.{copied_is_usable, JoinsCopy, Noted};
 
     /// The file in this one copy, which is the first.
     pub fn single(media: M, losses: &'a Losses) -> CopiedFile<'a, M>
@@ -72,6 +73,15 @@ impl<'a, M: Media + Drop> CopiedFile<'a, M> {
             past: Past::new(),
             calls: CallList::new(),
         }
+    }
+
+    // Makes this the second copy, in place of one that isn't in use. As a call it is one that has done nothing.
+    fn put(&mut self, copy: M)
+        ensures { JoinsCopy M.seen M.may_leave M.is_clean self.old copy self.new }
+    {
+        let past = self.past.with(&self.copies);
+        self.copies.join(copy);
+        self.note(past, Some(Call::Failed), &[]);
     }
 
     /// The copies.
@@ -215,6 +225,33 @@ impl<'a, M: Media + Drop> Media for CopiedFile<'a, M> {
     }
 
     fn has_lost_copy(&self) -> bool {
-        self.losses.lost().is_some()
+        self.losses.is_degraded()
+    }
+}
+
+impl<'a, M: Media + Drop> CopiedMedia for CopiedFile<'a, M> {
+    ghost use Rattle.ar_copies.specs.Copies.{CopyLeaves, is_other_in_use};
+
+    type File = M;
+
+    ghost has_copy = { λ c. is_other_in_use c.copies.other };
+
+    ghost copy_leaves = { λ c. CopyLeaves M.may_leave c.copies.other };
+
+    fn join(&mut self, copy: M) -> Result<(), MediaError> {
+        if self.copies.has_two() {
+            return Err(MediaError::Closed);
+        }
+        self.losses.begin(self.copies.which().other());
+        self.put(copy);
+        Ok(())
+    }
+
+    fn has_two(&self) -> bool {
+        self.copies.has_two() && self.losses.lost().is_none()
+    }
+
+    fn end_copy(&self, is_whole: bool) -> bool {
+        self.losses.end(is_whole)
     }
 }

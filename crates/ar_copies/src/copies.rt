@@ -35,12 +35,13 @@ pub struct Copies<M> {
 
 impl<M: Media + Drop> Copies<M> {
     ghost use Rattle.ar_copies.specs.Copies.{SettlesCall, given_up, swapped, forgotten};
+    ghost use Rattle.ar_copies.specs.Copies.{is_other_in_use, joined};
     ghost use Rattle.ar_copies.specs.Copies.{seen_first, agrees, OneLeaves, copies_faults, copies_clean, copies_usable};
     ghost use Rattle.ar_copies.specs.Steps.{ChangesFile, Syncs, ReadsFile, WritesAt, CutsTo};
     ghost use Rattle.ar_copies.specs.Each.{SecondReads, SyncsEach};
 
     // The copy that reads ask first.
-    fn which(&self) -> Which {
+    pub(crate) fn which(&self) -> Which {
         if self.is_swapped {
             Which::Second
         } else {
@@ -224,6 +225,20 @@ impl<M: Media + Drop> Copies<M> {
             OtherCopy::InUse(copy) => OtherCopy::GivenUp(copy),
             other => other,
         };
+    }
+
+    // Whether there is a copy in use beside the reference.
+    pub(crate) fn has_two(&self) -> bool
+        ensures { result ≡ is_other_in_use self.now.other }
+    {
+        matches!(self.other, OtherCopy::InUse(_))
+    }
+
+    // Puts a copy in use beside the reference, in place of one that isn't.
+    pub(crate) fn join(&mut self, copy: M)
+        ensures { self.new ≡ joined self.old copy }
+    {
+        self.other = OtherCopy::InUse(copy);
     }
 
     // A copy that is given up counts no more.

@@ -4,10 +4,12 @@
 mod choice;
 mod copied;
 mod copies;
+mod joining;
 mod losses;
 mod past;
 
 pub use choice::Keep;
 pub use copied::CopiedFile;
 pub use copies::{Copies, OtherCopy};
+pub use joining::CopiedMedia;
 pub use losses::{Losses, Which};

@@ -24,11 +24,15 @@ impl Which {
 }
 
 /// The copy of a store that is lost, if one is, and why. The files of the store share it. Once a copy is lost it stays
-/// so, and the other one is not: a store goes on with one copy at least.
+/// so until a new one is made, and the other one is not: a store goes on with one copy at least.
 #[derive(Drop)]
 pub struct Losses {
     // 0 while no copy is lost. Else twice the cause's number and two, and one more for the second copy.
     loss: AtomicU64,
+    // The same as it is shown: while a copy is made, what it was before.
+    shown: AtomicU64,
+    // The copy that is being made: 0 for none, 1 for the first, 2 for the second.
+    making: AtomicU64,
 }
 
 // The causes that have a number of their own, which is their place. Any other one is stored as the last.
@@ -52,17 +56,67 @@ impl Losses {
     pub fn new() -> Losses {
         Losses {
             loss: AtomicU64::new(0),
+            shown: AtomicU64::new(0),
+            making: AtomicU64::new(0),
         }
     }
 
     /// Notes that a copy has failed, and returns whether it is the one that is lost. It is not where the other copy was
-    /// lost before.
+    /// lost before or is being made: that one is lost then, since it isn't whole.
     pub fn note(&self, copy: Which, error: MediaError) -> bool {
-        let loss = number_of(error).min(UNKNOWN) * 2 + 2 + u64::from(copy == Which::Second);
-        let _noted = self
-            .loss
-            .compare_exchange(0, loss, Ordering::SeqCst, Ordering::SeqCst);
+        let making = self.making();
+        let lost = making.unwrap_or(copy);
+        let loss = number_of(error).min(UNKNOWN) * 2 + 2 + u64::from(lost == Which::Second);
+        set_once(&self.loss, loss);
+        if making.is_none() {
+            set_once(&self.shown, loss);
+        }
         self.is_lost(copy)
+    }
+
+    /// Begins to make this copy, in place of one that is lost or beside the only one, unless that is begun. Until it is
+    /// whole, it is the one that is lost where either fails.
+    pub fn begin(&self, copy: Which) {
+        if self.making().is_some() {
+            return;
+        }
+        let making = match copy {
+            Which::First => 1,
+            Which::Second => 2,
+        };
+        self.making.store(making, Ordering::SeqCst);
+        self.loss.store(0, Ordering::SeqCst);
+    }
+
+    /// Ends a copy that was begun, and returns whether the store has both now: false where the new one isn't whole or
+    /// was lost meanwhile.
+    pub fn end(&self, is_whole: bool) -> bool {
+        let Some(copy) = self.making() else {
+            return false;
+        };
+        if !is_whole {
+            self.note(copy, MediaError::Closed);
+        }
+        let has_both = self.lost().is_none();
+        if has_both {
+            self.shown.store(0, Ordering::SeqCst);
+        }
+        self.making.store(0, Ordering::SeqCst);
+        has_both
+    }
+
+    /// Whether the store has lost a copy, and no new one is whole.
+    pub fn is_degraded(&self) -> bool {
+        self.shown.load(Ordering::SeqCst) != 0
+    }
+
+    // The copy that is being made.
+    fn making(&self) -> Option<Which> {
+        match self.making.load(Ordering::SeqCst) {
+            1 => Some(Which::First),
+            2 => Some(Which::Second),
+            _ => None,
+        }
     }
 
     /// Whether this copy is lost.
@@ -87,6 +141,11 @@ impl Losses {
         let number = self.loss.load(Ordering::SeqCst) / 2;
         cause_at(number.saturating_sub(1))
     }
+}
+
+// Sets a number that is 0.
+fn set_once(number: &AtomicU64, to: u64) {
+    let _set = number.compare_exchange(0, to, Ordering::SeqCst, Ordering::SeqCst);
 }
 
 // The place of an error among the causes.

@@ -1,6 +1,6 @@
 //! Files in two copies: which copy is written and read, what is reported, and when one is given up.
 use crate::steps::{Step, play};
-use ar_copies::{CopiedFile, Losses, OtherCopy, Which};
+use ar_copies::{CopiedFile, CopiedMedia, Losses, OtherCopy, Which};
 use ar_media::{MediaError, MemoryFile};
 use std::alloc::AllocError;
 use std::io::ErrorKind;
@@ -195,6 +195,65 @@ fn a_failed_sync_of_the_last_copy_closes(rt: HostRuntime) -> Result<(), AllocErr
     );
     hold(&rt, &file, b"xbc", b"");
     assert!(rt; losses.lost() == None);
+    drop(file);
+    Ok(())
+}
+
+/// Begins to make a copy of an empty file.
+fn begin(rt: &impl Abort, file: &mut CopiedFile<'_, MemoryFile>, copy: MemoryFile) {
+    assert!(rt; file.join(copy) == Ok(()), "a copy joins");
+    assert!(rt; file.has_two(), "two copies");
+}
+
+#[test]
+fn a_lost_copy_is_made_again(rt: HostRuntime) -> Result<(), AllocError> {
+    let losses = Losses::new();
+    let first = file_of(&rt, b"abc", 0)?;
+    let second = file_of(&rt, b"abc", u64::MAX)?;
+    let mut file = CopiedFile::pair(first, second, &losses);
+    play(&rt, &mut file, &[Step::Cut(0), Step::Sync]);
+    is_lost(&rt, &losses, Which::First, FAILED);
+    begin(&rt, &mut file, file_of(&rt, b"", u64::MAX)?);
+    play(&rt, &mut file, &CALLS);
+    assert!(rt; losses.is_degraded(), "until the copy is whole");
+    assert!(rt; file.end_copy(true) && !losses.is_degraded());
+    hold(&rt, &file, b"QbXY", b"QbXY");
+    drop(file);
+    Ok(())
+}
+
+#[test]
+fn a_third_copy_does_not_join(rt: HostRuntime) -> Result<(), AllocError> {
+    let losses = Losses::new();
+    let first = file_of(&rt, b"abc", u64::MAX)?;
+    let second = file_of(&rt, b"abc", u64::MAX)?;
+    let mut file = CopiedFile::pair(first, second, &losses);
+    let third = file_of(&rt, b"xyz", u64::MAX)?;
+    assert!(rt; file.join(third) == Err(MediaError::Closed));
+    hold(&rt, &file, b"abc", b"abc");
+    drop(file);
+    Ok(())
+}
+
+// The copy that isn't whole is given up, whichever fails.
+#[test]
+fn the_only_copy_fails_while_another_is_made(rt: HostRuntime) -> Result<(), AllocError> {
+    let losses = Losses::new();
+    let mut only = file_of(&rt, b"", u64::MAX)?;
+    only.set_room(3);
+    let mut file = CopiedFile::single(only, &losses);
+    begin(&rt, &mut file, file_of(&rt, b"", u64::MAX)?);
+    play(
+        &rt,
+        &mut file,
+        &[
+            Step::Write(0, b"abc"),
+            Step::WriteFull(2, b"XY"),
+            Step::Write(0, b"Q"),
+        ],
+    );
+    hold(&rt, &file, b"QbX", b"abXY");
+    assert!(rt; !file.end_copy(true) && !losses.is_degraded());
     drop(file);
     Ok(())
 }
