@@ -1,3 +1,4 @@
+pub mod Adding
 pub mod Copies
 pub mod Further
 pub mod Mirroring

@@ -14,6 +14,7 @@ mod contents;
 mod copied;
 mod copying;
 mod files;
+mod joining;
 mod journal;
 mod mirror_start;
 mod mirrored;
