@@ -18,7 +18,7 @@ SUBCOMMANDS = {
     "export": (24, {"--store": "FOLDER"}),
     "import": (24, {"--store": "FOLDER"}),
     "serve": (
-        36,
+        37,
         {
             "--port": "PORT",
             "--sessions": "64",
@@ -30,6 +30,7 @@ SUBCOMMANDS = {
             "--login-timeout": "SECONDS default: 10",
             "--idle-timeout": "SECONDS",
             "--iscsi-ping": "SECONDS 0: never default: 15",
+            "--poll": "MICROSECONDS 1000 default: 0",
             "--audit": "full off",
             "--spares": "4 default: 0",
             "--log": "standard error",
@@ -75,6 +76,7 @@ WRONG = {
         f"serve --port 7117 --operator {101 * 'n'}": "--operator PATH 100",
         f"{SERVE} --login-timeout 86401": "86401 --login-timeout 86400",
         f"{SERVE} --iscsi-ping 86401": "86401 --iscsi-ping 0 86400",
+        f"{SERVE} --poll 1001": "1001 --poll 0 1000",
         f"{SERVE} --audit none": "none --audit full off",
         f"{SERVE} --http-host array.example": "--http-host --http PORT",
         f"{SERVE} --name {65 * 'n'}": "--name 64",

@@ -104,6 +104,8 @@ pub struct ServeOptions {
     pub idle_timeout: Option<u32>,
     /// Seconds of silence after which an initiator is pinged. `None`: never.
     pub iscsi_ping: Option<u32>,
+    /// Microseconds for which a session looks for its next command before it sleeps, 0 to 1,000.
+    pub poll: u16,
     pub audit: Audit,
     /// The spare disks, 0 to 4.
     pub spares: u8,
@@ -379,6 +381,7 @@ fn serve_options_of(alloc: Global, options: &ArgMatches<'_>) -> Result<ServeOpti
         login_timeout: options.get_one("login-timeout"),
         idle_timeout: options.get_one("idle-timeout"),
         iscsi_ping: iscsi_ping_of(options),
+        poll: options.get_one("poll").unwrap_or(0),
         audit,
         spares: options.get_one("spares").unwrap_or(0),
         units,

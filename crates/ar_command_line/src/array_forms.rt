@@ -154,7 +154,7 @@ static PORTS: [Form; 6] = [
     ),
 ];
 
-static SERVE: [Form; 7] = [
+static SERVE: [Form; 8] = [
     Form(
         "login-timeout",
         "SECONDS",
@@ -175,6 +175,13 @@ static SERVE: [Form; 7] = [
         Value::Number(0, 86_400),
         Otherwise::Value("15"),
         "Silence before an initiator is pinged; 0: never",
+    ),
+    Form(
+        "poll",
+        "MICROSECONDS",
+        Value::Number(0, 1_000),
+        Otherwise::Value("0"),
+        "How long a session polls before it sleeps, 0 to 1000",
     ),
     Form(
         "audit",

@@ -63,6 +63,7 @@ impl Service {
                 ..Timeouts::NONE
             },
             ping: self.options.iscsi_ping,
+            poll: self.options.poll,
             spares: self.options.spares,
             system,
         }

@@ -101,6 +101,8 @@ pub struct Plan<'a> {
     pub timeouts: Timeouts,
     /// The seconds of silence after which an initiator is pinged, and after a ping ended. None: never.
     pub ping: Option<u32>,
+    /// Microseconds for which the sessions of hosts and initiators look for bytes before a read blocks.
+    pub poll: u16,
     /// How many spare disks there are at the start.
     pub spares: u8,
     /// Says how much memory there is; None: nothing is warned of.
@@ -419,6 +421,7 @@ fn open_hosts<'s, R: ServiceRuntime>(
         None => TcpDoor::without_port(rt, alloc, ANY_NUMBER),
     };
     let hosts = hosts.limited(Protocol::Sessions, plan.timeouts, Some(stop));
+    let hosts = hosts.polled(plan.poll);
     let hosts = hosts.crowded(MOST_AT_ONCE as usize - 1, plan.sessions);
     hosts.map_err(|_| ServiceFault::NoMemory)
 }
@@ -477,6 +480,7 @@ fn open_initiators<'s, R: ServiceRuntime>(
     };
     let door = TcpDoor::listen(rt, alloc, port, ANY_NUMBER)?;
     let door = door.limited(Protocol::Sessions, timeouts, Some(stop));
+    let door = door.polled(plan.poll);
     // (one thread is free to let the next one in)
     let door = door.crowded(TARGET_THREADS as usize - 1, None);
     door.map_err(|_| ServiceFault::NoMemory)

@@ -13,6 +13,7 @@ mod flushing;
 mod limits;
 mod listener;
 mod notes;
+mod polling;
 mod pool;
 mod port;
 mod refusals;

@@ -2,6 +2,7 @@
 // whether the session is to end, so that no peer holds a session for longer than that. A limit that is reached is a
 // fault of the stream.
 use crate::limits::{Greeting, SilenceStep, greeting_after, session_limit, silence_step};
+use crate::polling::Polling;
 use crate::tcp::{Protocol, Timeouts};
 use ar_frames::{PartsWrite, Progress};
 use std::alloc::Global;
@@ -33,6 +34,8 @@ pub struct Limits<'a> {
     pub timeouts: Timeouts,
     // Set once no more frame is read.
     pub stop: Option<&'a AtomicBool>,
+    // Microseconds for which a read looks for bytes before it blocks.
+    pub poll: u16,
 }
 
 /// The requests of a connection. When it is dropped, replies that were written are delivered first.
@@ -40,6 +43,7 @@ pub struct SocketReader<'a, R: Clock> {
     rt: &'a R,
     socket: Arc<TcpStream>,
     limits: Limits<'a>,
+    polling: Polling,
     // When the connection was opened.
     opened: Instant,
     // How far its session has come.
@@ -76,6 +80,7 @@ impl Limits<'_> {
         protocol: Protocol::Sessions,
         timeouts: Timeouts::NONE,
         stop: None,
+        poll: 0,
     };
 
     /// Whether the stop flag is set.
@@ -113,6 +118,7 @@ impl<'a, R: Clock> SocketReader<'a, R> {
             rt,
             socket,
             limits,
+            polling: Polling::new(limits.poll),
             opened,
             progress: Arc::try_clone(progress)?,
             silent: 0,
@@ -194,7 +200,7 @@ impl<R: Clock> Read for SocketReader<'_, R> {
             if self.is_over() {
                 break;
             }
-            match (&*self.socket).read(buf) {
+            match self.polling.read(self.rt, &self.socket, buf) {
                 Ok(count) => {
                     self.note(&*buf, count);
                     return Ok(count);
@@ -279,6 +285,7 @@ impl<R: Clock> Drop for SocketReader<'_, R> {
             rt: _,
             socket: _socket,
             limits: _,
+            polling: _,
             opened: _,
             progress: _progress,
             silent: _,

@@ -173,9 +173,9 @@ impl<'a, R: Clock + Log> TcpDoor<'a, R> {
             alloc,
             listener,
             left,
+            limits,
             crowd,
             refusals,
-            ..
         } = self;
         TcpDoor {
             rt,
@@ -186,10 +186,20 @@ impl<'a, R: Clock + Log> TcpDoor<'a, R> {
                 protocol,
                 timeouts,
                 stop,
+                poll: limits.poll,
             },
             crowd,
             refusals,
         }
+    }
+
+    /// The door whose connections look for bytes for this many microseconds before a read blocks.
+    pub fn polled(self, poll: u16) -> TcpDoor<'a, R>
+        ensures { result ≡ self.entry }
+    {
+        let mut door = self;
+        door.limits.poll = poll;
+        door
     }
 
     /// The door with a limit for the connections that are open when another comes: with `most` of them, the oldest that
