@@ -1,20 +1,11 @@
--- The join of two neighbours is associative, and nothing is its unit.
+-- The older of two blocks: an associative choice, of which no block is the unit.
 use Rattle.std.proofs.Common.{◌≡◌, ℕ, Bool, true, false, cond, List, [], ◌∷◌, ◌++◌, Option, None, Some, true≢false}
 use Rattle.std.proofs.Common.{refl, sym, ap, ◌∙◌, arith}
-use Rattle.std.specs.Option.{option_or}
 use Rattle.std.proofs.lemmas.Bool.Decides.{nat_tests}
 use Rattle.ar_disks.specs.declared.address.Addr.{Addr}
 use Rattle.ar_index.specs.declared.choices.Age.{Age}
 use Rattle.ar_index.specs.declared.choices.Choices.{Choices}
-use Rattle.ar_index.specs.Choices.{is_no_newer, older, nothing, join, search_all}
-
-or_assoc : {A : Type 0} (x y z : Option A) → option_or (option_or x y) z ≡ option_or x (option_or y z)
-or_assoc None y z = refl
-or_assoc (Some a) y z = refl
-
-or_none : {A : Type 0} (x : Option A) → option_or x None ≡ x
-or_none None = refl
-or_none (Some a) = refl
+use Rattle.ar_index.specs.Choices.{is_no_newer, older, oldest}
 
 pub same_choices : (a b : Choices) → a.mirrored ≡ b.mirrored → a.parity ≡ b.parity → a.free ≡ b.free
     → a.oldest ≡ b.oldest → a ≡ b
@@ -78,23 +69,9 @@ module _ (place : Addr → ℕ) where
   older_assoc (Some a) (Some b) None = older_none (older place (Some a) (Some b))
   older_assoc (Some a) (Some b) (Some c) = pick_assoc a b c
 
-  pub join_assoc : (x y z : Choices) → join place (join place x y) z ≡ join place x (join place y z)
-  join_assoc x y z =
-      same_choices (join place (join place x y) z) (join place x (join place y z))
-      (or_assoc x.mirrored y.mirrored z.mirrored) (or_assoc x.parity y.parity z.parity) (or_assoc x.free y.free z.free)
-      (older_assoc x.oldest y.oldest z.oldest)
-
-  pub join_nothing : (x : Choices) → join place x nothing ≡ x
-  join_nothing x =
-      same_choices (join place x nothing) x (or_none x.mirrored) (or_none x.parity) (or_none x.free)
-      (older_none x.oldest)
-
-  pub nothing_join : (x : Choices) → join place nothing x ≡ x
-  nothing_join x = refl
-
-  -- a search over two lists is the join of the searches
-  pub search_both : (xs ys : List Choices)
-      → search_all place (xs ++ ys) ≡ join place (search_all place xs) (search_all place ys)
-  search_both [] ys = sym (nothing_join (search_all place ys))
-  search_both (x ∷ xs) ys =
-      ap (join place x) (search_both xs ys) ∙ sym (join_assoc x (search_all place xs) (search_all place ys))
+  -- the oldest of two lists is the older of the oldest of each
+  pub oldest_both : (xs ys : List (Option Age))
+      → oldest place (xs ++ ys) ≡ older place (oldest place xs) (oldest place ys)
+  oldest_both [] ys = refl
+  oldest_both (x ∷ xs) ys =
+      ap (older place x) (oldest_both xs ys) ∙ sym (older_assoc x (oldest place xs) (oldest place ys))

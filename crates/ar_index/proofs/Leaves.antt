@@ -1,66 +1,66 @@
--- The leaves of a tree, after one of them was put.
-use Rattle.std.proofs.Common.{◌≡◌, ◌≢◌, ℕ, zero, suc, ◌+◌, ◌-◌, ◌*◌, ◌^◌, ◌<◌, ◌≤◌, true, cond, is_some, List, [], ◌∷◌}
-use Rattle.std.proofs.Common.{◌++◌, length, take, drop, set, get_or, refl, sym, ap, ◌∙◌, inl, inr, lit≤, arith}
-use Rattle.std.proofs.Math.Nat.{pow-le-pow_right, pow-succ'}
-use Rattle.std.proofs.Math.Seq.{take-set-lt, take-suc-set}
-use Rattle.std.proofs.lemmas.Bool.{cases_lt}
-use Rattle.std.proofs.lemmas.List.{length-drop, length-take-le, get_or-drop, get_or-set_other, get_or-set_same}
-use Rattle.std.proofs.lemmas.List.{get_or-take}
-use Rattle.std.proofs.lemmas.List.Sums.{sum_by-set, sum_by-cons, sum_by-append, count_by-le-length}
-use Rattle.ar_disks.specs.declared.address.Addr.{Addr}
+-- The leaves of a tree: what each is, what they are after one was put, and what a plain scan finds in them.
+use Rattle.std.proofs.Common.{◌≡◌, ◌≢◌, ℕ, zero, suc, ◌+◌, ◌-◌, ◌*◌, ◌/◌, ◌<◌, ◌≤◌, Bool, true, false, cond, is_some}
+use Rattle.std.proofs.Common.{Option, None, Some, List, length, drop, set, get_or}
+use Rattle.std.proofs.Common.{refl, sym, ap, subst, ◌∙◌, inl, inr, arith}
+use Rattle.std.specs.Option.{ForSome}
+use Rattle.std.proofs.lemmas.Bool.{cases_eq}
+use Rattle.std.proofs.lemmas.List.{length-set, get_or-set_other, get_or-set_same, ext_get_or}
+use Rattle.std.proofs.lemmas.List.Sums.{sum_by-set, count_by-le-length}
 use Rattle.ar_index.specs.declared.choices.Choices.{Choices}
-use Rattle.ar_index.specs.Choices.{nothing, search_all}
-use Rattle.ar_index.specs.Tree.{node_at, AreJoinedBut, IsGrown, IsValidTree, leaves_in, free_in, leaves_under}
-use Rattle.ar_index.proofs.Search.{root, search_after}
+use Rattle.ar_index.specs.Bits.{has, IsBitSet}
+use Rattle.ar_index.specs.Choices.{nothing, AreOfGroup}
+use Rattle.ar_index.specs.Tree.{node_at, IsGrown, IsOfGroups, IsValidTree, TreeState, if_in, leaf_of}
+use Rattle.ar_index.specs.Tree.{leaves_up, leaves, free_in}
+use Rattle.ar_index.proofs.Heap.{put_here, put_elsewhere, put_grown}
+use Rattle.ar_index.proofs.Joins.{same_choices}
 
-module _ (size leaf : ℕ) (old new : List Choices) (c : Choices) (put : drop size new ≡ set (drop size old) leaf c) where
-  -- the leaf that was put
-  pub put_here : length old ≡ 2 * size → leaf < size → node_at new (size + leaf) ≡ c
-  put_here twice there =
-      sym (get_or-drop size new leaf nothing) ∙ ap (λ xs. get_or xs leaf nothing) put
-      ∙ get_or-set_same (drop size old) leaf c nothing (omega (arith, length-drop size old))
+leaves_length : (t : TreeState) (i n : ℕ) → length (leaves_up t i n) ≡ n
+leaves_length t i zero = refl
+leaves_length t i (suc n) = ap suc (leaves_length t (suc i) n)
 
-  -- the others
-  pub put_elsewhere : (i : ℕ) → i ≢ leaf → node_at new (size + i) ≡ node_at old (size + i)
-  put_elsewhere i ne =
-      sym (get_or-drop size new i nothing) ∙ ap (λ xs. get_or xs i nothing) put
-      ∙ get_or-set_other (drop size old) leaf i c nothing ne ∙ get_or-drop size old i nothing
+pub leaves_count : (t : TreeState) → length (leaves t) ≡ t.count
+leaves_count t = leaves_length t 0 t.count
 
-  -- the leaves in use, where it was one of them
-  pub put_leaves : (count : ℕ) → leaf < count → leaves_in size count new ≡ set (leaves_in size count old) leaf c
-  put_leaves count inside = ap (take count) put ∙ take-set-lt count (drop size old) leaf c inside
-
-  -- and where it is the next
-  pub put_after : length old ≡ 2 * size → leaf < size
-      → leaves_in size (leaf + 1) new ≡ leaves_in size leaf old ++ c ∷ []
-  put_after twice there =
-      ap (λ n. take n (drop size new)) (let e : leaf + 1 ≡ suc leaf = omega arith in e) ∙ ap (take (suc leaf)) put
-      ∙ take-suc-set (drop size old) leaf c (omega (arith, length-drop size old))
-
-  -- the tree with it, and how many leaves are in use then
-  pub put_grown : (count more : ℕ) → IsGrown size count old → length new ≡ 2 * size → count ≤ more → leaf < more
-      → more ≤ size → IsGrown size more new
-  put_grown count more ok twice le inside within = record {
-    twice = twice;
-    height = ok.height;
-    within = within;
-    empty = λ i h.
-        let e : size + (i - size) ≡ i = omega arith in
-        ap (node_at new) (sym e) ∙ put_elsewhere (i - size) (omega arith) ∙ ap (node_at old) e
-        ∙ ok.empty i (omega arith);
-  }
-
--- how many leaves are in use
-pub leaves_count : (size count : ℕ) (nodes : List Choices) → length nodes ≡ 2 * size → count ≤ size
-    → length (leaves_in size count nodes) ≡ count
-leaves_count size count nodes twice within =
-    length-take-le count (drop size nodes) (omega (arith, length-drop size nodes))
+leaf_from : (t : TreeState) (i n k : ℕ) → k < n → get_or (leaves_up t i n) k nothing ≡ leaf_of t (i + k)
+leaf_from t i zero k inside = absurd (omega arith)
+leaf_from t i (suc n) zero inside = ap (leaf_of t) (let e : i ≡ i + 0 = omega arith in e)
+leaf_from t i (suc n) (suc k) inside =
+    leaf_from t (suc i) n k (omega arith) ∙ ap (leaf_of t) (let e : suc i + k ≡ i + suc k = omega arith in e)
 
 -- a leaf in use
-pub leaf_at : (size count i : ℕ) (nodes : List Choices) → i < count
-    → get_or (leaves_in size count nodes) i nothing ≡ node_at nodes (size + i)
-leaf_at size count i nodes inside =
-    get_or-take count (drop size nodes) i nothing inside ∙ get_or-drop size nodes i nothing
+pub leaf_at : (t : TreeState) (i : ℕ) → i < t.count → get_or (leaves t) i nothing ≡ leaf_of t i
+leaf_at t i inside =
+    leaf_from t 0 t.count i inside ∙ ap (leaf_of t) (let e : 0 + i ≡ i = omega arith in e)
+
+-- a leaf in use is one of the list that is seen
+pub seen_inside : (t seen : TreeState) (leaf : ℕ) → t ≡ seen → leaf < length (leaves seen) → leaf < t.count
+seen_inside t seen leaf e inside = omega (arith, leaves_count t, ap (λ x. length (leaves x)) e)
+
+-- the leaves are a list, where they are its elements
+pub leaves_are : (t : TreeState) (xs : List Choices) → length xs ≡ t.count
+    → ((i : ℕ) → i < t.count → leaf_of t i ≡ get_or xs i nothing) → leaves t ≡ xs
+leaves_are t xs size each =
+    ext_get_or nothing (leaves t) xs (leaves_count t ∙ sym size) (λ i h.
+    let inside : i < t.count = omega (arith, leaves_count t) in leaf_at t i inside ∙ each i inside)
+
+-- a number that is in the set if the group has one of this kind
+number_is : (o : Option ℕ) (words : List ℕ) (i : ℕ) → has words i ≡ is_some o → ForSome o (λ n. n ≡ i)
+    → if_in words i ≡ o
+number_is None words i e own = ap (λ b. cond {A = Option ℕ} b (Some i) None) e
+number_is (Some n) words i e own =
+    ap (λ b. cond {A = Option ℕ} b (Some i) None) e ∙ ap Some (sym (own n refl))
+
+-- the choices of a leaf name no other group
+pub if_own : (words : List ℕ) (i : ℕ) → ForSome (if_in words i) (λ n. n ≡ i)
+if_own words i = by (has words i)
+  where
+    by : (b : Bool) → ForSome (cond {A = Option ℕ} b (Some i) None) (λ n. n ≡ i)
+    by true = λ n e. ap (λ (o : Option ℕ). elim o [ None ↦ i | Some m ↦ m ]) (sym e)
+    by false = λ n e. absurd (cc)
+
+pub leaf_own : (t : TreeState) (i : ℕ) → AreOfGroup i (leaf_of t i)
+leaf_own t i =
+    record { mirrored = if_own t.mirrored i; parity = if_own t.parity i; free = if_own t.free i }
 
 abbrev pub one_if_free : Choices → ℕ
 one_if_free c = cond {A = ℕ} (is_some c.free) 1 0
@@ -70,115 +70,109 @@ pub free_put : (xs : List Choices) (i : ℕ) (c : Choices) → i < length xs
     → free_in (set xs i c) + one_if_free (get_or xs i nothing) ≡ free_in xs + one_if_free c
 free_put xs i c inside = sum_by-set one_if_free xs i c nothing inside
 
--- where one is free, some are
-pub some_free : (xs : List Choices) (i : ℕ) → i < length xs → is_some (get_or xs i nothing).free ≡ true → 0 < free_in xs
-some_free xs i inside e =
-    let put : free_in (set xs i nothing) + one_if_free (get_or xs i nothing) ≡ free_in xs + 0 =
-    free_put xs i nothing inside in
-    let one : one_if_free (get_or xs i nothing) ≡ 1 = ap (λ b. cond {A = ℕ} b 1 0) e in
-    omega arith
-
 -- no more are free than there are
 pub free_few : (xs : List Choices) → free_in xs ≤ length xs
 free_few xs = count_by-le-length (λ c. is_some c.free) xs
 
--- as many leaves stand under a node as its height has it
-pub under_power : (h : ℕ) → leaves_under h ≡ 2 ^ h
-under_power zero = refl
-under_power (suc h) = ap (λ n. 2 * n) (under_power h) ∙ sym (pow-succ' 2 h)
+-- whether a group is free
+pub free_has : (words : List ℕ) (i : ℕ) → is_some (if_in words i) ≡ has words i
+free_has words i = by (has words i)
+  where
+    by : (b : Bool) → is_some (cond {A = Option ℕ} b (Some i) None) ≡ b
+    by true = refl
+    by false = refl
 
--- a tree that is kept for at most 4,096 leaves has room for no more
-few_leaves : (size count h : ℕ) → leaves_under h ≡ size → size ≤ 2 * count - 1 → count ≤ 4096 → size ≤ 4096
-few_leaves size count h under close most =
-    elim (cases_lt 12 h) [
-      | inl more ↦ let p : 2 ^ 13 ≤ 2 ^ h = pow-le-pow_right (lit≤ tt) more in absurd (omega (arith, under_power h))
-      | inr le ↦ let p : 2 ^ h ≤ 2 ^ 12 = pow-le-pow_right (lit≤ tt) le in omega (arith, under_power h)
-    ]
-
--- the steps of a climb there
-pub few_steps : (size leaf count before after : ℕ) (nodes : List Choices) → IsGrown size count nodes
-    → 2 ^ (after - before) ≤ size + leaf → leaf < count → size ≤ 2 * count - 1 → count ≤ 4096
-    → before ≤ after → after ≤ before + 12
-few_steps size leaf count before after nodes ok few inside close most on =
-    let height = ok.height (let some : 0 < size = omega (arith, ok.within) in some) in
-    let room = few_leaves size count height.0 height.1 close most in
-    elim (cases_lt 12 (after - before)) [
-      | inl more ↦ let p : 2 ^ 13 ≤ 2 ^ (after - before) = pow-le-pow_right (lit≤ tt) more in absurd (omega arith)
-      | inr le ↦ omega arith
-    ]
-
--- a tree that is kept, and the choices at its root
-pub best_kept : (place : Addr → ℕ) (size count free : ℕ) (nodes : List Choices) → IsValidTree size count free nodes
-    → AreJoinedBut place size nodes 0 → 0 < size
-    → node_at nodes 1 ≡ search_all place (leaves_in size count nodes)
-best_kept place size count free nodes ok joined some =
-    let p = ok.grown.height some in
-    root place size nodes (record { twice = ok.grown.twice; joined = joined }) p.0 p.1
-    ∙ search_after place (drop size nodes) count
-    (λ i h. get_or-drop size nodes i nothing ∙ ok.grown.empty (size + i) (omega arith))
+-- a set where one of the groups in use was put is one of them
+pub put_groups : (size count leaf : ℕ) (is : Bool) (old new : List ℕ) → leaf < count → IsOfGroups size count old
+    → IsBitSet old leaf is new → IsOfGroups size count new
+put_groups size count leaf is old new inside ok put = record {
+  room = omega (arith, ok.room, put.size);
+  close = omega (arith, ok.close, put.size);
+  past = λ i h. put.others i (omega arith) ∙ ok.past i h;
+}
 
 -- the choices of a leaf are put
-module _ (size count free leaf : ℕ) (old new : List Choices) (c : Choices) (ok : IsValidTree size count free old)
-    (inside : leaf < count)
-    (twice : length new ≡ 2 * size) (put : drop size new ≡ set (drop size old) leaf c) where
-  pub set_kept : (now : ℕ) → now + one_if_free (node_at old (size + leaf)) ≡ free + one_if_free c
-      → IsValidTree size count now new
-  set_kept now e =
-      let before : get_or (leaves_in size count old) leaf nothing ≡ node_at old (size + leaf) =
-      leaf_at size count leaf old inside in
-      let all : free_in (set (leaves_in size count old) leaf c)
-      + one_if_free (get_or (leaves_in size count old) leaf nothing)
-      ≡ free_in (leaves_in size count old) + one_if_free c =
-      free_put (leaves_in size count old) leaf c
-      (omega (arith, leaves_count size count old ok.grown.twice ok.grown.within)) in
-      let same : one_if_free (get_or (leaves_in size count old) leaf nothing)
-      ≡ one_if_free (node_at old (size + leaf)) =
-      ap one_if_free before in
-      let after : free_in (leaves_in size count new) ≡ free_in (set (leaves_in size count old) leaf c) =
-      ap free_in (put_leaves size leaf old new c put count inside) in
+module _ (old new : TreeState) (leaf frees now : ℕ) (c : Choices) (ok : IsValidTree old frees)
+    (inside : leaf < old.count)
+    (own : AreOfGroup leaf c)
+    (size : new.size ≡ old.size) (count : new.count ≡ old.count)
+    (twice : length new.nodes ≡ 2 * old.size)
+    (put : drop old.size new.nodes ≡ set (drop old.size old.nodes) leaf c.oldest)
+    (mirrored : IsBitSet old.mirrored leaf (is_some c.mirrored) new.mirrored)
+    (parity : IsBitSet old.parity leaf (is_some c.parity) new.parity)
+    (free : IsBitSet old.free leaf (is_some c.free) new.free) where
+  here : leaf_of new leaf ≡ c
+  here =
+      same_choices (leaf_of new leaf) c (number_is c.mirrored new.mirrored leaf mirrored.here own.mirrored)
+      (number_is c.parity new.parity leaf parity.here own.parity)
+      (number_is c.free new.free leaf free.here own.free)
+      (ap (λ n. node_at new.nodes (n + leaf)) size
+      ∙ put_here old.size leaf old.nodes new.nodes c.oldest put ok.grown.twice (omega (arith, ok.grown.within)))
+
+  others : (i : ℕ) → i ≢ leaf → leaf_of new i ≡ leaf_of old i
+  others i ne =
+      same_choices (leaf_of new i) (leaf_of old i)
+      (ap (λ b. cond {A = Option ℕ} b (Some i) None) (mirrored.others i ne))
+      (ap (λ b. cond {A = Option ℕ} b (Some i) None) (parity.others i ne))
+      (ap (λ b. cond {A = Option ℕ} b (Some i) None) (free.others i ne))
+      (ap (λ n. node_at new.nodes (n + i)) size
+      ∙ put_elsewhere old.size leaf old.nodes new.nodes c.oldest put i ne)
+
+  pub set_leaves : leaves new ≡ set (leaves old) leaf c
+  set_leaves =
+      leaves_are new (set (leaves old) leaf c)
+      (length-set (leaves old) leaf c ∙ leaves_count old ∙ sym count) (λ i h. elim (cases_eq i leaf) [
+        | inl e ↦
+            subst (λ j. leaf_of new j ≡ get_or (set (leaves old) leaf c) j nothing) (sym e)
+            (here ∙ sym (get_or-set_same (leaves old) leaf c nothing (omega (arith, leaves_count old))))
+        | inr ne ↦
+            others i ne ∙ sym (leaf_at old i (omega arith))
+            ∙ sym (get_or-set_other (leaves old) leaf i c nothing ne)
+      ])
+
+  pub set_kept : now + cond {A = ℕ} (has old.free leaf) 1 0 ≡ frees + one_if_free c → IsValidTree new now
+  set_kept e =
+      let before : one_if_free (get_or (leaves old) leaf nothing) ≡ cond {A = ℕ} (has old.free leaf) 1 0 =
+      ap one_if_free (leaf_at old leaf inside) ∙ ap (λ b. cond {A = ℕ} b 1 0) (free_has old.free leaf) in
+      let all : free_in (set (leaves old) leaf c) + one_if_free (get_or (leaves old) leaf nothing)
+      ≡ free_in (leaves old) + one_if_free c =
+      free_put (leaves old) leaf c (omega (arith, leaves_count old)) in
+      let after : free_in (leaves new) ≡ free_in (set (leaves old) leaf c) = ap free_in set_leaves in
       let counted = ok.counted in
+      let grown : IsGrown old.size old.count new.nodes =
+      put_grown old.size leaf old.nodes new.nodes c.oldest put old.count ok.grown twice inside in
       record {
-        grown = put_grown size leaf old new c put count count ok.grown twice (omega arith) inside ok.grown.within;
-        close = ok.close;
+        grown = subst (λ n. IsGrown n new.count new.nodes) (sym size)
+            (subst (λ n. IsGrown old.size n new.nodes) (sym count) grown);
+        close = omega (arith, ok.close);
+        few = omega (arith, ok.few);
+        mirrored = moved new.mirrored (put_groups _ _ leaf _ _ _ inside ok.mirrored mirrored);
+        parity = moved new.parity (put_groups _ _ leaf _ _ _ inside ok.parity parity);
+        frees = moved new.free (put_groups _ _ leaf _ _ _ inside ok.frees free);
         counted = omega arith;
       }
+    where
+      moved : (words : List ℕ) → IsOfGroups old.size old.count words → IsOfGroups new.size new.count words
+      moved words h =
+          subst (λ n. IsOfGroups n new.count words) (sym size)
+          (subst (λ n. IsOfGroups old.size n words) (sym count) h)
 
-  pub set_some : is_some (node_at old (size + leaf)).free ≡ true → 0 < free
-  set_some e =
-      let before : get_or (leaves_in size count old) leaf nothing ≡ node_at old (size + leaf) =
-      leaf_at size count leaf old inside in
-      let some =
-      some_free (leaves_in size count old) leaf
-      (omega (arith, leaves_count size count old ok.grown.twice ok.grown.within))
-      (ap (λ x. is_some x.free) before ∙ e) in
-      omega (arith, ok.counted)
+-- where one is free, some are
+pub some_free : (t : TreeState) (frees leaf : ℕ) → IsValidTree t frees → leaf < t.count → has t.free leaf ≡ true
+    → 0 < frees
+some_free t frees leaf ok inside e =
+    let put : free_in (set (leaves t) leaf nothing) + one_if_free (get_or (leaves t) leaf nothing)
+    ≡ free_in (leaves t) + 0 =
+    free_put (leaves t) leaf nothing (omega (arith, leaves_count t)) in
+    let one : one_if_free (get_or (leaves t) leaf nothing) ≡ 1 =
+    ap one_if_free (leaf_at t leaf inside) ∙ ap (λ b. cond {A = ℕ} b 1 0) (free_has t.free leaf ∙ e) in
+    omega (arith, ok.counted)
 
--- a leaf in use is one of the list that is seen
-pub seen_inside : (size count leaf : ℕ) (nodes seen : List Choices) → IsGrown size count nodes
-    → leaves_in size count nodes ≡ seen → leaf < length seen → leaf < count
-seen_inside size count leaf nodes seen ok e inside =
-    omega (arith, leaves_count size count nodes ok.twice ok.within, ap length e)
+-- the word of a leaf in use is there
+pub in_room : (size count leaf : ℕ) (words : List ℕ) → IsOfGroups size count words → count ≤ size → leaf < count
+    → leaf / 64 < length words
+in_room size count leaf words ok within inside = omega (arith, ok.room)
 
--- the choices of a leaf are put after the others, after room was made for it
-module _ (size more count free : ℕ) (old mid new : List Choices) (c : Choices) (ok : IsValidTree size count free old)
-    (grown : IsGrown more count mid)
-    (room : (count < more) × (more ≤ 2 * (count + 1) - 1)) (same : leaves_in more count mid ≡ leaves_in size count old)
-    (twice : length new ≡ 2 * more) (put : drop more new ≡ set (drop more mid) count c) where
-  pub push_leaves : leaves_in more (count + 1) new ≡ leaves_in size count old ++ c ∷ []
-  push_leaves = put_after more count mid new c put grown.twice room.0 ∙ ap (λ xs. xs ++ c ∷ []) same
-
-  pub push_kept : (now : ℕ) → now ≡ free + one_if_free c → IsValidTree more (count + 1) now new
-  push_kept now e =
-      let after : free_in (leaves_in more (count + 1) new) ≡ free_in (leaves_in size count old ++ c ∷ []) =
-      ap free_in push_leaves in
-      let all : free_in (leaves_in size count old ++ c ∷ []) ≡ free_in (leaves_in size count old) + free_in (c ∷ []) =
-      sum_by-append one_if_free (leaves_in size count old) (c ∷ []) in
-      let one : free_in (c ∷ []) ≡ one_if_free c + 0 = sum_by-cons one_if_free c [] in
-      let counted = ok.counted in
-      record {
-        grown =
-            put_grown more count mid new c put count (count + 1) grown twice (omega arith) (omega arith)
-            (omega (arith, room.0));
-        close = room.1;
-        counted = omega arith;
-      }
+-- a set that stays
+pub put_same : (words : List ℕ) (i : ℕ) → IsBitSet words i (is_some (if_in words i)) words
+put_same words i = record { size = refl; here = sym (free_has words i); others = λ j ne. refl }

@@ -1,8 +1,9 @@
-pub mod After
 pub mod Climb
-pub mod Empty
+pub mod Growth
+pub mod Heap
 pub mod Joins
 pub mod Leaves
 pub mod Orders
+pub mod Plain
 pub mod Search
-pub mod Spread
+pub mod Sets

@@ -11,8 +11,7 @@ use Rattle.std.proofs.lemmas.Option.{none-some}
 use Rattle.std.proofs.lemmas.List.Sums.{prefix_len-le-length}
 use Rattle.ar_disks.specs.declared.address.Addr.{Addr}
 use Rattle.ar_index.specs.declared.choices.Age.{Age}
-use Rattle.ar_index.specs.declared.choices.Choices.{Choices}
-use Rattle.ar_index.specs.Choices.{is_no_newer, older, oldest, nothing, join}
+use Rattle.ar_index.specs.Choices.{is_no_newer, older, oldest, nothing}
 use Rattle.ar_index.specs.Tree.{node_at, AreJoinedBut, TreeState, leaves, IsRight}
 use Rattle.ar_index.proofs.Leaves.{leaf_at}
 
@@ -147,30 +146,27 @@ module _ (f g : Addr → ℕ) (P : Addr → Type 0) (alike : (a b : Addr) → P 
   pub oldest_names : (os : List (Option Age)) → ((i : ℕ) → Names P (get_or os i None)) → Names P (oldest f os)
   oldest_names os named = (oldest_both os named).1
 
-  same_join : (x y : Choices) → Names P x.oldest → Names P y.oldest → join f x y ≡ join g x y
-  same_join x y p q = ap (λ o. record (join f x y) { oldest = o }) (same_older x.oldest y.oldest p q)
-
-  module _ (size : ℕ) (nodes : List Choices) (joined : AreJoinedBut f size nodes 0)
-      (named : (i : ℕ) → Names P (node_at nodes (size + i)).oldest) where
+  module _ (size : ℕ) (nodes : List (Option Age)) (joined : AreJoinedBut f size nodes 0)
+      (named : (i : ℕ) → Names P (node_at nodes (size + i))) where
     -- each node names such a unit's block, from the leaves up
-    each_names : (n i : ℕ) → 0 < i → 2 * size ≤ i + n → Names P (node_at nodes i).oldest
+    each_names : (n i : ℕ) → 0 < i → 2 * size ≤ i + n → Names P (node_at nodes i)
     each_names zero i some near =
-        subst (λ j. Names P (node_at nodes j).oldest) (let e : size + (i - size) ≡ i = omega arith in e)
+        subst (λ j. Names P (node_at nodes j)) (let e : size + (i - size) ≡ i = omega arith in e)
         (named (i - size))
     each_names (suc n) i some near = elim (cases_lt i size) [
       | inl inner ↦
-          subst (λ c. Names P c.oldest) (sym (joined i some inner (omega arith)))
-          (older_names (node_at nodes (2 * i)).oldest (node_at nodes (2 * i + 1)).oldest
+          subst (λ c. Names P c) (sym (joined i some inner (omega arith)))
+          (older_names (node_at nodes (2 * i)) (node_at nodes (2 * i + 1))
           (each_names n (2 * i) (omega arith) (omega arith)) (each_names n (2 * i + 1) (omega arith) (omega arith)))
       | inr leaf ↦
-          subst (λ j. Names P (node_at nodes j).oldest) (let e : size + (i - size) ≡ i = omega arith in e)
+          subst (λ j. Names P (node_at nodes j)) (let e : size + (i - size) ≡ i = omega arith in e)
           (named (i - size))
     ]
 
     joined_too : AreJoinedBut g size nodes 0
     joined_too i some inner ne =
         joined i some inner ne
-        ∙ same_join (node_at nodes (2 * i)) (node_at nodes (2 * i + 1))
+        ∙ same_older (node_at nodes (2 * i)) (node_at nodes (2 * i + 1))
         (each_names (2 * size) (2 * i) (omega arith) (omega arith))
         (each_names (2 * size) (2 * i + 1) (omega arith) (omega arith))
 
@@ -178,8 +174,8 @@ module _ (f g : Addr → ℕ) (P : Addr → Type 0) (alike : (a b : Addr) → P 
   pub reordered : (t : TreeState) → IsRight f t → ((i : ℕ) → Names P (get_or (leaves t) i nothing).oldest) → IsRight g t
   reordered t ok named = record { joined = joined_too t.size t.nodes ok.joined each; behind = ok.behind }
     where
-      each : (i : ℕ) → Names P (node_at t.nodes (t.size + i)).oldest
+      each : (i : ℕ) → Names P (node_at t.nodes (t.size + i))
       each i = elim (cases_lt i t.count) [
-        | inl inside ↦ subst (λ c. Names P c.oldest) (leaf_at t.size t.count i t.nodes inside) (named i)
-        | inr past ↦ λ a e. absurd (none-some a (sym (ap (λ c. c.oldest) (ok.behind (t.size + i) (omega arith))) ∙ e))
+        | inl inside ↦ subst (λ c. Names P c.oldest) (leaf_at t i inside) (named i)
+        | inr past ↦ λ a e. absurd (none-some a (sym (ok.behind (t.size + i) (omega arith)) ∙ e))
       ]

@@ -1,15 +1,13 @@
 -- What a search finds in some groups, and how the choices of two adjacent ranges are joined.
-use Rattle.std.specs.Prelude.{◌≡◌, ◌≢◌, ℕ, Bool, not, is_some, ◌&&◌, ◌||◌, ◌==◌, nat_lt, nat_le}
+use Rattle.std.specs.Prelude.{◌≡◌, ℕ, Bool, not, is_some, ◌&&◌, ◌||◌, ◌==◌, nat_lt, nat_le}
 use Rattle.std.specs.Prelude.{if◌then◌else◌, List, [], ◌∷◌, Option, None, Some}
 use Rattle.std.specs.List.{position_or_len}
 use Rattle.std.specs.Map.{keys_of}
-use Rattle.std.specs.Option.{option_or}
+use Rattle.std.specs.Option.{option_or, ForSome}
 use Rattle.ar_disks.specs.Addresses.{same_addr}
 use Rattle.ar_disks.specs.declared.address.Addr.{Addr}
 use Rattle.ar_disks.specs.declared.address.Key.{Key}
 use Rattle.ar_index.specs.declared.choices.Age.{Age}
-use Rattle.ar_index.specs.declared.choices.Change.{Change}
-use Rattle.ar_index.specs.declared.choices.Change.TheVariants.{Nothing, Oldest, Anything}
 use Rattle.ar_index.specs.declared.choices.Choices.{Choices}
 
 -- a unit's place among these, in order of creation; past the last if it isn't one of them
@@ -43,21 +41,11 @@ nothing = record { mirrored = None; parity = None; free = None; oldest = None }
 abbrev pub with_oldest : Choices → Option Age → Choices
 with_oldest c oldest = record c { oldest = oldest }
 
--- the choices differ in nothing but the oldest block
-abbrev pub HaveSameNumbers : Choices → Choices → Type 0
-HaveSameNumbers c d = c ≡ record d { oldest = c.oldest }
-
--- the change says whether the two oldest blocks differ
-abbrev pub IsOldestChangedTo : Option Age → Option Age → Change → Type 0
-IsOldestChangedTo old new Nothing = new ≡ old
-IsOldestChangedTo old new Oldest = new ≢ old
-IsOldestChangedTo old new Anything = ⊥
-
--- the two choices differ in exactly what the change says
-abbrev pub IsChangedTo : Choices → Choices → Change → Type 0
-IsChangedTo old new Nothing = new ≡ old
-IsChangedTo old new Oldest = HaveSameNumbers new old × (new ≢ old)
-IsChangedTo old new Anything = HaveSameNumbers new old → ⊥
+-- these are choices of one group: they name no other
+pub record AreOfGroup (number : ℕ) (c : Choices) : Type 0 where
+  pub mirrored : ForSome c.mirrored (λ n. n ≡ number)
+  pub parity : ForSome c.parity (λ n. n ≡ number)
+  pub free : ForSome c.free (λ n. n ≡ number)
 
 -- whether there is no choice: a blank leaf
 abbrev pub is_nothing : Choices → Bool

@@ -1,8 +1,7 @@
-// What a search may choose in a range of groups, and the join of two adjacent ranges.
+// What a search may choose in a range of groups.
 ghost use Rattle.std.specs.Prelude.{◌≡◌, ◌≢◌, true, false};
 ghost use Rattle.ar_index.specs.Choices.{place_in, comes_no_later};
 
-use crate::Lowest;
 use ar_disks::{Addr, Key};
 use indexmap::IndexMap;
 
@@ -20,9 +19,9 @@ pub struct Age {
 /// with one, the lowest free group, and the oldest mirrored block.
 #[derive(Clone, Copy, Debug, PartialEq, Eq)]
 pub struct Choices {
-    pub mirrored: Lowest,
-    pub parity: Lowest,
-    pub free: Lowest,
+    pub mirrored: Option<u32>,
+    pub parity: Option<u32>,
+    pub free: Option<u32>,
     pub oldest: Option<Age>,
 }
 
@@ -72,7 +71,8 @@ fn is_same_key(one: Key, other: Key) -> bool
     one == other
 }
 
-fn is_same_age(one: Option<Age>, other: Option<Age>) -> bool
+/// Whether both are one block, or both are none.
+pub(crate) fn is_same_age(one: Option<Age>, other: Option<Age>) -> bool
     ensures same { result ≡ true → one ≡ other }
     ensures another { result ≡ false → one ≢ other }
 {
@@ -83,27 +83,18 @@ fn is_same_age(one: Option<Age>, other: Option<Age>) -> bool
     }
 }
 
-/// In what a node differs from its former value.
-#[derive(Clone, Copy)]
-pub(crate) enum Change {
-    Nothing,
-    /// The oldest block alone.
-    Oldest,
-    Anything,
-}
-
 impl Choices {
     ghost use Rattle.std.specs.Prelude.{◌≡◌};
-    ghost use Rattle.ar_index.specs.Choices.{place_in, nothing, is_nothing, join, IsChangedTo};
+    ghost use Rattle.ar_index.specs.Choices.{nothing, is_nothing};
 
     /// The choices among no groups: none.
     pub fn nothing() -> Choices
         ensures { result ≡ nothing }
     {
         Choices {
-            mirrored: Lowest::of(None),
-            parity: Lowest::of(None),
-            free: Lowest::of(None),
+            mirrored: None,
+            parity: None,
+            free: None,
             oldest: None,
         }
     }
@@ -112,63 +103,10 @@ impl Choices {
     pub fn is_nothing(&self) -> bool
         ensures { result ≡ is_nothing self.now }
     {
-        !self.mirrored.is_some()
-            && !self.parity.is_some()
-            && !self.free.is_some()
+        self.mirrored.is_none()
+            && self.parity.is_none()
+            && self.free.is_none()
             && self.oldest.is_none()
-    }
-
-    /// In what the choices differ from `former`.
-    // Made part of its callers, which have both at hand.
-    #[inline(always)]
-    pub(crate) fn change(&self, former: &Choices) -> Change
-        ensures { IsChangedTo former.now self.now result }
-    {
-        let has_same_numbers = self.mirrored.is_same(former.mirrored)
-            && self.parity.is_same(former.parity)
-            && self.free.is_same(former.free);
-        if has_same_numbers {
-            Change::of_oldest(self.oldest, former.oldest)
-        } else {
-            Change::Anything
-        }
-    }
-
-    /// The choices among the groups of both; those of `left` have the lower numbers.
-    pub fn join<V>(left: &Choices, right: &Choices, units: &IndexMap<Addr, V>) -> Choices
-        ensures { result ≡ join (place_in units.now.entries) left.now right.now }
-    {
-        Choices {
-            mirrored: left.mirrored.or(right.mirrored),
-            parity: left.parity.or(right.parity),
-            free: left.free.or(right.free),
-            oldest: Age::older(left.oldest, right.oldest, units),
-        }
-    }
-}
-
-impl Change {
-    ghost use Rattle.std.specs.Prelude.{◌≡◌, ◌≢◌, true, false};
-    ghost use Rattle.ar_index.specs.declared.choices.Change.{Change};
-    ghost use Rattle.ar_index.specs.Choices.{IsOldestChangedTo};
-
-    /// Whether anything differs.
-    pub(crate) fn is_some(self) -> bool
-        ensures some { result ≡ true → self ≢ Change.Nothing }
-        ensures none { result ≡ false → self ≡ Change.Nothing }
-    {
-        !matches!(self, Change::Nothing)
-    }
-
-    /// The change of a node of which nothing but the oldest block can differ.
-    pub(crate) fn of_oldest(oldest: Option<Age>, former: Option<Age>) -> Change
-        ensures { IsOldestChangedTo former oldest result }
-    {
-        if is_same_age(oldest, former) {
-            Change::Nothing
-        } else {
-            Change::Oldest
-        }
     }
 }
 

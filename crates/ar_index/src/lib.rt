@@ -1,14 +1,16 @@
-//! A search tree over the groups: each inner node is the join of its children, so the root has what a scan of all
-//! groups would find: the lowest with a hole, by class, the lowest that is free, and the oldest mirrored block.
+//! A search tree over the groups: bit sets have the numbers of those with a hole, by class, and of those that are free,
+//! and a tree has the oldest mirrored block of each group, so the lowest group of a kind and the oldest block are found
+//! without a scan of the groups.
 #![tactic(auto)]
 
+mod bits;
 mod choices;
-mod lowest;
+mod mask;
 mod nodes;
-mod steps;
 mod tree;
 
+/// A count of steps that only contracts see: loop iterations, items of iterators and recursive calls.
+pub use ar_disks::AccessCount as Steps;
 pub use choices::{Age, Choices};
-pub use lowest::Lowest;
-pub use steps::Steps;
+pub use mask::{clear_bit, lowest_bit, set_bit};
 pub use tree::Tree;

@@ -1,0 +1,23 @@
+use Rattle.std.proofs.Common.{◌+◌, ◌∙◌, sym, ap, arith, length, get_or}
+use Rattle.ar_index.specs.Choices.{nothing}
+use Rattle.ar_index.specs.Tree.{node_at, leaves}
+use Rattle.ar_index.specs.contracts.tree.Tree.{the_view}
+use Rattle.ar_index.proofs.Leaves.{seen_inside, leaf_at}
+use Rattle.ar_index.proofs.tree.Tree.oldest.Goals as goal
+
+pub node_at-requires : goal.node_at-requires
+node_at-requires c =
+    let inside = seen_inside (the_view c.self.inside) _ c.args.leaf c.self.view_is c.requires in
+    omega (arith, ap length c.deref.ensures.value, c.self.invariant.grown.twice, c.self.invariant.grown.within)
+
+pub returns : goal.returns
+returns c =
+    let inside = seen_inside (the_view c.self.inside) _ c.args.leaf c.self.view_is c.requires in
+    c.node_at.ensures ∙ ap (λ xs. node_at xs (c.self.inside.size + c.args.leaf)) c.deref.ensures.value
+    ∙ ap (λ x. x.oldest) (sym (leaf_at (the_view c.self.inside) c.args.leaf inside)
+    ∙ ap (λ t. get_or (leaves t) c.args.leaf nothing) c.self.view_is)
+
+pub overflow_add-self-inside : goal.overflow_add-self-inside
+overflow_add-self-inside c =
+    let inside = seen_inside (the_view c.self.inside) _ c.args.leaf c.self.view_is c.requires in
+    record { fits = omega (arith, c.self.invariant.close, c.self.invariant.few) }
