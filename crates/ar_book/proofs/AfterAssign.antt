@@ -1,28 +1,24 @@
 -- The tables after a block moved to an empty slot.
-use Rattle.std.proofs.Common.{◌≡◌, ◌≢◌, ℕ, ◌+◌, ◌-◌, ◌*◌, ◌<◌, ◌≤◌, Option, None, Some, length, get_or, set, refl, sym}
-use Rattle.std.proofs.Common.{ap, subst, ◌∙◌, arith}
+use Rattle.std.proofs.Common.{◌≡◌, ◌≢◌, ℕ, ◌≤◌, Option, None, Some, length, get_or, set, refl, sym, ap, ◌∙◌, arith}
 use Rattle.std.specs.Map.{keys_of}
 use Rattle.std.proofs.Math.ListN.{length-set}
 use Rattle.std.proofs.lemmas.Map.{keys-set_value}
-use Rattle.ar_disks.specs.Geometry.{rows_of}
 use Rattle.ar_disks.specs.declared.address.Addr.{Addr}
 use Rattle.ar_disks.specs.declared.address.Key.{Key}
 use Rattle.ar_book.specs.declared.class.Class.TheVariants.{Free}
 use Rattle.ar_book.specs.declared.class.Slot.{Slot}
-use Rattle.ar_disks.specs.Addresses.{same_addr}
-use Rattle.ar_book.specs.Tables.{UnitTableState, Tables, group_in, key_in, unit_in, key_at, home, stamp_of, level}
-use Rattle.ar_book.specs.Tables.{level_in, level_of, class_of, free_groups, reserved, room, HasBlock, HasSlot}
+use Rattle.ar_book.specs.Tables.{UnitTableState, Tables, group_in, key_in, unit_in, key_at, home, stamp_of, class_of}
+use Rattle.ar_book.specs.Tables.{free_groups, reserved, HasBlock, HasSlot}
 use Rattle.ar_book.specs.Changes.{named, vacated, assigned}
 use Rattle.ar_book.specs.Choices.{IsEmpty}
 use Rattle.ar_book.specs.Book.{TablesAgree}
-use Rattle.ar_book.proofs.GroupLemmas.{KeepsClass, class_kept, level_stays, named_size, named_members, named_class}
-use Rattle.ar_book.proofs.GroupLemmas.{named_other, vacated_size, vacated_members, vacated_class, vacated_same}
-use Rattle.ar_book.proofs.GroupLemmas.{vacated_other, vacated_emptied}
-use Rattle.ar_book.proofs.FreeGroups.{free_in, named_free, vacated_free, vacated_free_same, vacated_free_more}
+use Rattle.ar_book.proofs.GroupLemmas.{KeepsClass, class_kept, named_size, named_members, named_class, named_other}
+use Rattle.ar_book.proofs.GroupLemmas.{vacated_size, vacated_members, vacated_class, vacated_same, vacated_other}
+use Rattle.ar_book.proofs.GroupLemmas.{vacated_emptied}
+use Rattle.ar_book.proofs.FreeGroups.{named_free, vacated_free}
 use Rattle.ar_book.proofs.UnitLemmas.{unit_keeps, homed_same, homed_other, homed_reserved}
 use Rattle.ar_book.proofs.PlaceLemmas.{assigned_agrees}
 use Rattle.ar_book.proofs.KeptLemmas.{former_group, former_slot}
-use Rattle.ar_book.proofs.Homes.{key_class}
 
 module _ (t : Tables) (k : Key) (s : Slot) where
   -- as many groups stay, with the members that they had
@@ -34,29 +30,20 @@ module _ (t : Tables) (k : Key) (s : Slot) where
 
   -- each has its class, or is free where none of its slots names a block
   pub assigned_class : (g : ℕ) → KeepsClass (class_of t g) (group_in (assigned t k s).groups g)
-  assigned_class g =
-      subst (λ c. KeepsClass c (group_in (assigned t k s).groups g)) (named_class t.groups s k g)
-      (vacated_class (named t.groups s k) (home t k) g)
+  assigned_class g = grind (arith, named_class, vacated_class)
 
   -- the class stays where a slot names a block
   pub assigned_class_named : (r : Slot) (j : Key) → key_at (assigned t k s) r ≡ Some j
       → class_of (assigned t k s) r.group ≡ class_of t r.group
-  assigned_class_named r j e =
-      class_kept (class_of t r.group) (group_in (assigned t k s).groups r.group) r.slot j (assigned_class r.group) e
+  assigned_class_named r j e = grind (arith, class_kept, assigned_class)
 
   -- no fewer groups are free
   pub assigned_free_groups : free_groups t ≤ free_groups (assigned t k s)
-  assigned_free_groups =
-      let first : free_in (named t.groups s k) ≡ free_in t.groups = named_free t.groups s k in
-      let rest : free_in (named t.groups s k) ≤ free_in (assigned t k s).groups =
-      vacated_free (named t.groups s k) (home t k) in
-      omega arith
+  assigned_free_groups = grind (arith, named_free, vacated_free)
 
   -- the units stay in their order
   pub assigned_order : keys_of (assigned t k s).units ≡ keys_of t.units
-  assigned_order =
-      let u = unit_in t.units k.addr in
-      keys-set_value (same_addr k.addr) t.units (record u { homes = set u.homes k.rb (Some s) })
+  assigned_order = grind (arith, keys-set_value)
 
   -- what is read of a unit besides its homes stays
   same_unit : {A : Type 0} (f : UnitTableState → A)
@@ -83,9 +70,6 @@ module _ (t : Tables) (k : Key) (s : Slot) where
   pub assigned_blocks : (a : Addr) → length (unit_in (assigned t k s).units a).homes ≡ length (unit_in t.units a).homes
   assigned_blocks a = same_unit (λ u. length u.homes) (length-set (unit_in t.units k.addr).homes k.rb (Some s)) a
 
-  pub assigned_block : (j : Key) → HasBlock t j → HasBlock (assigned t k s) j
-  assigned_block j h = subst (λ n. j.rb < n) (sym (assigned_blocks j.addr)) h
-
 module _ (t : Tables) (k : Key) (s : Slot) (block : HasBlock t k) where
   -- the slot is the block's home, and each other block has the home that it had
   pub assigned_home : home (assigned t k s) k ≡ Some s
@@ -98,11 +82,6 @@ module _ (t : Tables) (k : Key) (s : Slot) (block : HasBlock t k) where
   pub assigned_reserved : reserved (assigned t k s) ≡ reserved t
   assigned_reserved = homed_reserved t.units k (Some s) block
 
-  pub assigned_room : room (assigned t k s) ≡ room t
-  assigned_room =
-      ap (λ n. 3 * rows_of t.geometry * (n - 1) - reserved (assigned t k s)) (assigned_group_count t k s)
-      ∙ ap (λ n. 3 * rows_of t.geometry * (length t.groups - 1) - n) assigned_reserved
-
 module _ (t : Tables) (k : Key) (s : Slot) (ok : TablesAgree t) (block : HasBlock t k) (slot : HasSlot t s)
     (empty : key_at t s ≡ None) where
   -- the slot names the block
@@ -111,10 +90,7 @@ module _ (t : Tables) (k : Key) (s : Slot) (ok : TablesAgree t) (block : HasBloc
 
   -- its former slot is empty
   pub assigned_key_left : (q : Slot) → home t k ≡ Some q → key_at (assigned t k s) q ≡ None
-  assigned_key_left q had =
-      subst (λ o. key_in (vacated (named t.groups s k) o) q ≡ None) (sym had)
-      (vacated_same (named t.groups s k) q (former_group t k s ok slot empty q had)
-      (former_slot t k s ok slot empty q had))
+  assigned_key_left q had = grind (arith, vacated_same, former_group, former_slot)
 
   -- each other slot names what it did
   pub assigned_key_other : (r : Slot) → r ≢ s → home t k ≢ Some r → key_at (assigned t k s) r ≡ key_at t r
@@ -134,47 +110,4 @@ module _ (t : Tables) (k : Key) (s : Slot) (ok : TablesAgree t) (block : HasBloc
   -- the group that the block left is free where it is empty
   pub assigned_class_left : (q : Slot) → home t k ≡ Some q → IsEmpty (assigned t k s) q.group
       → class_of (assigned t k s) q.group ≡ Free
-  assigned_class_left q had =
-      subst
-      (λ o. ((i : ℕ) → key_in (vacated (named t.groups s k) o) (record { group = q.group; slot = i }) ≡ None)
-      → (group_in (vacated (named t.groups s k) o) q.group).class ≡ Free)
-      (sym had)
-      (vacated_emptied (named t.groups s k) q (former_group t k s ok slot empty q had))
-
-  -- the block stands at the level of the slot's class, and each other block where it did
-  pub assigned_level : level (assigned t k s) k ≡ level_of (class_of t s.group)
-  assigned_level =
-      ap (λ o. level_in (assigned t k s).groups o) (assigned_home t k s block) ∙ ap level_of assigned_class_here
-
-  pub assigned_level_other : (j : Key) → j ≢ k → level (assigned t k s) j ≡ level t j
-  assigned_level_other j ne =
-      let same = assigned_home_other t k s block j ne in
-      ap (λ o. level_in (assigned t k s).groups o) same
-      ∙ level_stays t.groups (assigned t k s).groups (home t j)
-      (λ r e. assigned_class_named t k s r j ((assigned_agrees t k s ok block slot empty).agree.to_slot j r (same ∙ e)))
-
-  -- as many groups are free where the group that the block left keeps its class, as where there is none
-  pub assigned_free_groups_same : ((q : Slot) → home t k ≡ Some q
-      → class_of (assigned t k s) q.group ≡ class_of t q.group)
-      → free_groups (assigned t k s) ≡ free_groups t
-  assigned_free_groups_same stays = by (home t k) refl ∙ named_free t.groups s k
-    where
-      by : (o : Option Slot) → home t k ≡ o → free_in (vacated (named t.groups s k) o) ≡ free_in (named t.groups s k)
-      by None e = refl
-      by (Some q) e =
-          vacated_free_same (named t.groups s k) q (former_group t k s ok slot empty q e)
-          (ap (λ o. (group_in (vacated (named t.groups s k) o) q.group).class) (sym e) ∙ stays q e
-          ∙ sym (named_class t.groups s k q.group))
-
-  -- and one more is free where that group is empty
-  pub assigned_free_groups_more : (q : Slot) → home t k ≡ Some q → IsEmpty (assigned t k s) q.group
-      → free_groups (assigned t k s) ≡ free_groups t + 1
-  assigned_free_groups_more q had =
-      subst
-      (λ o. ((i : ℕ) → key_in (vacated (named t.groups s k) o) (record { group = q.group; slot = i }) ≡ None)
-      → free_in (vacated (named t.groups s k) o) ≡ free_in t.groups + 1)
-      (sym had)
-      (λ none.
-      vacated_free_more (named t.groups s k) q (former_group t k s ok slot empty q had)
-      (λ free. key_class t ok q k (ok.agree.to_slot k q had) (sym (named_class t.groups s k q.group) ∙ free)) none
-      ∙ ap (λ n. n + 1) (named_free t.groups s k))
+  assigned_class_left q had = grind (arith, vacated_emptied, former_group)

@@ -4,20 +4,18 @@ use Rattle.std.proofs.Math.ListN.{length-set}
 use Rattle.std.proofs.lemmas.List.Sums.{sum_by_push}
 use Rattle.ar_disks.specs.Geometry.{rows_of}
 use Rattle.ar_disks.specs.Members.{member, with_member, AreApart}
-use Rattle.ar_disks.specs.declared.address.Key.{Key}
 use Rattle.ar_disks.specs.declared.address.Place.{Place}
 use Rattle.ar_disks.specs.declared.address.Members.{Members}
 use Rattle.ar_book.specs.declared.class.Class.TheVariants.{Free}
 use Rattle.ar_book.specs.declared.class.Slot.{Slot}
-use Rattle.ar_book.specs.Tables.{GroupState, Tables, group_in, key_at, home, level, class_of, free_groups, reserved}
+use Rattle.ar_book.specs.Tables.{GroupState, Tables, group_in, key_at, class_of, free_groups, reserved}
 use Rattle.ar_book.specs.Changes.{free_group, formed, shifted}
 use Rattle.ar_book.specs.Choices.{IsUnused, AreUnused}
 use Rattle.ar_book.specs.Book.{TablesAgree}
-use Rattle.ar_book.proofs.GroupLemmas.{put_same, put_other, put_keeps, level_stays}
-use Rattle.ar_book.proofs.FreeGroups.{one_if_free, put_free_same}
+use Rattle.ar_book.proofs.GroupLemmas.{put_same, put_other, put_keeps}
+use Rattle.ar_book.proofs.FreeGroups.{one_if_free}
 use Rattle.ar_book.proofs.GroupChanges.{put_keys, formed_group_below, formed_group_last, unused_disjoint, formed_kept}
 use Rattle.ar_book.proofs.GroupChanges.{shifted_kept}
-use Rattle.ar_book.proofs.Homes.{home_slot}
 
 module _ (t : Tables) (m : Members) where
   -- the new group has the members and is free, and each other one is as before
@@ -39,11 +37,6 @@ module _ (t : Tables) (m : Members) where
   formed_free_groups =
       sum_by_push (λ (y : GroupState). one_if_free y.class) t.groups (free_group m (3 * rows_of t.geometry))
 
-  -- each block stands at the level that it had
-  pub formed_level : TablesAgree t → (j : Key) → level (formed t m) j ≡ level t j
-  formed_level ok j =
-      level_stays t.groups (formed t m).groups (home t j) (λ s e. formed_class_other s.group (home_slot t ok j s e).0)
-
   -- the tables still agree where the extents are on four disks and in no group
   pub formed_agrees : TablesAgree t → AreApart m → AreUnused t m
       → m.first.disk < 2 ^ 8 → m.first.extent < 2 ^ 16 → TablesAgree (formed t m)
@@ -62,20 +55,11 @@ module _ (t : Tables) (g p : ℕ) (x : Place) where
       put_keeps (λ y. y.class) t.groups g
       (record (group_in t.groups g) { members = with_member (group_in t.groups g).members p x }) refl i
 
-  pub shifted_free_groups : free_groups (shifted t g p x) ≡ free_groups t
-  shifted_free_groups =
-      put_free_same t.groups g
-      (record (group_in t.groups g) { members = with_member (group_in t.groups g).members p x }) refl
-
   -- each slot names what it did
   pub shifted_key : (s : Slot) → key_at (shifted t g p x) s ≡ key_at t s
   shifted_key s =
       put_keys t.groups g (record (group_in t.groups g) { members = with_member (group_in t.groups g).members p x })
       refl s
-
-  -- each block stands at the level that it had
-  pub shifted_level : (j : Key) → level (shifted t g p x) j ≡ level t j
-  shifted_level j = level_stays t.groups (shifted t g p x).groups (home t j) (λ s e. shifted_class s.group)
 
   -- the group has the extent at that position, and each other group has its members
   pub shifted_members : g < length t.groups → (group_in (shifted t g p x).groups g).members

@@ -1,10 +1,8 @@
 -- The tables after a unit was made, has grown, or its mark was cleared.
-use Rattle.std.proofs.Common.{◌≡◌, ◌≢◌, ℕ, ◌+◌, ◌-◌, false, Some, None, IsSome, is_some, [], ◌∷◌, ◌++◌, cond, length}
-use Rattle.std.proofs.Common.{get_or, replicate, refl, sym, ap, subst, ◌∙◌, length-append, arith}
+use Rattle.std.proofs.Common.{◌≡◌, ◌≢◌, ℕ, ◌-◌, false, None, IsSome, is_some, [], ◌∷◌, ◌++◌, length, get_or, refl, sym}
+use Rattle.std.proofs.Common.{ap, subst, ◌∙◌, arith}
 use Rattle.std.specs.List.{IsDistinct}
 use Rattle.std.specs.Map.{lookup, keys_of}
-use Rattle.std.specs.Option.{unwrap_or}
-use Rattle.std.proofs.Math.ListN.{length-replicate}
 use Rattle.std.proofs.lemmas.Map.{keys-set_value}
 use Rattle.std.proofs.lemmas.Map.Keys.{IsDistinct-push}
 use Rattle.std.proofs.lemmas.Map.Made.{is_some-lookup}
@@ -12,13 +10,13 @@ use Rattle.ar_disks.specs.declared.address.Addr.{Addr}
 use Rattle.ar_disks.specs.declared.address.Key.{Key}
 use Rattle.ar_book.specs.declared.class.Slot.{Slot}
 use Rattle.ar_disks.specs.Addresses.{same_addr}
-use Rattle.ar_book.specs.Tables.{Tables, no_unit, unit_in, home, stamp_of, level, level_in, blocks_of, reserved}
+use Rattle.ar_book.specs.Tables.{Tables, unit_in, home, stamp_of, blocks_of, reserved}
 use Rattle.ar_book.specs.Changes.{new_unit, longer, made, grown, unmarked}
 use Rattle.ar_book.specs.Refusals.{unit_make_refusal, unit_grow_refusal}
 use Rattle.ar_book.specs.Book.{TablesAgree}
 use Rattle.ar_disks.proofs.Addresses.{addr_laws, addr_apart, same_addr_self}
 use Rattle.ar_book.proofs.Padding.{nothing, get_replicate, get_padded}
-use Rattle.ar_book.proofs.UnitLemmas.{unit_same, unit_other, unit_keeps, unit_sum}
+use Rattle.ar_book.proofs.UnitLemmas.{unit_same, unit_other, unit_keeps}
 use Rattle.ar_book.proofs.UnitChanges.{keys_push, push_found, push_keeps, push_other, made_kept, grown_kept}
 use Rattle.ar_book.proofs.UnitChanges.{unmarked_kept}
 use Rattle.ar_book.proofs.RefusalLemmas.{CanMake, can_make, CanGrow, can_grow}
@@ -35,19 +33,12 @@ module _ (t : Tables) (a : Addr) (n : ℕ) where
       push_keeps (λ u. get_or u.stamps j.rb 0) (same_addr j.addr) t.units a (new_unit t.geometry n)
       (get_replicate (blocks_of t.geometry n) j.rb 0)
 
-  pub made_level : (j : Key) → level (made t a n) j ≡ level t j
-  made_level j = ap (λ o. level_in t.groups o) (made_home j)
-
   -- the new unit is there, and each other one is as before
   pub made_unit : lookup (same_addr a) t.units ≡ None → unit_in (made t a n).units a ≡ new_unit t.geometry n
-  made_unit fresh =
-      ap (λ o. unwrap_or o no_unit)
-      (push_found (same_addr a) t.units a (new_unit t.geometry n) fresh
-      ∙ ap (λ b. cond b (Some (new_unit t.geometry n)) None) (same_addr_self a))
+  made_unit fresh = grind (arith, push_found, same_addr_self)
 
   pub made_unit_other : (b : Addr) → b ≢ a → unit_in (made t a n).units b ≡ unit_in t.units b
-  made_unit_other b ne =
-      ap (λ o. unwrap_or o no_unit) (push_other (same_addr b) t.units a (new_unit t.geometry n) (addr_apart b a ne))
+  made_unit_other b ne = grind (arith, push_other, addr_apart)
 
   -- it is the last in order of making
   pub made_order : keys_of (made t a n).units ≡ keys_of t.units ++ a ∷ []
@@ -77,9 +68,6 @@ module _ (t : Tables) (a : Addr) (n : ℕ) where
       unit_keeps (λ x. get_or x.stamps j.rb 0) t.units a (longer t.geometry u n)
       (get_padded u.stamps (blocks_of t.geometry n - length u.homes) j.rb 0) j.addr
 
-  pub grown_level : (j : Key) → level (grown t a n) j ≡ level t j
-  grown_level j = ap (λ o. level_in t.groups o) (grown_home j)
-
   -- the units stay in their order
   pub grown_order : keys_of (grown t a n).units ≡ keys_of t.units
   grown_order = keys-set_value (same_addr a) t.units (longer t.geometry (unit_in t.units a) n)
@@ -91,18 +79,6 @@ module _ (t : Tables) (a : Addr) (n : ℕ) where
 
     pub grown_unit_other : (b : Addr) → b ≢ a → unit_in (grown t a n).units b ≡ unit_in t.units b
     grown_unit_other b ne = unit_other t.units a (longer t.geometry (unit_in t.units a) n) there b (λ e. ne (sym e))
-
-    -- the added blocks are reserved
-    pub grown_reserved : reserved (grown t a n) ≡ reserved t
-        + (blocks_of t.geometry n - length (unit_in t.units a).homes)
-    grown_reserved =
-        let u = unit_in t.units a in
-        let more : ℕ = blocks_of t.geometry n - length u.homes in
-        let all = unit_sum t.units a (longer t.geometry u n) there (λ x. length x.homes) in
-        let size : length (u.homes ++ replicate more (nothing Slot)) ≡ length u.homes + more =
-        length-append u.homes (replicate more (nothing Slot))
-        ∙ ap (λ x. length u.homes + x) (length-replicate more (nothing Slot)) in
-        omega arith
 
   -- the tables still agree where the growth is not refused
   pub grown_agrees : TablesAgree t → unit_grow_refusal t a n ≡ None → TablesAgree (grown t a n)
@@ -121,9 +97,6 @@ module _ (t : Tables) (a : Addr) where
   pub unmarked_stamp : (j : Key) → stamp_of (unmarked t a) j ≡ stamp_of t j
   unmarked_stamp j =
       unit_keeps (λ x. get_or x.stamps j.rb 0) t.units a (record (unit_in t.units a) { attention = false }) refl j.addr
-
-  pub unmarked_level : (j : Key) → level (unmarked t a) j ≡ level t j
-  unmarked_level j = ap (λ o. level_in t.groups o) (unmarked_home j)
 
   -- each unit has its length, and as many blocks
   pub unmarked_sectors : (b : Addr) → (unit_in (unmarked t a).units b).sectors ≡ (unit_in t.units b).sectors

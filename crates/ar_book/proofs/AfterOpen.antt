@@ -1,19 +1,18 @@
 -- The tables after a free group was opened for a class.
-use Rattle.std.proofs.Common.{◌≡◌, ◌≢◌, ℕ, ◌+◌, ◌-◌, ◌*◌, ◌<◌, length, refl, sym, ap, subst, ◌∙◌}
+use Rattle.std.proofs.Common.{◌≡◌, ◌≢◌, ℕ, List, ◌+◌, ◌<◌, length, refl, sym, ap, subst, ◌∙◌}
+use Rattle.std.specs.Prelude.{slice_set}
 use Rattle.std.proofs.Math.ListN.{length-set}
-use Rattle.ar_disks.specs.Geometry.{rows_of}
-use Rattle.ar_disks.specs.declared.address.Key.{Key}
 use Rattle.ar_book.specs.declared.class.Class.{Class}
 use Rattle.ar_book.specs.declared.class.Class.TheVariants.{Free}
 use Rattle.ar_book.specs.declared.class.Slot.{Slot}
-use Rattle.ar_book.specs.Tables.{Tables, group_in, key_at, home, level, class_of, slots_of, free_groups, reserved, room}
+use Rattle.ar_book.specs.Tables.{GroupState, Tables, group_in, key_at, class_of, slots_of, free_groups, reserved}
 use Rattle.ar_book.specs.Changes.{opened}
-use Rattle.ar_book.specs.Choices.{IsEmpty, IsHole}
+use Rattle.ar_book.specs.Choices.{IsEmpty, IsHole, IsLowestFree, OpensLowest}
 use Rattle.ar_book.specs.Book.{TablesAgree}
-use Rattle.ar_book.proofs.GroupLemmas.{put_same, put_other, put_keeps, level_stays}
+use Rattle.ar_book.proofs.GroupLemmas.{put_same, put_other, put_keeps}
 use Rattle.ar_book.proofs.FreeGroups.{put_free_less}
 use Rattle.ar_book.proofs.GroupChanges.{put_keys, opened_kept}
-use Rattle.ar_book.proofs.Homes.{key_class, free_empty}
+use Rattle.ar_book.proofs.Homes.{free_empty}
 
 module _ (t : Tables) (g : ℕ) (c : Class) where
   -- as many groups stay, with the members that they had
@@ -34,10 +33,6 @@ module _ (t : Tables) (g : ℕ) (c : Class) where
   pub opened_class_other : (i : ℕ) → i ≢ g → class_of (opened t g c) i ≡ class_of t i
   opened_class_other i ne = ap (λ y. y.class) (put_other t.groups g (record (group_in t.groups g) { class = c }) i ne)
 
-  -- the room stays
-  pub opened_room : room (opened t g c) ≡ room t
-  opened_room = ap (λ n. 3 * rows_of t.geometry * (n - 1) - reserved t) opened_group_count
-
 module _ (t : Tables) (g : ℕ) (c : Class) (ok : TablesAgree t) (inside : g < length t.groups) (free : class_of t g
     ≡ Free) where
   -- the group's slots are all empty
@@ -53,13 +48,6 @@ module _ (t : Tables) (g : ℕ) (c : Class) (ok : TablesAgree t) (inside : g < l
     empty = opened_empty i;
   }
 
-  -- each block stands at the level that it had
-  pub opened_level : (j : Key) → level (opened t g c) j ≡ level t j
-  opened_level j =
-      level_stays t.groups (opened t g c).groups (home t j)
-      (λ s e. opened_class_other t g c s.group
-      (λ same. key_class t ok s j (ok.agree.to_slot j s e) (ap (λ i. class_of t i) same ∙ free)))
-
   -- one group fewer is free
   pub opened_free_groups : c ≢ Free → free_groups (opened t g c) + 1 ≡ free_groups t
   opened_free_groups taken = put_free_less t.groups g (record (group_in t.groups g) { class = c }) inside free taken
@@ -67,3 +55,15 @@ module _ (t : Tables) (g : ℕ) (c : Class) (ok : TablesAgree t) (inside : g < l
   -- the tables still agree
   pub opened_agrees : TablesAgree (opened t g c)
   opened_agrees = (opened_kept t (reserved t) g c (record { tables = ok; total = refl }) inside free).tables
+
+-- the lowest free group was opened, where these are the groups after it
+pub opens_lowest : (t x : Tables) (g : ℕ) (c : Class) (gs : List GroupState) → t ≡ x → TablesAgree t
+    → IsLowestFree t g → gs ≡ slice_set t.groups g (record (group_in t.groups g) { class = c })
+    → OpensLowest x (record t { groups = gs }) c g
+opens_lowest t x g c gs same ok low made =
+    subst (λ (y : Tables). OpensLowest y (record t { groups = gs }) c g) same (record {
+      lowest = low;
+      opened = ap (λ (l : List GroupState). (let u : Tables = record t { groups = l } in u)) made;
+      empty = subst (λ (l : List GroupState). IsEmpty (record t { groups = l }) g) (sym made)
+          (opened_empty t g c ok low.there low.free);
+    })

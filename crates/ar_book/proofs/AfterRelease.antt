@@ -1,23 +1,20 @@
 -- The tables after a block left its home.
-use Rattle.std.proofs.Common.{◌≡◌, ◌≢◌, ℕ, ◌-◌, ◌*◌, ◌≤◌, Option, None, Some, length, get_or, set, refl, sym, ap, subst}
-use Rattle.std.proofs.Common.{◌∙◌}
+use Rattle.std.proofs.Common.{◌≡◌, ◌≢◌, ℕ, ◌≤◌, Option, None, Some, length, get_or, set, refl, sym, ap, subst, ◌∙◌}
 use Rattle.std.specs.Map.{keys_of}
 use Rattle.std.proofs.Math.ListN.{length-set}
 use Rattle.std.proofs.lemmas.Map.{keys-set_value}
-use Rattle.ar_disks.specs.Geometry.{rows_of}
 use Rattle.ar_disks.specs.declared.address.Addr.{Addr}
 use Rattle.ar_disks.specs.declared.address.Key.{Key}
 use Rattle.ar_book.specs.declared.class.Slot.{Slot}
 use Rattle.ar_disks.specs.Addresses.{same_addr}
-use Rattle.ar_book.specs.Tables.{UnitTableState, Tables, group_in, key_in, unit_in, key_at, home, stamp_of, level}
-use Rattle.ar_book.specs.Tables.{level_in, class_of, free_groups, reserved, room, HasBlock}
+use Rattle.ar_book.specs.Tables.{UnitTableState, Tables, group_in, key_in, unit_in, key_at, home, stamp_of, class_of}
+use Rattle.ar_book.specs.Tables.{free_groups, reserved, HasBlock}
 use Rattle.ar_book.specs.Changes.{vacated, released}
 use Rattle.ar_book.specs.Book.{TablesAgree}
-use Rattle.ar_book.proofs.GroupLemmas.{there_group, there_slot, KeepsClass, class_kept, level_stays, vacated_size}
-use Rattle.ar_book.proofs.GroupLemmas.{vacated_members, vacated_class, vacated_same, vacated_other}
+use Rattle.ar_book.proofs.GroupLemmas.{there_group, there_slot, KeepsClass, class_kept, vacated_size, vacated_members}
+use Rattle.ar_book.proofs.GroupLemmas.{vacated_class, vacated_same, vacated_other}
 use Rattle.ar_book.proofs.FreeGroups.{vacated_free}
 use Rattle.ar_book.proofs.UnitLemmas.{unit_keeps, homed_same, homed_other, homed_reserved}
-use Rattle.ar_book.proofs.PlaceLemmas.{released_agrees}
 
 module _ (t : Tables) (k : Key) where
   -- as many groups stay, with the members that they had
@@ -80,11 +77,6 @@ module _ (t : Tables) (k : Key) (block : HasBlock t k) where
   pub released_reserved : reserved (released t k) ≡ reserved t
   released_reserved = homed_reserved t.units k None block
 
-  pub released_room : room (released t k) ≡ room t
-  released_room =
-      ap (λ n. 3 * rows_of t.geometry * (n - 1) - reserved (released t k)) (released_group_count t k)
-      ∙ ap (λ n. 3 * rows_of t.geometry * (length t.groups - 1) - n) released_reserved
-
 module _ (t : Tables) (k : Key) (ok : TablesAgree t) (block : HasBlock t k) where
   -- its former slot is empty
   pub released_key : (q : Slot) → home t k ≡ Some q → key_at (released t k) q ≡ None
@@ -102,11 +94,3 @@ module _ (t : Tables) (k : Key) (ok : TablesAgree t) (block : HasBlock t k) wher
       by (Some q) e =
           vacated_other t.groups q (there_group t.groups q k (ok.agree.to_slot k q e)) r
           (λ same. other (e ∙ ap Some (sym same)))
-
-  -- each other block stands at the level that it had
-  pub released_level_other : (j : Key) → j ≢ k → level (released t k) j ≡ level t j
-  released_level_other j ne =
-      let same = released_home_other t k block j ne in
-      ap (λ o. level_in (released t k).groups o) same
-      ∙ level_stays t.groups (released t k).groups (home t j)
-      (λ r e. released_class_named t k r j ((released_agrees t k ok block).agree.to_slot j r (same ∙ e)))

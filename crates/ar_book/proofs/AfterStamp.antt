@@ -1,19 +1,14 @@
 -- The tables after a block got the next stamp.
-use Rattle.std.proofs.Common.{◌≡◌, ◌≢◌, ◌-◌, ◌*◌, ◌<◌, None, length, get_or, set, refl, sym, ap, subst, ◌∙◌, inl, inr}
-use Rattle.std.proofs.Common.{get_or-set_same, get_or-set_other, arith}
+use Rattle.std.proofs.Common.{◌≡◌, ◌<◌, None, length, get_or, set, refl, sym, ap, subst, arith}
 use Rattle.std.specs.Map.{keys_of}
 use Rattle.std.proofs.lemmas.Map.{keys-set_value}
-use Rattle.ar_disks.specs.Geometry.{rows_of}
 use Rattle.ar_disks.specs.declared.address.Addr.{Addr}
 use Rattle.ar_disks.specs.declared.address.Key.{Key}
-use Rattle.ar_disks.specs.Addresses.{same_addr}
-use Rattle.ar_book.specs.Tables.{UnitTableState, Tables, unit_in, home, stamp_of, level, level_in, reserved, room}
-use Rattle.ar_book.specs.Tables.{HasBlock}
+use Rattle.ar_book.specs.Tables.{UnitTableState, Tables, unit_in, home, level, level_in, reserved, HasBlock}
 use Rattle.ar_book.specs.Changes.{next_stamp, stamped}
 use Rattle.ar_book.specs.Book.{TablesAgree}
-use Rattle.ar_disks.proofs.Addresses.{addr_tells, make_key}
-use Rattle.ar_book.proofs.UnitLemmas.{has_by_block, unit_same, unit_other, unit_keeps, unit_sum}
-use Rattle.ar_book.proofs.UnitChanges.{restamped_kept, stamps_long}
+use Rattle.ar_book.proofs.UnitLemmas.{has_by_block, unit_keeps, unit_sum}
+use Rattle.ar_book.proofs.UnitChanges.{restamped_kept}
 
 module _ (t : Tables) (k : Key) where
   -- what is read of a unit besides its stamps stays
@@ -47,46 +42,12 @@ module _ (t : Tables) (k : Key) where
 
   -- the units stay in their order
   pub stamped_order : keys_of (stamped t k).units ≡ keys_of t.units
-  stamped_order =
-      let u = unit_in t.units k.addr in
-      keys-set_value (same_addr k.addr) t.units (record u { stamps = set u.stamps k.rb (next_stamp t.puts) })
+  stamped_order = grind (arith, keys-set_value)
 
 module _ (t : Tables) (k : Key) (block : HasBlock t k) where
-  -- each other block has the stamp that it had
-  pub stamped_stamp_other : (j : Key) → j ≢ k → stamp_of (stamped t k) j ≡ stamp_of t j
-  stamped_stamp_other j ne =
-      let u = unit_in t.units k.addr in
-      let new : UnitTableState = record u { stamps = set u.stamps k.rb (next_stamp t.puts) } in
-      let there = has_by_block t.units k.addr k.rb block in
-      elim (addr_tells k.addr j.addr) [
-        | inl e ↦
-            ap (λ a. get_or (unit_in (stamped t k).units a).stamps j.rb 0) (sym e.1)
-            ∙ ap (λ x. get_or x.stamps j.rb 0) (unit_same t.units k.addr new there)
-            ∙ get_or-set_other u.stamps k.rb j.rb (next_stamp t.puts) 0 (λ q. ne (make_key j k (sym e.1) q))
-            ∙ ap (λ a. get_or (unit_in t.units a).stamps j.rb 0) e.1
-        | inr d ↦ ap (λ x. get_or x.stamps j.rb 0) (unit_other t.units k.addr new there j.addr d.1)
-      ]
-
   -- as many blocks are reserved, and the room stays
   pub stamped_reserved : reserved (stamped t k) ≡ reserved t
-  stamped_reserved =
-      let u = unit_in t.units k.addr in
-      let all = unit_sum t.units k.addr (record u { stamps = set u.stamps k.rb (next_stamp t.puts) })
-      (has_by_block t.units k.addr k.rb block) (λ x. length x.homes) in
-      omega arith
-
-  pub stamped_room : room (stamped t k) ≡ room t
-  stamped_room = ap (λ n. 3 * rows_of t.geometry * (length t.groups - 1) - n) stamped_reserved
-
-  -- the block has the next stamp
-  pub stamped_stamp : TablesAgree t → stamp_of (stamped t k) k ≡ next_stamp t.puts
-  stamped_stamp ok =
-      let u = unit_in t.units k.addr in
-      ap (λ x. get_or x.stamps k.rb 0)
-      (unit_same t.units k.addr (record u { stamps = set u.stamps k.rb (next_stamp t.puts) })
-      (has_by_block t.units k.addr k.rb block))
-      ∙ get_or-set_same u.stamps k.rb (next_stamp t.puts) 0
-      (stamps_long t (reserved t) k (record { tables = ok; total = refl }) block)
+  stamped_reserved = grind (arith, unit_sum, has_by_block)
 
   -- the tables still agree
   pub stamped_agrees : TablesAgree t → TablesAgree (stamped t k)

@@ -13,9 +13,8 @@ use Rattle.ar_index.specs.declared.choices.Age.{Age}
 use Rattle.ar_index.specs.declared.choices.Choices.{Choices}
 use Rattle.ar_index.specs.Choices.{place_in, is_no_newer, older, oldest, search_all}
 use Rattle.ar_index.proofs.Joins.{ages_total, ages_trans, ages_self, older_none, older_assoc}
-use Rattle.ar_book.specs.declared.class.Class.{Class}
-use Rattle.ar_book.specs.declared.class.Class.TheVariants.{Free, Mirrored, Parity}
-use Rattle.ar_book.specs.declared.class.Level.TheVariants.{Unplaced, Mirrored as MirroredLevel}
+use Rattle.ar_book.specs.declared.class.Class.TheVariants.{Mirrored}
+use Rattle.ar_book.specs.declared.class.Level.TheVariants.{Mirrored as MirroredLevel}
 use Rattle.ar_book.specs.declared.class.Slot.{Slot}
 use Rattle.ar_book.specs.Tables.{GroupState, Tables, group_in, key_at, home, level_in, level_of, class_of, stamp_of}
 use Rattle.ar_book.specs.Choices.{IsMirrored, IsNoNewer, place_of}
@@ -27,8 +26,7 @@ use Rattle.ar_book.proofs.Homes.{home_block, home_slot}
 oldest_both : (place : Addr → ℕ) (xs ys : List (Option Age))
     → oldest place (xs ++ ys) ≡ older place (oldest place xs) (oldest place ys)
 oldest_both place [] ys = refl
-oldest_both place (x ∷ xs) ys =
-    ap (older place x) (oldest_both place xs ys) ∙ sym (older_assoc place x (oldest place xs) (oldest place ys))
+oldest_both place (x ∷ xs) ys = grind (arith, older_assoc, oldest_both place xs ys)
 
 map_both : (f : Option Key → Option Age) (xs ys : List (Option Key)) → map f (xs ++ ys) ≡ map f xs ++ map f ys
 map_both f [] ys = refl
@@ -113,13 +111,7 @@ leaf_oldest : (g : Geometry) (place : Addr → ℕ) (age : Key → Age) (n i : �
     → ((group_in gs i).class ≡ Mirrored) × (oldest_named place age (group_in gs i).slots ≡ Some a)
 leaf_oldest g place age n zero [] a e = absurd (none-some a e)
 leaf_oldest g place age n (suc i) [] a e = absurd (none-some a e)
-leaf_oldest g place age n zero (x ∷ gs) a e = by x.class e
-  where
-    by : (c : Class) → (choices_by c g place age n x).oldest ≡ Some a
-        → (c ≡ Mirrored) × (oldest_named place age x.slots ≡ Some a)
-    by Free f = absurd (none-some a f)
-    by Mirrored f = (refl, f)
-    by Parity f = absurd (none-some a f)
+leaf_oldest g place age n zero (x ∷ gs) a e = grind (arith, none-some)
 leaf_oldest g place age n (suc i) (x ∷ gs) a e = leaf_oldest g place age (suc n) i gs a e
 
 oldest_leaf : (g : Geometry) (place : Addr → ℕ) (age : Key → Age) (n i : ℕ) (gs : List GroupState) (a : Age)
@@ -169,16 +161,8 @@ module _ (t : Tables) (ok : TablesAgree t) where
   -- a mirrored block has a home in a mirrored group
   home_of : (k : Key) (o : Option Slot) → level_in t.groups o ≡ MirroredLevel
       → (s : Slot) × (o ≡ Some s) × (class_of t s.group ≡ Mirrored)
-  home_of k None e = absurd (unplaced e)
-    where
-      unplaced : Unplaced ≡ MirroredLevel → ⊥
-      unplaced f = cc
-  home_of k (Some s) e = (s, refl, mirrored (class_of t s.group) e)
-    where
-      mirrored : (c : Class) → level_of c ≡ MirroredLevel → c ≡ Mirrored
-      mirrored Free f = cc
-      mirrored Mirrored f = refl
-      mirrored Parity f = cc
+  home_of k None e = grind (arith)
+  home_of k (Some s) e = grind (arith)
 
   least_of : (j : Key) → IsMirrored t j → IsLeast (place_in t.units) best (age_of t.units j)
   least_of j m =

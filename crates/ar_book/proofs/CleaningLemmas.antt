@@ -1,8 +1,8 @@
 -- A group's blocks and holes are its slots: so all of its blocks fit in the holes of its class's other groups or those
 -- of none do.
 use Rattle.std.proofs.Common.{◌≡◌, ◌≢◌, ◌⊎◌, ℕ, zero, suc, ◌<◌, ◌≤◌, ◌+◌, ◌-◌, ◌*◌, true, false, if◌then◌else◌, cond}
-use Rattle.std.proofs.Common.{Option, None, Some, is_some, IsSome, List, [], ◌∷◌, length, get_or}
-use Rattle.std.proofs.Common.{sum_by, count_by, refl, sym, ap, subst, inl, inr, arith}
+use Rattle.std.proofs.Common.{Option, None, Some, is_some, IsSome, List, [], ◌∷◌, length, get_or, sum_by, count_by}
+use Rattle.std.proofs.Common.{refl, sym, ap, inl, inr, arith}
 use Rattle.std.proofs.lemmas.List.Sums.{sum_by-cons}
 use Rattle.ar_disks.specs.Geometry.{rows_of}
 use Rattle.ar_disks.specs.declared.address.Key.{Key}
@@ -117,14 +117,7 @@ class_tells Parity Parity = inl (refl, refl)
 -- the holes of a group of the class, and of another
 pub holes_here : (geo : Geometry) (c : Class) (x : GroupState) → x.class ≡ c
     → holes_in geo c x ≡ slots_of geo c - used x
-holes_here geo c x e =
-    ap (λ b. if b then slots_of geo c - used x else 0) (subst (λ d. same_class c d ≡ true) (sym e) (same_class_self c))
-
-pub holes_elsewhere : (geo : Geometry) (c : Class) (x : GroupState) → x.class ≢ c → holes_in geo c x ≡ 0
-holes_elsewhere geo c x ne = elim (class_tells c x.class) [
-  | inl same ↦ absurd (ne (sym same.1))
-  | inr other ↦ ap (λ b. if b then slots_of geo c - used x else 0) other
-]
+holes_here geo c x e = grind (arith, same_class_self)
 
 module _ (t : Tables) (ok : TablesAgree t) where
   -- a group has no more blocks than slots
@@ -136,24 +129,14 @@ module _ (t : Tables) (ok : TablesAgree t) where
   -- its blocks and holes are its slots
   pub blocks_and_holes : (c : Class) (g : ℕ) → class_of t g ≡ c
       → used (group_in t.groups g) + holes_in t.geometry c (group_in t.groups g) ≡ slots_of t.geometry c
-  blocks_and_holes c g e =
-      let within : used (group_in t.groups g) ≤ slots_of t.geometry (class_of t g) = used_within g in
-      let slots : slots_of t.geometry (class_of t g) ≡ slots_of t.geometry c = ap (λ d. slots_of t.geometry d) e in
-      let here = holes_here t.geometry c (group_in t.groups g) e in
-      omega arith
+  blocks_and_holes c g e = grind (arith, used_within, holes_here)
 
   -- so its blocks fit exactly where the class has a group's worth of holes
   pub can_be_emptied : (c : Class) (g : ℕ) → IsInUse t c g → slots_of t.geometry c ≤ holes_of t c → CanBeEmptied t c g
-  can_be_emptied c g has enough =
-      let all = blocks_and_holes c g has.class in
-      record { has = has; fit = omega arith }
+  can_be_emptied c g has enough = grind (arith, blocks_and_holes)
 
   pub holes_enough : (c : Class) (g : ℕ) → CanBeEmptied t c g → slots_of t.geometry c ≤ holes_of t c
-  holes_enough c g can =
-      let all = blocks_and_holes c g can.has.class in
-      let some = can.has.some in
-      let fit = can.fit in
-      omega arith
+  holes_enough c g can = grind (arith, blocks_and_holes)
 
   -- and then one of the others has a hole
   pub some_beside : (c : Class) (g : ℕ) → CanBeEmptied t c g

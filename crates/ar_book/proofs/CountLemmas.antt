@@ -134,10 +134,7 @@ none_mirrored (x ∷ gs) n a b c =
 
 one_less : (x n : ℕ) → 0 < n → x * (n - 1) + x ≡ x * n
 one_less x zero h = absurd (omega arith)
-one_less x (suc n) h =
-    let e : suc n - 1 ≡ n = omega arith in
-    let f : x * (suc n - 1) ≡ x * n = ap (λ m. x * m) e in
-    omega arith
+one_less x (suc n) h = grind (arith)
 
 none_then_some : (o : Option Key) → (o ≡ None → ⊥) → IsSome o
 none_then_some None f = absurd (f refl)

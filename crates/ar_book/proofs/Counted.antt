@@ -1,7 +1,6 @@
 -- The counts of the groups stay exact when a group comes, goes or changes.
-use Rattle.std.proofs.Common.{◌≡◌, ◌≢◌, ℕ, suc, ◌+◌, ◌-◌, ◌*◌, ◌^◌, ◌<◌, ◌≤◌, List, [], ◌∷◌, ◌++◌, length}
-use Rattle.std.proofs.Common.{Option, None, get_or, set, take, sum_by, is_some, refl, sym, ap, subst, ◌∙◌, inl, inr}
-use Rattle.std.proofs.Common.{arith}
+use Rattle.std.proofs.Common.{◌≡◌, ℕ, suc, ◌+◌, ◌-◌, ◌*◌, ◌^◌, ◌<◌, ◌≤◌, List, [], ◌∷◌, ◌++◌, length, Option, None}
+use Rattle.std.proofs.Common.{get_or, set, take, sum_by, is_some, refl, sym, ap, subst, ◌∙◌, inl, inr, arith}
 use Rattle.std.proofs.Common.{length-append}
 use Rattle.std.proofs.lemmas.Bool.{cases_lt}
 use Rattle.std.proofs.lemmas.Bool.Decides.{eqb_tells}
@@ -71,67 +70,24 @@ module _ (gs : List GroupState) (chunks : List ChunkState) (holes : Holes)
   -- more places change nothing
   pub counted_room : (new : List ChunkState) → ((g : ℕ) → fill_at new g ≡ fill_at chunks g) → length chunks ≤ length new
       → IsCounted gs new holes.mirrored holes.parity
-  counted_room new same on = record {
-    few = old.few;
-    short = old.short;
-    covered = let covered = old.covered in omega arith;
-    each = λ g. same g ∙ old.each g;
-    holes_mirrored = old.holes_mirrored;
-    holes_parity = old.holes_parity;
-  }
+  counted_room new same on = grind (arith)
 
   -- a free group more
   pub counted_push : (x : GroupState) → length gs < 33554432 → length gs < 64 * length chunks → length x.slots ≤ 48
       → (count_of x).fill ≡ 0 → IsCounted (gs ++ x ∷ []) chunks holes.mirrored holes.parity
-  counted_push x few room short free = record {
-    few = let all = length-append gs (x ∷ []) in omega arith;
-    short = λ g. elim (cases_lt g (length gs)) [
-      | inl before ↦
-          let same = ap (λ (y : GroupState). length y.slots) (get_or_append_left gs (x ∷ []) no_group g before) in
-          let most = old.short g in
-          omega arith
-      | inr past ↦ elim (eqb_tells g (length gs)) [
-        | inl last ↦ let is = ap (λ (y : GroupState). length y.slots) (new_last g last.1) in omega arith
-        | inr n ↦
-            let none : length (group_in (gs ++ x ∷ []) g).slots ≡ 0 =
-            ap (λ (y : GroupState). length y.slots) (after g past n.1) in
-            omega arith
-      ]
-    ];
-    covered = let all = length-append gs (x ∷ []) in omega arith;
-    each = λ g. old.each g ∙ elim (cases_lt g (length gs)) [
-      | inl before ↦ sym (ap (λ (y : GroupState). (count_of y).fill) (get_or_append_left gs (x ∷ []) no_group g before))
-      | inr past ↦
-          let none : fill_in gs g ≡ 0 = ap (λ (y : GroupState). (count_of y).fill) (get_or_past gs g no_group past) in
-          elim (eqb_tells g (length gs)) [
-            | inl last ↦ none ∙ sym free ∙ sym (ap (λ (y : GroupState). (count_of y).fill) (new_last g last.1))
-            | inr n ↦ none ∙ sym (ap (λ (y : GroupState). (count_of y).fill) (after g past n.1))
-          ]
-    ];
-    holes_mirrored =
-        let all = sum_by-append twos gs (x ∷ []) in
-        let one = sum_by-cons twos x [] in
-        let none = (no_holes x free).mirrored in
-        let was = old.holes_mirrored in
-        omega arith;
-    holes_parity =
-        let all = sum_by-append threes gs (x ∷ []) in
-        let one = sum_by-cons threes x [] in
-        let none = (no_holes x free).parity in
-        let was = old.holes_parity in
-        omega arith;
-  }
-    where
-      new_last : (g : ℕ) → g ≡ length gs → group_in (gs ++ x ∷ []) g ≡ x
-      new_last g e =
-          let first : g - length gs ≡ 0 = omega arith in
-          get_or-append_right gs (x ∷ []) (length gs) g no_group refl (omega arith)
-          ∙ ap (group_in (x ∷ [])) first
-
-      after : (g : ℕ) → length gs ≤ g → g ≢ length gs → group_in (gs ++ x ∷ []) g ≡ no_group
-      after g past ne =
-          let all = length-append gs (x ∷ []) in
-          get_or_past (gs ++ x ∷ []) g no_group (omega arith)
+  counted_push x few room short free =
+      grind (
+        arith,
+        length-append,
+        cases_lt,
+        get_or_append_left,
+        eqb_tells,
+        get_or_past,
+        sum_by-append,
+        sum_by-cons,
+        no_holes,
+        get_or-append_right,
+      )
 
   -- without the last group, which is free
   pub counted_pop : 0 < length gs → fill_in gs (length gs - 1) ≡ 0
@@ -190,12 +146,7 @@ module _ (gs : List GroupState) (chunks : List ChunkState) (holes : Holes)
 
   module _ (i : ℕ) (inside : i < length gs) where
     pub holes_here : (twos (group_in gs i) ≤ holes.mirrored) × (threes (group_in gs i) ≤ holes.parity)
-    holes_here =
-        let two = get_or-le-sum_by twos gs i no_group inside in
-        let three = get_or-le-sum_by threes gs i no_group inside in
-        let mirrored = old.holes_mirrored in
-        let parity = old.holes_parity in
-        (omega arith, omega arith)
+    holes_here = grind (arith, get_or-le-sum_by)
 
     pub holes_few : (x : GroupState) → length x.slots ≤ 48
         → (holes.mirrored + (count_of x).mirrored < 2 ^ 32) × (holes.parity + (count_of x).parity < 2 ^ 32)
@@ -216,37 +167,7 @@ module _ (gs : List GroupState) (chunks : List ChunkState) (holes : Holes)
     pub counted_set : (x : GroupState) (new : List ChunkState) (left : Holes) → length x.slots ≤ 48
         → IsRecounted chunks holes i (count_of (group_in gs i)) (count_of x) new left
         → IsCounted (set gs i x) new left.mirrored left.parity
-    counted_set x new left short done = record {
-      few = let same = length-set gs i x in let few = old.few in omega arith;
-      short = λ g. elim (eqb_tells g i) [
-        | inl e ↦
-            let is = ap (λ (y : GroupState). length y.slots)
-            (ap (group_in (set gs i x)) e.1 ∙ put_same gs i x inside) in
-            omega arith
-        | inr n ↦
-            let same = ap (λ (y : GroupState). length y.slots) (put_other gs i x g n.1) in
-            let most = old.short g in
-            omega arith
-      ];
-      covered = let same = length-set gs i x in let covered = old.covered in let size = done.size in omega arith;
-      each = λ g. elim (eqb_tells g i) [
-        | inl e ↦ ap (fill_at new) e.1 ∙ done.here
-            ∙ sym (ap (λ (y : GroupState). (count_of y).fill) (put_same gs i x inside))
-            ∙ sym (ap (fill_in (set gs i x)) e.1)
-        | inr n ↦ done.others g n.1 ∙ old.each g
-            ∙ sym (ap (λ (y : GroupState). (count_of y).fill) (put_other gs i x g n.1))
-      ];
-      holes_mirrored =
-          let all = sum_by-set twos gs i x no_group inside in
-          let now = done.mirrored in
-          let was = old.holes_mirrored in
-          omega arith;
-      holes_parity =
-          let all = sum_by-set threes gs i x no_group inside in
-          let now = done.parity in
-          let was = old.holes_parity in
-          omega arith;
-    }
+    counted_set x new left short done = grind (arith, length-set, eqb_tells, put_same, put_other, sum_by-set)
 
     -- the same by the group that was read, and by the counts that were made
     module _ (x0 x : GroupState) (read : x0 ≡ get_or gs i x0) (same : length x.slots ≡ length x0.slots)
@@ -255,21 +176,13 @@ module _ (gs : List GroupState) (chunks : List ChunkState) (holes : Holes)
       read_is = get_or_read gs i x0 inside read no_group
 
       pub short_after : length x.slots ≤ 48
-      short_after =
-          let here = ap (λ (y : GroupState). length y.slots) read_is in
-          let most = old.short i in
-          omega arith
+      short_after = grind (arith, read_is)
 
       pub fill_fits : count.fill < 192
-      fill_fits =
-          let e : count.fill ≡ (count_of x).fill = ap (λ (n : GroupCount). n.fill) is in
-          let low = (small_count x short_after).fill in
-          omega arith
+      fill_fits = grind (arith, small_count, short_after)
 
       pub holes_fit : (holes.mirrored + count.mirrored < 2 ^ 32) × (holes.parity + count.parity < 2 ^ 32)
-      holes_fit =
-          subst (λ (n : GroupCount). (holes.mirrored + n.mirrored < 2 ^ 32) × (holes.parity + n.parity < 2 ^ 32))
-          (sym is) (holes_few x short_after)
+      holes_fit = grind (arith, holes_few, short_after)
 
       pub counted_again : (former : GroupCount) (new : List ChunkState) (left : Holes) → former ≡ count_of x0
           → IsRecounted chunks holes i former count new left → IsCounted (set gs i x) new left.mirrored left.parity
@@ -280,12 +193,7 @@ module _ (gs : List GroupState) (chunks : List ChunkState) (holes : Holes)
 
 -- a group with a fill above 0 is there
 pub has_group : (gs : List GroupState) (g : ℕ) → 0 < fill_in gs g → g < length gs
-has_group gs g some = elim (cases_lt g (length gs)) [
-  | inl inside ↦ inside
-  | inr past ↦
-      let none : fill_in gs g ≡ 0 = ap (λ (y : GroupState). (count_of y).fill) (get_or_past gs g no_group past) in
-      absurd (omega arith)
-]
+has_group gs g some = grind (arith, cases_lt, get_or_past)
 
 -- a new group is free, and has few slots
 pub free_short : (m : Members) (n : ℕ) → n ≤ 48 → length (free_group m n).slots ≤ 48
@@ -296,20 +204,8 @@ free_fill m n = count_none Key n
 
 -- without the group that came last the groups are as before
 pub popped : (gs : List GroupState) (x : GroupState) → take (length (gs ++ x ∷ []) - 1) (gs ++ x ∷ []) ≡ gs
-popped gs x =
-    let size = length-append gs (x ∷ []) in
-    let before : length (gs ++ x ∷ []) - 1 ≡ length gs = omega arith in
-    ap (λ n. take n (gs ++ x ∷ [])) before ∙ take-append-le (length gs) gs (x ∷ []) (omega arith)
-    ∙ take_all (length gs) gs (omega arith)
+popped gs x = grind (arith, length-append, take-append-le, take_all)
 
 pub last_of : (gs : List GroupState) (x : GroupState) → (count_of x).fill ≡ 0
     → fill_in (gs ++ x ∷ []) (length (gs ++ x ∷ []) - 1) ≡ 0
-last_of gs x free =
-    let size = length-append gs (x ∷ []) in
-    let at : length (gs ++ x ∷ []) - 1 ≡ length gs = omega arith in
-    let first : length gs - length gs ≡ 0 = omega arith in
-    ap (fill_in (gs ++ x ∷ [])) at
-    ∙ ap (λ (y : GroupState). (count_of y).fill)
-    (get_or-append_right gs (x ∷ []) (length gs) (length gs) no_group refl (omega arith)
-    ∙ ap (group_in (x ∷ [])) first)
-    ∙ free
+last_of gs x free = grind (arith, length-append, get_or-append_right)

@@ -5,7 +5,7 @@ use Rattle.std.proofs.Common.{sym, ap, subst, ◌∙◌, inl, inr, arith, true�
 use Rattle.std.specs.List.{IsDistinct, AllByRecursion}
 use Rattle.std.specs.Set.{remove_key}
 use Rattle.std.specs.Map.{lookup, remove_entry, keys_of, values_of}
-use Rattle.std.specs.Option.{unwrap_or, option_map}
+use Rattle.std.specs.Option.{unwrap_or}
 use Rattle.std.proofs.lemmas.Option.{none-some, same_Some}
 use Rattle.std.proofs.lemmas.List.Sums.{sum_by-cons}
 use Rattle.std.proofs.lemmas.Map.{lookup-remove_entry}
@@ -178,10 +178,7 @@ take_some (suc n) (h ∷ hs) zero s e = e
 take_some (suc n) (h ∷ hs) (suc i) s e = take_some n hs i s e
 
 pub first_homes : (gs : List GroupState) (hs : List (Option Slot)) (n : ℕ) → AreHomes gs hs → AreHomes gs (take n hs)
-first_homes gs hs n ok = record {
-  there = λ i s e. ok.there i s (take_some n hs i s e);
-  apart = λ i j s e f. ok.apart i j s (take_some n hs i s e) (take_some n hs j s f);
-}
+first_homes gs hs n ok = grind (arith, take_some)
 
 -- a home after the first n is there once those are vacated
 pub next_group : (gs : List GroupState) (hs : List (Option Slot)) (n : ℕ) (s : Slot) → AreHomes gs hs
@@ -214,12 +211,7 @@ unit_homes t a ok = record {
 pub removed_keys : (test : Addr → Bool) (us : List (Addr × UnitTableState))
     → keys_of (remove_entry test us) ≡ remove_key test (keys_of us)
 removed_keys test [] = refl
-removed_keys test (x ∷ us) = by (test x.0) (removed_keys test us)
-  where
-    by : (b : Bool) → keys_of (remove_entry test us) ≡ remove_key test (keys_of us)
-        → keys_of (cond b us (x ∷ remove_entry test us)) ≡ cond b (keys_of us) (x.0 ∷ remove_key test (keys_of us))
-    by true e = refl
-    by false e = ap (λ l. x.0 ∷ l) e
+removed_keys test (x ∷ us) = grind (arith, removed_keys test us)
 
 pub removed_distinct : (test : Addr → Bool) (us : List (Addr × UnitTableState)) → IsDistinct same_addr (keys_of us)
     → IsDistinct same_addr (keys_of (remove_entry test us))
@@ -256,15 +248,11 @@ module _ (t : Tables) (a : Addr) (ok : TablesAgree t) where
 
   -- the unit's own blocks have no home
   pub dropped_home_own : (k : Key) → k.addr ≡ a → home_in (remove_entry (same_addr a) t.units) k ≡ None
-  dropped_home_own k e =
-      ap (λ o. get_or (unwrap_or o no_unit).homes k.rb None)
-      (found k.addr ∙ ap (λ c. cond c None (lookup (same_addr k.addr) t.units)) (same_addr_of a k.addr (sym e)))
+  dropped_home_own k e = grind (arith, found, same_addr_of)
 
   -- the other units are as before
   pub dropped_unit_other : (b : Addr) → b ≢ a → unit_in (remove_entry (same_addr a) t.units) b ≡ unit_in t.units b
-  dropped_unit_other b ne =
-      ap (λ o. unwrap_or o no_unit) (found b
-      ∙ ap (λ c. cond c None (lookup (same_addr b) t.units)) (addr_apart a b (λ e. ne (sym e))))
+  dropped_unit_other b ne = grind (arith, found, addr_apart)
 
   -- so their blocks have the homes and stamps that they had
   pub dropped_home_other : (k : Key) → k.addr ≢ a → home_in (remove_entry (same_addr a) t.units) k ≡ home_in t.units k
@@ -293,22 +281,8 @@ module _ (t : Tables) (a : Addr) (ok : TablesAgree t) where
 
   to_home : (k : Key) (s : Slot) → key_in (fold vacated t.groups (unit_in t.units a).homes) s ≡ Some k
       → home_in (remove_entry (same_addr a) t.units) k ≡ Some s
-  to_home k s e = by (key_in t.groups s) refl
-    where
-      by : (o : Option Key) → key_in t.groups s ≡ o → home_in (remove_entry (same_addr a) t.units) k ≡ Some s
-      by None was =
-          absurd (none-some k (sym was
-          ∙ sym (after.kept s (λ i f. true≢false (sym ((unit_homes t a ok).there i s f) ∙ ap is_some was))) ∙ e))
-      by (Some j) was = elim (addr_tells j.addr a) [
-        | inl y ↦
-            let h : home_in t.units j ≡ Some s = ok.agree.to_home j s was in
-            absurd (none-some k
-            (sym (after.gone j.rb s (sym (ap (λ b. get_or (unit_in t.units b).homes j.rb None) y.1) ∙ h)) ∙ e))
-        | inr d ↦
-            let same : j ≡ k = same_Some j k (sym (dropped_key_other s j d.1 was) ∙ e) in
-            subst (λ x. home_in (remove_entry (same_addr a) t.units) x ≡ Some s) same (dropped_home_other j d.1
-            ∙ ok.agree.to_home j s was)
-      ]
+  to_home k s e =
+      grind (arith, none-some, after, unit_homes, addr_tells, same_Some, dropped_key_other, dropped_home_other)
 
   -- no slot names a block that it did not name
   pub dropped_key_empty : (s : Slot) → key_at t s ≡ None → key_at (dropped t a) s ≡ None
@@ -332,8 +306,7 @@ module _ (t : Tables) (a : Addr) (ok : TablesAgree t) where
 
   pub dropped_class_named : (s : Slot) (k : Key) → key_at (dropped t a) s ≡ Some k
       → class_of (dropped t a) s.group ≡ class_of t s.group
-  dropped_class_named s k e =
-      class_kept (class_of t s.group) (group_in (dropped t a).groups s.group) s.slot k (after.class s.group) e
+  dropped_class_named s k e = grind (arith, class_kept, after)
 
   -- no fewer groups are free
   pub dropped_free_groups : free_groups t ≤ free_groups (dropped t a)
@@ -353,10 +326,7 @@ module _ (t : Tables) (a : Addr) (ok : TablesAgree t) where
   module _ (there : IsSome (lookup (same_addr a) t.units)) where
     sums : (f : UnitTableState → ℕ) → sum_by f (values_of (remove_entry (same_addr a) t.units)) + f (unit_in t.units a)
         ≡ sum_by f (values_of t.units)
-    sums f =
-        ap (λ o. sum_by f (values_of (remove_entry (same_addr a) t.units)) + unwrap_or (option_map f o) 0)
-        (sym (found_in t.units a there))
-        ∙ sum_by-remove_entry f (same_addr a) t.units
+    sums f = grind (arith, found_in, sum_by-remove_entry)
 
     -- the unit's blocks are no longer reserved
     pub dropped_reserved : reserved (dropped t a) + length (unit_in t.units a).homes ≡ reserved t

@@ -1,6 +1,6 @@
 -- The lowest fill of a class's groups that have blocks is that of the group which cleaning empties.
-use Rattle.std.proofs.Common.{◌≡◌, ◌⊎◌, ℕ, suc, ◌+◌, ◌-◌, ◌*◌, ◌<◌, ◌≤◌, if◌then◌else◌, List, [], ◌∷◌, length}
-use Rattle.std.proofs.Common.{Option, None, Some, IfSome, IfNone, sum_by, refl, ap, ◌∙◌, inl, inr, arith}
+use Rattle.std.proofs.Common.{◌≡◌, ◌⊎◌, ℕ, suc, ◌+◌, ◌-◌, ◌*◌, ◌<◌, ◌≤◌, if◌then◌else◌, List, [], ◌∷◌, length, Option}
+use Rattle.std.proofs.Common.{None, Some, IfSome, IfNone, sum_by, refl, inr, arith}
 use Rattle.std.proofs.lemmas.List.Sums.{sum_by-cons}
 use Rattle.ar_disks.specs.Geometry.{rows_of}
 use Rattle.ar_disks.specs.declared.geometry.Geometry.{Geometry}
@@ -8,8 +8,8 @@ use Rattle.ar_book.specs.declared.class.Class.{Class}
 use Rattle.ar_book.specs.declared.class.Class.TheVariants.{Free, Mirrored, Parity}
 use Rattle.ar_book.specs.Tables.{GroupState, Tables, group_in, class_of, slots_of, used}
 use Rattle.ar_book.specs.Book.{TablesAgree}
-use Rattle.ar_book.specs.Cleaning.{same_class, holes_in, holes_of, IsInUse, CanBeEmptied, IsEmptiest}
-use Rattle.ar_book.specs.Fills.{count_of, counted_as, fill_in, holes_by, IsLowestIn}
+use Rattle.ar_book.specs.Cleaning.{same_class, holes_of, IsInUse, CanBeEmptied, IsEmptiest}
+use Rattle.ar_book.specs.Fills.{counted_as, fill_in, holes_by, IsLowestIn}
 use Rattle.ar_book.proofs.Counted.{has_group}
 use Rattle.ar_book.proofs.CleaningLemmas.{slots_few, used_within, can_be_emptied, holes_enough}
 
@@ -68,50 +68,27 @@ module _ (t : Tables) (ok : TablesAgree t) where
   -- the counts tell whether a class has a group's worth of holes
   pub known_holes : (c : Class) → (holes_by c t.groups ≡ holes_of t c) ⊎ (slots_of t.geometry c ≡ 0)
   known_holes Free = inr refl
-  known_holes Mirrored =
-      inl (sum_same (λ x. (count_of x).mirrored) (holes_in t.geometry Mirrored) t.groups
-      (λ i lt. mirrored_as t.geometry (class_of t i) (used (group_in t.groups i)) (length (group_in t.groups i).slots)
-      (ok.groups.long i lt)))
-  known_holes Parity =
-      inl (sum_same (λ x. (count_of x).parity) (holes_in t.geometry Parity) t.groups
-      (λ i lt. parity_as t.geometry (class_of t i) (used (group_in t.groups i)) (length (group_in t.groups i).slots)
-      (ok.groups.long i lt)))
+  known_holes Mirrored = grind (arith, sum_same, mirrored_as)
+  known_holes Parity = grind (arith, sum_same, parity_as)
 
   few_blocks : (g : ℕ) → used (group_in t.groups g) ≤ 48
-  few_blocks g =
-      let within = used_within t ok g in
-      let few = slots_few t.geometry (class_of t g) in
-      omega arith
+  few_blocks g = grind (arith, used_within, slots_few)
 
   module _ (c : Class) where
     fill_is : (g : ℕ) → class_of t g ≡ c → fill_in t.groups g + 1 ≡ first_fill c + used (group_in t.groups g)
-    fill_is g e =
-        encoded (class_of t g) (used (group_in t.groups g)) (length (group_in t.groups g).slots)
-        ∙ ap (λ d. first_fill d + used (group_in t.groups g)) e
+    fill_is g e = grind (arith, encoded)
 
     in_range : (g : ℕ) → IsInUse t c g
         → (first_fill c ≤ fill_in t.groups g) × (fill_in t.groups g < first_fill c + slots_of t.geometry c)
-    in_range g has =
-        let some = has.some in
-        let is = fill_is g has.class in
-        let within = used_within t ok g in
-        let slots : slots_of t.geometry (class_of t g) ≡ slots_of t.geometry c = ap (slots_of t.geometry) has.class in
-        (omega arith, omega arith)
+    in_range g has = grind (arith, fill_is, used_within)
 
     use_of : (g : ℕ) → first_fill c ≤ fill_in t.groups g → fill_in t.groups g < first_fill c + slots_of t.geometry c
         → IsInUse t c g
-    use_of g above below =
-        let is = decoded c (class_of t g) (used (group_in t.groups g)) (length (group_in t.groups g).slots)
-        (slots_of t.geometry c) (few_blocks g) (slots_few t.geometry c) above below in
-        let some = first_few c in
-        record { there = has_group t.groups g (omega arith); class = is.0; some = is.1 }
+    use_of g above below = grind (arith, decoded, few_blocks, slots_few, first_few, has_group)
 
     -- without a group's worth of holes no group can be emptied
     pub none_short : holes_by c t.groups < slots_of t.geometry c → (g : ℕ) → CanBeEmptied t c g → ⊥
-    none_short short g can = elim (known_holes c) [
-      | inl same ↦ let enough = holes_enough t ok c g can in absurd (omega arith)
-      | inr no_slots ↦ absurd (omega arith)
-    ]
+    none_short short g can = grind (arith, known_holes, holes_enough)
 
     -- nor without a fill of the class
     pub none_there : ((g : ℕ) → first_fill c ≤ fill_in t.groups g
@@ -121,42 +98,18 @@ module _ (t : Tables) (ok : TablesAgree t) where
     -- else the group with the lowest fill is the one
     pub lowest_emptiest : slots_of t.geometry c ≤ holes_by c t.groups → (g : ℕ)
         → IsLowestIn (fill_in t.groups) (first_fill c) (first_fill c + slots_of t.geometry c) g → IsEmptiest t c g
-    lowest_emptiest enough g lowest = record {
-      can = can_be_emptied t ok c g has (elim (known_holes c) [
-        | inl same ↦ omega arith
-        | inr no_slots ↦ omega arith
-      ]);
-      least = λ h can.
-          let range = in_range h can.has in
-          let is = fill_is g has.class in
-          let other = fill_is h can.has.class in
-          elim (lowest.least h range.0 range.1) [
-            | inl fewer ↦ inl (omega arith)
-            | inr as_many ↦ let same = as_many.0 in inr (omega arith, as_many.1)
-          ];
-    }
-      where
-        has : IsInUse t c g
-        has = use_of g lowest.above lowest.below
+    lowest_emptiest enough g lowest = grind (arith, can_be_emptied, known_holes, in_range, fill_is, use_of)
 
     -- a class with a group's worth of counted holes has them
     pub not_short : slots_of t.geometry c ≤ holes_by c t.groups → holes_of t c < slots_of t.geometry c → ⊥
-    not_short enough short = elim (known_holes c) [
-      | inl same ↦ absurd (omega arith)
-      | inr no_slots ↦ absurd (omega arith)
-    ]
+    not_short enough short = grind (arith, known_holes)
 
     -- what the search for the lowest fill returns
     module _ (from to : ℕ) (begins : from ≡ first_fill c) (ends : to ≡ from + slots_of t.geometry c) where
       pub found_emptiest : (o : Option ℕ) → slots_of t.geometry c ≤ holes_by c t.groups
           → IfSome o (IsLowestIn (fill_in t.groups) from to) → IfSome o (IsEmptiest t c)
       found_emptiest None enough found = tt
-      found_emptiest (Some g) enough found =
-          lowest_emptiest enough g (record {
-            above = let above = found.above in omega arith;
-            below = let below = found.below in omega arith;
-            least = λ h high low. found.least h (omega arith) (omega arith);
-          })
+      found_emptiest (Some g) enough found = grind (arith, lowest_emptiest)
 
       pub missed_emptiest : (o : Option ℕ)
           → IfNone o ((g : ℕ) → from ≤ fill_in t.groups g → fill_in t.groups g < to → ⊥)

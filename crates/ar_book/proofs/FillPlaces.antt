@@ -1,7 +1,6 @@
 -- Where a fill is found: the place of a group in its chunk.
-use Rattle.std.proofs.Common.{◌≡◌, ◌≢◌, ℕ, ◌+◌, ◌-◌, ◌*◌, ◌/◌, ◌%◌, ◌<◌, ◌≤◌, List, ◌∷◌, ◌++◌, [], length}
-use Rattle.std.proofs.Common.{get_or, set, replicate, sum_by, refl, sym, ap, ◌∙◌, inl, inr, arith}
-use Rattle.std.proofs.Common.{get_or-set_same, get_or-set_other, length-append}
+use Rattle.std.proofs.Common.{◌≡◌, ◌≢◌, ℕ, ◌+◌, ◌-◌, ◌*◌, ◌/◌, ◌%◌, ◌<◌, ◌≤◌, List, ◌∷◌, ◌++◌, [], length, get_or, set}
+use Rattle.std.proofs.Common.{replicate, sum_by, refl, sym, ap, ◌∙◌, inl, inr, arith, get_or-set_same, length-append}
 use Rattle.std.proofs.lemmas.Bool.{cases_lt}
 use Rattle.std.proofs.lemmas.Bool.Decides.{eqb_tells}
 use Rattle.std.proofs.lemmas.List.{get_or_past, get_or_append_left, get_or-append_right}
@@ -18,26 +17,6 @@ module _ (chunks : List ChunkState) (number fill : ℕ) (x : ChunkState) (there 
 
   chunk_here : chunk_in (set chunks (number / 64) x) (number / 64) ≡ x
   chunk_here = get_or-set_same chunks (number / 64) x no_chunk (omega arith)
-
-  pub fill_here : fill_at (set chunks (number / 64) x) number ≡ fill
-  fill_here =
-      ap (λ (y : ChunkState). get_or y.fills (number % 64) 0) chunk_here
-      ∙ ap (λ l. get_or l (number % 64) 0) is
-      ∙ get_or-set_same (chunk_in chunks (number / 64)).fills (number % 64) fill 0 (omega arith)
-
-  pub fill_others : (g : ℕ) → g ≢ number → fill_at (set chunks (number / 64) x) g ≡ fill_at chunks g
-  fill_others g ne = elim (eqb_tells (g / 64) (number / 64)) [
-    | inl e ↦
-        let apart : g % 64 ≢ number % 64 = λ same. ne (omega arith) in
-        ap (λ i. get_or (chunk_in (set chunks (number / 64) x) i).fills (g % 64) 0) e.1
-        ∙ ap (λ (y : ChunkState). get_or y.fills (g % 64) 0) chunk_here
-        ∙ ap (λ l. get_or l (g % 64) 0) is
-        ∙ get_or-set_other (chunk_in chunks (number / 64)).fills (number % 64) (g % 64) fill 0 apart
-        ∙ sym (ap (λ i. get_or (chunk_in chunks i).fills (g % 64) 0) e.1)
-    | inr n ↦
-        ap (λ (y : ChunkState). get_or y.fills (g % 64) 0)
-        (get_or-set_other chunks (number / 64) (g / 64) x no_chunk n.1)
-  ]
 
 -- 64 places more have a fill of 0, as if they weren't there
 pub fill_more : (chunks : List ChunkState) (x : ChunkState) → x.fills ≡ replicate 64 0 → (g : ℕ)
@@ -65,13 +44,7 @@ fill_more chunks x e g = elim (cases_lt (g / 64) (length chunks)) [
 module _ (chunks : List ChunkState) where
   -- a group with a fill above 0 has a place, and is counted
   pub has_chunk : (g : ℕ) → 0 < fill_at chunks g → g / 64 < length chunks
-  has_chunk g some = elim (cases_lt (g / 64) (length chunks)) [
-    | inl inside ↦ inside
-    | inr past ↦
-        let none : fill_at chunks g ≡ 0 =
-        ap (λ (y : ChunkState). get_or y.fills (g % 64) 0) (get_or_past chunks (g / 64) no_chunk past) in
-        absurd (omega arith)
-  ]
+  has_chunk g some = grind (arith, cases_lt, get_or_past)
 
   pub fill_counted : (g : ℕ) → 0 < fill_at chunks g → 0 < sum_by (count_in (fill_at chunks g)) chunks
   fill_counted g some =
@@ -90,22 +63,7 @@ module _ (chunks : List ChunkState) where
   -- the place of a chunk, after chunks without the fill and places without it
   pub first_at : (number place k : ℕ) → place < 64 → get_or (chunk_in chunks number).fills place 0 ≡ k
       → fill_at chunks (64 * number + place) ≡ k
-  first_at number place k lt e =
-      let chunk : (64 * number + place) / 64 ≡ number = omega arith in
-      let at : (64 * number + place) % 64 ≡ place = omega arith in
-      ap (λ i. get_or (chunk_in chunks i).fills ((64 * number + place) % 64) 0) chunk
-      ∙ ap (λ i. get_or (chunk_in chunks number).fills i 0) at ∙ e
-
-  pub first_least : (number place k : ℕ) → place < 64
-      → ((b : ℕ) → b < number → (j : ℕ) → j < 64 → get_or (chunk_in chunks b).fills j 0 ≢ k)
-      → ((j : ℕ) → j < place → get_or (chunk_in chunks number).fills j 0 ≢ k)
-      → (g : ℕ) → g < 64 * number + place → fill_at chunks g ≢ k
-  first_least number place k lt before below g less = elim (cases_lt (g / 64) number) [
-    | inl earlier ↦ before (g / 64) earlier (g % 64) (omega arith)
-    | inr here ↦ λ e.
-        let same : number ≡ g / 64 = omega arith in
-        below (g % 64) (omega arith) (ap (λ i. get_or (chunk_in chunks i).fills (g % 64) 0) same ∙ e)
-  ]
+  first_at number place k lt e = grind (arith)
 
   -- of the fills from one on, all below another of which no group has, the first group of that is the lowest
   pub lowest_at : (from to k g : ℕ) → 0 < from → from ≤ k → k < to

@@ -1,6 +1,6 @@
 -- How many groups are free, before and after a change of one.
 use Rattle.std.proofs.Common.{◌≡◌, ◌≢◌, ℕ, ◌+◌, ◌<◌, ◌≤◌, cond, Option, None, Some, List, length, set, count_by, refl}
-use Rattle.std.proofs.Common.{sym, ap, ◌∙◌, inl, inr, arith}
+use Rattle.std.proofs.Common.{arith}
 use Rattle.std.proofs.lemmas.Bool.{cases_lt}
 use Rattle.std.proofs.lemmas.List.{set_past}
 use Rattle.std.proofs.lemmas.List.Sums.{sum_by-set}
@@ -9,7 +9,7 @@ use Rattle.ar_book.specs.declared.class.Class.{Class}
 use Rattle.ar_book.specs.declared.class.Class.TheVariants.{Free, Mirrored, Parity}
 use Rattle.ar_book.specs.declared.class.Slot.{Slot}
 use Rattle.ar_book.specs.Tables.{GroupState, no_group, group_in, key_in, is_free}
-use Rattle.ar_book.specs.Changes.{with_key, with_hole, named, vacated}
+use Rattle.ar_book.specs.Changes.{with_key, named, vacated}
 use Rattle.ar_book.proofs.GroupLemmas.{put_same, freed_keeps, vacated_emptied}
 
 -- how many of these groups are free
@@ -38,33 +38,19 @@ put_counts gs g x inside = sum_by-set (λ (y : GroupState). one_if_free y.class)
 -- where it has the class of the former one the count stays
 pub put_free_same : (gs : List GroupState) (g : ℕ) (x : GroupState) → x.class ≡ (group_in gs g).class
     → free_in (set gs g x) ≡ free_in gs
-put_free_same gs g x e = elim (cases_lt g (length gs)) [
-  | inl inside ↦
-      let all = put_counts gs g x inside in
-      let same : one_if_free x.class ≡ one_if_free (group_in gs g).class = ap one_if_free e in
-      omega arith
-  | inr past ↦ ap free_in (set_past gs g x past)
-]
+put_free_same gs g x e = grind (arith, cases_lt, put_counts, set_past)
 
 -- a free group that is put in the place of an open one is one more
 pub put_free_more : (gs : List GroupState) (g : ℕ) (x : GroupState) → g < length gs → (group_in gs g).class ≢ Free
     → x.class ≡ Free
     → free_in (set gs g x) ≡ free_in gs + 1
-put_free_more gs g x inside taken e =
-    let all = put_counts gs g x inside in
-    let none : one_if_free (group_in gs g).class ≡ 0 = none_if_open (group_in gs g).class taken in
-    let one : one_if_free x.class ≡ 1 = ap one_if_free e in
-    omega arith
+put_free_more gs g x inside taken e = grind (arith, put_counts, none_if_open)
 
 -- an open group that is put in the place of a free one is one less
 pub put_free_less : (gs : List GroupState) (g : ℕ) (x : GroupState) → g < length gs → (group_in gs g).class ≡ Free
     → x.class ≢ Free
     → free_in (set gs g x) + 1 ≡ free_in gs
-put_free_less gs g x inside e taken =
-    let all = put_counts gs g x inside in
-    let one : one_if_free (group_in gs g).class ≡ 1 = ap one_if_free e in
-    let none : one_if_free x.class ≡ 0 = none_if_open x.class taken in
-    omega arith
+put_free_less gs g x inside e taken = grind (arith, put_counts, none_if_open)
 
 -- naming a block frees no group and takes none
 pub named_free : (gs : List GroupState) (s : Slot) (k : Key) → free_in (named gs s k) ≡ free_in gs
@@ -73,36 +59,16 @@ named_free gs s k = put_free_same gs s.group (with_key (group_in gs s.group) s.s
 -- vacating a slot takes no free group
 pub vacated_free : (gs : List GroupState) (o : Option Slot) → free_in gs ≤ free_in (vacated gs o)
 vacated_free gs None = omega arith
-vacated_free gs (Some s) =
-    let old : GroupState = record (group_in gs s.group) { slots = set (group_in gs s.group).slots s.slot None } in
-    let new : GroupState = with_hole (group_in gs s.group) s.slot in
-    elim (cases_lt s.group (length gs)) [
-      | inl inside ↦ elim (freed_keeps old) [
-        | inl same ↦ let e : free_in (set gs s.group new) ≡ free_in gs =
-            put_free_same gs s.group new same in omega arith
-        | inr free ↦
-            let all = put_counts gs s.group new inside in
-            let one : one_if_free new.class ≡ 1 = ap one_if_free free.0 in
-            let most : one_if_free (group_in gs s.group).class ≤ 1 = at_most_one (group_in gs s.group).class in
-            omega arith
-      ]
-      | inr past ↦ let e : free_in (set gs s.group new) ≡ free_in gs =
-          ap free_in (set_past gs s.group new past) in omega arith
-    ]
+vacated_free gs (Some s) = grind (arith, cases_lt, freed_keeps, put_free_same, put_counts, at_most_one, set_past)
 
 -- and as many are free where the slot's group keeps its class
 pub vacated_free_same : (gs : List GroupState) (s : Slot) → s.group < length gs
     → (group_in (vacated gs (Some s)) s.group).class ≡ (group_in gs s.group).class
     → free_in (vacated gs (Some s)) ≡ free_in gs
-vacated_free_same gs s inside e =
-    let new : GroupState = with_hole (group_in gs s.group) s.slot in
-    put_free_same gs s.group new (sym (ap (λ y. y.class) (put_same gs s.group new inside)) ∙ e)
+vacated_free_same gs s inside e = grind (arith, put_free_same, put_same)
 
 -- one more is free where an open group has no slot left that names a block
 pub vacated_free_more : (gs : List GroupState) (s : Slot) → s.group < length gs → (group_in gs s.group).class ≢ Free
     → ((i : ℕ) → key_in (vacated gs (Some s)) (record { group = s.group; slot = i }) ≡ None)
     → free_in (vacated gs (Some s)) ≡ free_in gs + 1
-vacated_free_more gs s inside taken empty =
-    let new : GroupState = with_hole (group_in gs s.group) s.slot in
-    put_free_more gs s.group new inside taken (sym (ap (λ y. y.class) (put_same gs s.group new inside))
-    ∙ vacated_emptied gs s inside empty)
+vacated_free_more gs s inside taken empty = grind (arith, put_free_more, put_same, vacated_emptied)

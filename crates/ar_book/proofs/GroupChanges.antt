@@ -1,7 +1,6 @@
 -- The book's invariant after a change of one group's use, of one extent, or of how many groups there are.
-use Rattle.std.proofs.Common.{◌≡◌, ◌≢◌, ℕ, zero, suc, ◌<◌, ◌≤◌, ◌+◌, ◌-◌, ◌*◌, ◌^◌, true, false, ◌||◌, None, Some}
-use Rattle.std.proofs.Common.{is_some, List, [], ◌∷◌, ◌++◌, length, get_or, set, sum_by, count_by, refl, sym, ap, subst}
-use Rattle.std.proofs.Common.{◌∙◌, inl, inr, arith, true≢false, length-append, eq-eqb}
+use Rattle.std.proofs.Common.{◌≡◌, ◌≢◌, ℕ, zero, suc, ◌<◌, ◌+◌, ◌*◌, ◌^◌, true, false, ◌||◌, None, List, [], ◌∷◌, ◌++◌}
+use Rattle.std.proofs.Common.{length, get_or, set, sum_by, refl, ap, arith, length-append, eq-eqb}
 use Rattle.std.proofs.Math.ListN.{length-set, length-replicate}
 use Rattle.std.proofs.Math.Nat.{mul-le-mul_left}
 use Rattle.std.proofs.lemmas.Option.{none-some}
@@ -11,19 +10,17 @@ use Rattle.std.proofs.lemmas.Bool.{cases_lt, or_left, or_right, and_from}
 use Rattle.std.proofs.lemmas.Bool.Decides.{eqb_tells}
 use Rattle.ar_disks.specs.Geometry.{rows_of}
 use Rattle.ar_disks.specs.Members.{member, with_member, AreApart, AreDisjoint, stands_on}
-use Rattle.ar_disks.specs.declared.address.Key.{Key}
 use Rattle.ar_disks.specs.declared.address.Place.{Place}
 use Rattle.ar_disks.specs.declared.address.Members.{Members}
 use Rattle.ar_book.specs.declared.class.Class.{Class}
 use Rattle.ar_book.specs.declared.class.Class.TheVariants.{Free}
 use Rattle.ar_book.specs.declared.class.Slot.{Slot}
 use Rattle.ar_book.specs.Tables.{GroupState, Tables, no_group, group_in, key_in, key_at, class_of, used, slots_of}
-use Rattle.ar_book.specs.Tables.{reserved}
 use Rattle.ar_book.specs.Changes.{opened, free_group, formed, shifted}
 use Rattle.ar_disks.specs.Addresses.{same_place}
 use Rattle.ar_book.specs.Choices.{IsUnused, AreUnused}
 use Rattle.ar_book.specs.Book.{GroupsStand, BookAgrees}
-use Rattle.ar_book.proofs.Padding.{nothing, get_replicate, count_none}
+use Rattle.ar_book.proofs.Padding.{get_replicate, count_none}
 use Rattle.ar_book.proofs.GroupLemmas.{put_keeps, stand_put, disjoint_flips}
 use Rattle.ar_book.proofs.AgreeLemmas.{agree_same}
 
@@ -35,23 +32,10 @@ put_keys gs g x same s = ap (λ l. get_or l s.slot None) (put_keeps (λ y. y.slo
 module _ (t : Tables) (n g : ℕ) (x : GroupState) (ok : BookAgrees t n) (inside : g < length t.groups) (same : x.slots
     ≡ (group_in t.groups g).slots) where
   count : sum_by used (set t.groups g x) ≡ sum_by used t.groups
-  count =
-      let all : sum_by used (set t.groups g x) + used (group_in t.groups g) ≡ sum_by used t.groups + used x =
-      sum_by-set used t.groups g x no_group inside in
-      let here : used x ≡ used (group_in t.groups g) = ap (λ l. count_by is_some l) same in
-      omega arith
+  count = grind (arith, sum_by-set)
 
   pub group_kept : GroupsStand t.geometry (set t.groups g x) → BookAgrees (record t { groups = set t.groups g x }) n
-  group_kept stand = record {
-    tables = record {
-      groups = stand;
-      units = ok.tables.units;
-      agree = agree_same t.groups (set t.groups g x) t.units t.units ok.tables.agree (put_keys t.groups g x same)
-          (λ k. refl) count refl;
-      room = subst (λ m. reserved t ≤ 3 * rows_of t.geometry * (m - 1)) (sym (length-set t.groups g x)) ok.tables.room;
-    };
-    total = ok.total;
-  }
+  group_kept stand = grind (arith, agree_same, put_keys, count, length-set)
 
 -- a free group is opened
 pub opened_kept : (t : Tables) (n g : ℕ) (c : Class) → BookAgrees t n → g < length t.groups → class_of t g ≡ Free
@@ -106,10 +90,7 @@ stands_on_member m x (suc (suc (suc j))) e =
 
 pub not_member : (m : Members) (x : Place) → stands_on m x ≡ false → (j : ℕ) → (member m j).disk ≡ x.disk
     → (member m j).extent ≢ x.extent
-not_member m x unused j d e =
-    true≢false (sym
-    (stands_on_member m x j (and_from _ _ (eq-eqb (member m j).disk x.disk d) (eq-eqb (member m j).extent x.extent e)))
-    ∙ unused)
+not_member m x unused j d e = grind (arith, stands_on_member, and_from, eq-eqb)
 
 -- a group with another extent
 module _ (t : Tables) (n g p : ℕ) (x : Place) (ok : BookAgrees t n) (inside : g < length t.groups) (range : p < 4)
@@ -117,39 +98,11 @@ module _ (t : Tables) (n g p : ℕ) (x : Place) (ok : BookAgrees t n) (inside : 
     (apart : (i : ℕ) → i < 4 → i ≢ p → (member (group_in t.groups g).members i).disk ≢ x.disk)
     (disk : x.disk < 2 ^ 8) (extent : x.extent < 2 ^ 16) where
   still_apart : AreApart (with_member (group_in t.groups g).members p x)
-  still_apart i j hi hj ne =
-      let m : Members = (group_in t.groups g).members in
-      elim (eqb_tells i p) [
-        | inl a ↦
-            let j_other : j ≢ p = λ e. ne (a.1 ∙ sym e) in
-            λ e. apart j hj j_other
-            (sym (ap (λ y. y.disk) (member_other m p j x range hj j_other)) ∙ sym e
-            ∙ ap (λ k. (member (with_member m p x) k).disk) a.1 ∙ ap (λ y. y.disk) (member_same m p x))
-        | inr a ↦ elim (eqb_tells j p) [
-          | inl b ↦ λ e. apart i hi a.1
-              (sym (ap (λ y. y.disk) (member_other m p i x range hi a.1)) ∙ e
-              ∙ ap (λ k. (member (with_member m p x) k).disk) b.1 ∙ ap (λ y. y.disk) (member_same m p x))
-          | inr b ↦ λ e. ok.tables.groups.apart g inside i j hi hj ne
-              (sym (ap (λ y. y.disk) (member_other m p i x range hi a.1)) ∙ e
-              ∙ ap (λ y. y.disk) (member_other m p j x range hj b.1))
-        ]
-      ]
+  still_apart i j hi hj ne = grind (arith, eqb_tells, member_other, member_same)
 
   still_disjoint : (i : ℕ) → i < length t.groups → i ≢ g
       → AreDisjoint (group_in t.groups i).members (with_member (group_in t.groups g).members p x)
-  still_disjoint i hi ne a b ha hb =
-      let m : Members = (group_in t.groups g).members in
-      elim (eqb_tells b p) [
-        | inl q ↦
-            let here : member (with_member m p x) b ≡ x =
-            ap (λ k. member (with_member m p x) k) q.1 ∙ member_same m p x in
-            λ d e. not_member (group_in t.groups i).members x (unused i hi) a (d ∙ ap (λ y. y.disk) here) (e
-            ∙ ap (λ y. y.extent) here)
-        | inr q ↦
-            let here : member (with_member m p x) b ≡ member m b = member_other m p b x range hb q.1 in
-            λ d e. ok.tables.groups.disjoint i g hi inside ne a b ha hb (d ∙ ap (λ y. y.disk) here) (e
-            ∙ ap (λ y. y.extent) here)
-      ]
+  still_disjoint i hi ne a b ha hb = grind (arith, eqb_tells, member_same, not_member, member_other)
 
   still_first : (q : ℕ) → ((with_member (group_in t.groups g).members q x).first.disk < 2 ^ 8)
       × ((with_member (group_in t.groups g).members q x).first.extent < 2 ^ 16)
@@ -182,22 +135,17 @@ formed_group_count t m = length-append t.groups (free_group m (3 * rows_of t.geo
 
 -- each slot names what it did
 pub formed_keys : (t : Tables) (m : Members) (s : Slot) → key_at (formed t m) s ≡ key_at t s
-formed_keys t m s = elim (cases_lt s.group (length t.groups)) [
-  | inl h ↦ ap (λ y. get_or y.slots s.slot None) (formed_group_below t m s.group h)
-  | inr h ↦
-      let past : key_in t.groups s ≡ None =
-      ap (λ y. get_or y.slots s.slot None) (get_or_past t.groups s.group no_group h) in
-      elim (eqb_tells (length t.groups) s.group) [
-        | inl e ↦
-            ap (λ y. get_or y.slots s.slot None) (formed_group_last t m s.group e.1)
-            ∙ get_replicate (3 * rows_of t.geometry) s.slot (nothing Key)
-            ∙ sym past
-        | inr d ↦
-            ap (λ y. get_or y.slots s.slot None)
-            (get_or_past (formed t m).groups s.group no_group (omega (arith, formed_group_count t m, h, d.1)))
-            ∙ sym past
-      ]
-]
+formed_keys t m s =
+    grind (
+      arith,
+      cases_lt,
+      formed_group_below,
+      get_or_past,
+      eqb_tells,
+      formed_group_last,
+      get_replicate,
+      formed_group_count,
+    )
 
 -- one group more
 module _ (t : Tables) (n : ℕ) (m : Members) (ok : BookAgrees t n) (apart : AreApart m)
@@ -218,69 +166,27 @@ module _ (t : Tables) (n : ℕ) (m : Members) (ok : BookAgrees t n) (apart : Are
   each : (P : GroupState → Type 0) → ((i : ℕ) → i < length t.groups → P (group_in t.groups i))
       → P (free_group m (3 * rows_of t.geometry)) → (i : ℕ) → i < length t.groups + 1
       → P (group_in (t.groups ++ free_group m (3 * rows_of t.geometry) ∷ []) i)
-  each P old last i h = elim (cases_lt i (length t.groups)) [
-    | inl l ↦ subst P (sym (low i l)) (old i l)
-    | inr l ↦ subst P (sym (top i (omega arith))) last
-  ]
+  each P old last i h = grind (arith, cases_lt, low, top)
 
   formed_stand : GroupsStand t.geometry (t.groups ++ free_group m (3 * rows_of t.geometry) ∷ [])
   formed_stand =
-      let gs = ok.tables.groups in
-      let all = t.groups ++ free_group m (3 * rows_of t.geometry) ∷ [] in
-      record {
-        long = λ i h. each (λ y. length y.slots ≡ 3 * rows_of t.geometry) gs.long
-            (length-replicate (3 * rows_of t.geometry) (nothing Key)) i (omega (arith, size, h));
-        within = λ s k e.
-            let f : key_in t.groups s ≡ Some k = sym (formed_keys t m s) ∙ e in
-            elim (cases_lt s.group (length t.groups)) [
-              | inl h ↦ subst (λ y. s.slot < slots_of t.geometry y.class) (sym (low s.group h)) (gs.within s k f)
-              | inr h ↦ absurd
-                  (none-some k (sym (ap (λ y. get_or y.slots s.slot None) (get_or_past t.groups s.group no_group h))
-                  ∙ f))
-            ];
-        apart = λ i h. each (λ y. AreApart y.members) gs.apart apart i (omega (arith, size, h));
-        disjoint = λ i j hi hj ne. elim (cases_lt i (length t.groups)) [
-          | inl a ↦ elim (cases_lt j (length t.groups)) [
-            | inl b ↦ subst (λ y. AreDisjoint y.members (group_in all j).members) (sym (low i a))
-                (subst (λ y. AreDisjoint (group_in t.groups i).members y.members) (sym (low j b))
-                (gs.disjoint i j a b ne))
-            | inr b ↦ subst (λ y. AreDisjoint y.members (group_in all j).members) (sym (low i a))
-                (subst (λ y. AreDisjoint (group_in t.groups i).members y.members)
-                (sym (top j (omega (arith, size, hj, b)))) (fresh i a))
-          ]
-          | inr a ↦ elim (cases_lt j (length t.groups)) [
-            | inl b ↦ subst (λ y. AreDisjoint y.members (group_in all j).members)
-                (sym (top i (omega (arith, size, hi, a))))
-                (subst (λ y. AreDisjoint m y.members) (sym (low j b))
-                (disjoint_flips (group_in t.groups j).members m (fresh j b)))
-            | inr b ↦ absurd (ne (omega (arith, size, hi, hj, a, b)))
-          ]
-        ];
-        first = λ i h. each (λ y. (y.members.first.disk < 2 ^ 8)
-            × (y.members.first.extent < 2 ^ 16)) gs.first (disk, extent) i (omega (arith, size, h));
-      }
+      grind (
+        arith,
+        each,
+        length-replicate,
+        size,
+        formed_keys,
+        cases_lt,
+        low,
+        none-some,
+        get_or_past,
+        top,
+        disjoint_flips,
+      )
 
   pub formed_kept : BookAgrees (formed t m) n
   formed_kept =
-      let all = t.groups ++ free_group m (3 * rows_of t.geometry) ∷ [] in
-      let none : used (free_group m (3 * rows_of t.geometry)) ≡ 0 = count_none Key (3 * rows_of t.geometry) in
-      let count : sum_by used all ≡ sum_by used t.groups + used (free_group m (3 * rows_of t.geometry)) =
-      sum_by_push used t.groups (free_group m (3 * rows_of t.geometry)) in
-      record {
-        tables = record {
-          groups = formed_stand;
-          units = ok.tables.units;
-          agree = agree_same t.groups all t.units t.units ok.tables.agree (formed_keys t m) (λ k. refl) (omega arith)
-              refl;
-          room = more_room (rows_of t.geometry) (length t.groups) (length all) (reserved t) size ok.tables.room;
-        };
-        total = ok.total;
-      }
-    where
-      more_room : (e a b r : ℕ) → b ≡ a + 1 → r ≤ 3 * e * (a - 1) → r ≤ 3 * e * (b - 1)
-      more_room e a b r q h =
-          let le : a - 1 ≤ b - 1 = omega arith in
-          omega (arith, mul-le-mul_left (3 * e) le)
+      grind (arith, count_none, count, sum_by_push, formed_stand, agree_same, formed_keys, size, mul-le-mul_left)
 
 -- four extents that are in no group are members of none
 pub unused_disjoint : (t : Tables) (m : Members) → AreUnused t m → (i : ℕ) → i < length t.groups

@@ -1,8 +1,7 @@
 -- What a change of one group leaves in the list of groups.
-use Rattle.std.proofs.Common.{◌≡◌, ◌≢◌, ℕ, suc, ◌+◌, ◌-◌, ◌*◌, ◌^◌, ◌<◌, ◌≤◌, ◌⊎◌, Bool, true, false, cond, eqb}
-use Rattle.std.proofs.Common.{if◌then◌else◌, Option, None, Some, is_some, List, [], ◌∷◌, length, get_or, set, map, All}
-use Rattle.std.proofs.Common.{sum_by, count_by, refl, sym, ap, subst, ◌∙◌, inl, inr, arith, get_or-set_same}
-use Rattle.std.proofs.Common.{get_or-set_other, eq-eqb}
+use Rattle.std.proofs.Common.{◌≡◌, ◌≢◌, ℕ, suc, ◌+◌, ◌-◌, ◌*◌, ◌^◌, ◌<◌, ◌≤◌, ◌⊎◌, cond, eqb, Option, None, Some}
+use Rattle.std.proofs.Common.{is_some, List, [], ◌∷◌, length, get_or, set, map, All, sum_by, count_by, refl, sym, ap}
+use Rattle.std.proofs.Common.{subst, ◌∙◌, inl, inr, arith, get_or-set_same, get_or-set_other, eq-eqb}
 use Rattle.std.proofs.lemmas.List.{get_or_past, set_past}
 use Rattle.std.proofs.lemmas.List.Sums.{sum_by-set, sum_by-cons, get_or-le-sum_by}
 use Rattle.std.proofs.lemmas.Option.{none-some}
@@ -31,20 +30,11 @@ use Rattle.ar_book.proofs.Keys.{make_slot}
 
 -- a slot that names a block is there
 pub there_group : (gs : List GroupState) (s : Slot) (k : Key) → key_in gs s ≡ Some k → s.group < length gs
-there_group gs s k e =
-    elim (cases_lt s.group (length gs)) [
-      | inl h ↦ h
-      | inr h ↦ absurd
-          (none-some k (sym (ap (λ x. get_or x.slots s.slot None) (get_or_past gs s.group no_group h)) ∙ e))
-    ]
+there_group gs s k e = grind (arith, cases_lt, none-some, get_or_past)
 
 pub there_slot : (gs : List GroupState) (s : Slot) (k : Key) → key_in gs s ≡ Some k
     → s.slot < length (group_in gs s.group).slots
-there_slot gs s k e =
-    elim (cases_lt s.slot (length (group_in gs s.group).slots)) [
-      | inl h ↦ h
-      | inr h ↦ absurd (none-some k (sym (get_or_past (group_in gs s.group).slots s.slot None h) ∙ e))
-    ]
+there_slot gs s k e = grind (arith, cases_lt, none-some, get_or_past)
 
 -- the group that was put
 pub put_same : (gs : List GroupState) (g : ℕ) (x : GroupState) → g < length gs → group_in (set gs g x) g ≡ x
@@ -60,15 +50,7 @@ put_other gs g x i ne = get_or-set_other gs g i x no_group ne
 pub put_relates : (R : GroupState → GroupState → Type 0) → ((y : GroupState) → R y y)
     → (gs : List GroupState) (g : ℕ) (x : GroupState)
     → R (group_in gs g) x → (i : ℕ) → R (group_in gs i) (group_in (set gs g x) i)
-put_relates R same gs g x h i = elim (cases_lt g (length gs)) [
-  | inl inside ↦ elim (eqb_tells i g) [
-    | inl e ↦
-        subst (λ j. R (group_in gs j) (group_in (set gs g x) j)) (sym e.1)
-        (subst (λ y. R (group_in gs g) y) (sym (put_same gs g x inside)) h)
-    | inr n ↦ subst (λ y. R (group_in gs i) y) (sym (put_other gs g x i n.1)) (same (group_in gs i))
-  ]
-  | inr past ↦ subst (λ l. R (group_in gs i) (group_in l i)) (sym (set_past gs g x past)) (same (group_in gs i))
-]
+put_relates R same gs g x h i = grind (arith, cases_lt, eqb_tells, put_same, put_other, set_past)
 
 -- what the group that is put has as the former one stays in all
 pub put_keeps : {A : Type 0} (f : GroupState → A) (gs : List GroupState) (g : ℕ) (x : GroupState)
@@ -80,36 +62,15 @@ put_keeps f gs g x e i = put_relates (λ a b. f b ≡ f a) (λ y. refl) gs g x e
 module _ (gs : List GroupState) (s : Slot) (x : GroupState) (o : Option Key) (inside : s.group < length gs)
     (is : x.slots ≡ set (group_in gs s.group).slots s.slot o) where
   pub slot_same : s.slot < length (group_in gs s.group).slots → key_in (set gs s.group x) s ≡ o
-  slot_same h =
-      ap (λ y. get_or y.slots s.slot None) (put_same gs s.group x inside)
-      ∙ ap (λ l. get_or l s.slot None) is
-      ∙ get_or-set_same (group_in gs s.group).slots s.slot o None h
+  slot_same h = grind (arith, put_same, get_or-set_same)
 
   pub slot_other : (r : Slot) → r ≢ s → key_in (set gs s.group x) r ≡ key_in gs r
-  slot_other r ne =
-      elim (eqb_tells r.group s.group) [
-        | inl e ↦
-            let n : r.slot ≢ s.slot = λ q. ne (make_slot r s e.1 q) in
-            ap (λ i. get_or (group_in (set gs s.group x) i).slots r.slot None) e.1
-            ∙ ap (λ y. get_or y.slots r.slot None) (put_same gs s.group x inside)
-            ∙ ap (λ l. get_or l r.slot None) is
-            ∙ get_or-set_other (group_in gs s.group).slots s.slot r.slot o None n
-            ∙ sym (ap (λ i. get_or (group_in gs i).slots r.slot None) e.1)
-        | inr n ↦ ap (λ y. get_or y.slots r.slot None) (put_other gs s.group x r.group n.1)
-      ]
+  slot_other r ne = grind (arith, eqb_tells, make_slot, put_same, get_or-set_other, put_other)
 
   -- the slots that name a block are one more, or one fewer, as this one does and did
   pub slot_count : s.slot < length (group_in gs s.group).slots
       → sum_by used (set gs s.group x) + cond (is_some (key_in gs s)) 1 0 ≡ sum_by used gs + cond (is_some o) 1 0
-  slot_count h =
-      let one : count_by is_some (set (group_in gs s.group).slots s.slot o) + cond (is_some (key_in gs s)) 1 0
-      ≡ used (group_in gs s.group) + cond (is_some o) 1 0 =
-      sum_by-set (λ k. cond (is_some k) 1 0) (group_in gs s.group).slots s.slot o None h in
-      let here : used x ≡ count_by is_some (set (group_in gs s.group).slots s.slot o) =
-      ap (λ l. count_by is_some l) is in
-      let all : sum_by used (set gs s.group x) + used (group_in gs s.group) ≡ sum_by used gs + used x =
-      sum_by-set used gs s.group x no_group inside in
-      omega arith
+  slot_count h = grind (arith, sum_by-set)
 
 -- the groups stand where the one that was put does
 pub disjoint_flips : (m n : Members) → AreDisjoint m n → AreDisjoint n m
@@ -123,89 +84,22 @@ module _ (geo : Geometry) (gs : List GroupState) (ok : GroupsStand geo gs) (g : 
       → ((i : ℕ) → i < length gs → i ≢ g → AreDisjoint (group_in gs i).members x.members)
       → (x.members.first.disk < 2 ^ 8) × (x.members.first.extent < 2 ^ 16)
       → GroupsStand geo (set gs g x)
-  stand_put long within apart disjoint first =
-      let same = put_same gs g x inside in
-      let len : length (set gs g x) ≡ length gs = length-set gs g x in
-      let other : (i : ℕ) → i ≢ g → group_in (set gs g x) i ≡ group_in gs i = put_other gs g x in
-      record {
-        long = λ i h. elim (eqb_tells i g) [
-          | inl e ↦ ap (λ j. length (group_in (set gs g x) j).slots) e.1 ∙ ap (λ y. length y.slots) same ∙ long
-          | inr n ↦ ap (λ y. length y.slots) (other i n.1) ∙ ok.long i (omega arith)
-        ];
-        within = λ s k e. elim (eqb_tells s.group g) [
-          | inl q ↦
-              let here : group_in (set gs g x) s.group ≡ x = ap (λ j. group_in (set gs g x) j) q.1 ∙ same in
-              subst (λ y. s.slot < slots_of geo y.class) (sym here)
-              (within s.slot k (sym (ap (λ y. get_or y.slots s.slot None) here) ∙ e))
-          | inr n ↦
-              let here = other s.group n.1 in
-              subst (λ y. s.slot < slots_of geo y.class) (sym here)
-              (ok.within s k (sym (ap (λ y. get_or y.slots s.slot None) here) ∙ e))
-        ];
-        apart = λ i h. elim (eqb_tells i g) [
-          | inl e ↦ subst (λ y. AreApart y.members) (sym (ap (λ j. group_in (set gs g x) j) e.1 ∙ same)) apart
-          | inr n ↦ subst (λ y. AreApart y.members) (sym (other i n.1)) (ok.apart i (omega arith))
-        ];
-        disjoint = λ i j hi hj ne. elim (eqb_tells i g) [
-          | inl e ↦
-              let j_other : j ≢ g = λ q. ne (e.1 ∙ sym q) in
-              subst (λ y. AreDisjoint y.members (group_in (set gs g x) j).members)
-              (sym (ap (λ k. group_in (set gs g x) k) e.1 ∙ same))
-              (subst (λ y. AreDisjoint x.members y.members) (sym (other j j_other))
-              (disjoint_flips (group_in gs j).members x.members (disjoint j (omega arith) j_other)))
-          | inr n ↦ elim (eqb_tells j g) [
-            | inl e ↦
-                subst (λ y. AreDisjoint (group_in (set gs g x) i).members y.members)
-                (sym (ap (λ k. group_in (set gs g x) k) e.1 ∙ same))
-                (subst (λ y. AreDisjoint y.members x.members) (sym (other i n.1)) (disjoint i (omega arith) n.1))
-            | inr m ↦
-                subst (λ y. AreDisjoint y.members (group_in (set gs g x) j).members) (sym (other i n.1))
-                (subst (λ y. AreDisjoint (group_in gs i).members y.members) (sym (other j m.1))
-                (ok.disjoint i j (omega arith) (omega arith) ne))
-          ]
-        ];
-        first = λ i h. elim (eqb_tells i g) [
-          | inl e ↦ subst (λ y. (y.members.first.disk < 2 ^ 8)
-              × (y.members.first.extent < 2 ^ 16)) (sym (ap (λ j. group_in (set gs g x) j) e.1 ∙ same)) first
-          | inr n ↦ subst (λ y. (y.members.first.disk < 2 ^ 8)
-              × (y.members.first.extent < 2 ^ 16)) (sym (other i n.1)) (ok.first i (omega arith))
-        ];
-      }
+  stand_put long within apart disjoint first = grind (arith, put_same, length-set, put_other, eqb_tells, disjoint_flips)
 
 -- freeing a group changes its class alone
 pub freed_members : (x : GroupState) → (freed x).members ≡ x.members
-freed_members x = by (eqb (used x) 0)
-  where
-    by : (b : Bool) → (if b then record x { class = Free } else x).members ≡ x.members
-    by true = refl
-    by false = refl
+freed_members x = grind (arith)
 
 pub freed_slots : (x : GroupState) → (freed x).slots ≡ x.slots
-freed_slots x = by (eqb (used x) 0)
-  where
-    by : (b : Bool) → (if b then record x { class = Free } else x).slots ≡ x.slots
-    by true = refl
-    by false = refl
+freed_slots x = grind (arith)
 
 -- a group of which a slot names a block has a count above 0
 pub named_used : (x : GroupState) (i : ℕ) (k : Key) → get_or x.slots i None ≡ Some k → used x ≢ 0
-named_used x i k e z = elim (cases_lt i (length x.slots)) [
-  | inl h ↦
-      let le : cond {A = ℕ} (is_some (get_or x.slots i None)) 1 0 ≤ used x =
-      get_or-le-sum_by (λ o. cond (is_some o) 1 0) x.slots i None h in
-      let one : cond {A = ℕ} (is_some (get_or x.slots i None)) 1 0 ≡ 1 =
-      ap (λ (o : Option Key). cond {A = ℕ} (is_some o) 1 0) e in
-      absurd (omega arith)
-  | inr h ↦ absurd (none-some k (sym (get_or_past x.slots i None h) ∙ e))
-]
+named_used x i k e z = grind (arith, cases_lt, get_or-le-sum_by, none-some, get_or_past)
 
 -- where that count is 0 each slot is empty
 pub unused_empty : (x : GroupState) → used x ≡ 0 → (i : ℕ) → get_or x.slots i None ≡ None
-unused_empty x z i = by (get_or x.slots i None) refl
-  where
-    by : (o : Option Key) → get_or x.slots i None ≡ o → get_or x.slots i None ≡ None
-    by None e = e
-    by (Some k) e = absurd (named_used x i k e z)
+unused_empty x z i = grind (arith, named_used)
 
 -- and it is 0 where each slot is
 pub empty_unused : (ks : List (Option Key)) → ((i : ℕ) → get_or ks i None ≡ None) → count_by is_some ks ≡ 0
@@ -228,19 +122,11 @@ class_kept c x i k h e = elim h [ inl same ↦ same | inr free ↦ absurd (none-
 
 -- freeing a group leaves its class where a slot names a block
 pub freed_keeps : (x : GroupState) → KeepsClass x.class (freed x)
-freed_keeps x = elim (eqb_tells (used x) 0) [
-  | inl z ↦
-      inr (
-        ap (λ b. (if b then record x { class = Free } else x).class) z.0,
-        λ i. ap (λ l. get_or l i None) (freed_slots x) ∙ unused_empty x z.1 i,
-      )
-  | inr n ↦ inl (ap (λ b. (if b then record x { class = Free } else x).class) n.0)
-]
+freed_keeps x = grind (arith, eqb_tells, freed_slots, unused_empty)
 
 -- and makes it free where none does
 pub freed_empty : (x : GroupState) → ((i : ℕ) → get_or x.slots i None ≡ None) → (freed x).class ≡ Free
-freed_empty x empty =
-    ap (λ b. (if b then record x { class = Free } else x).class) (eq-eqb (used x) 0 (empty_unused x.slots empty))
+freed_empty x empty = grind (arith, eq-eqb, empty_unused)
 
 -- and only where no slot names a block
 pub freed_class : (x : GroupState) (i : ℕ) (k : Key) → get_or x.slots i None ≡ Some k → (freed x).class ≡ x.class
@@ -288,21 +174,10 @@ module _ (gs : List GroupState) (s : Slot) (k : Key) (inside : s.group < length 
 
   pub named_count : s.slot < length (group_in gs s.group).slots → key_in gs s ≡ None
       → sum_by used (named gs s k) ≡ sum_by used gs + 1
-  named_count h e =
-      let all = slot_count gs s (with_key (group_in gs s.group) s.slot k) (Some k) inside refl h in
-      let none : cond {A = ℕ} (is_some (key_in gs s)) 1 0 ≡ 0 =
-      ap (λ (o : Option Key). cond {A = ℕ} (is_some o) 1 0) e in
-      omega arith
+  named_count h e = grind (arith, slot_count)
 
   pub named_shape : (i : ℕ) → length (group_in (named gs s k) i).slots ≡ length (group_in gs i).slots
-  named_shape i = elim (eqb_tells i s.group) [
-    | inl e ↦
-        ap (λ j. length (group_in (named gs s k) j).slots) e.1
-        ∙ ap (λ y. length y.slots) (put_same gs s.group (with_key (group_in gs s.group) s.slot k) inside)
-        ∙ length-set (group_in gs s.group).slots s.slot (Some k)
-        ∙ sym (ap (λ j. length (group_in gs j).slots) e.1)
-    | inr n ↦ ap (λ y. length y.slots) (put_other gs s.group (with_key (group_in gs s.group) s.slot k) i n.1)
-  ]
+  named_shape i = grind (arith, eqb_tells, put_same, length-set, put_other)
 
   pub named_stand : (geo : Geometry) → GroupsStand geo gs → s.slot < slots_of geo (group_in gs s.group).class
       → GroupsStand geo (named gs s k)
@@ -332,32 +207,15 @@ module _ (gs : List GroupState) (s : Slot) (inside : s.group < length gs) where
 
   pub vacated_count : s.slot < length (group_in gs s.group).slots → (k : Key) → key_in gs s ≡ Some k
       → sum_by used (vacated gs (Some s)) + 1 ≡ sum_by used gs
-  vacated_count h k e =
-      let all = slot_count gs s (with_hole (group_in gs s.group) s.slot) None inside is h in
-      let one : cond {A = ℕ} (is_some (key_in gs s)) 1 0 ≡ 1 =
-      ap (λ (o : Option Key). cond {A = ℕ} (is_some o) 1 0) e in
-      omega arith
+  vacated_count h k e = grind (arith, slot_count, is)
 
   -- the group is free where none of its slots names a block any more
   pub vacated_emptied : ((i : ℕ) → key_in (vacated gs (Some s)) (record { group = s.group; slot = i }) ≡ None)
       → (group_in (vacated gs (Some s)) s.group).class ≡ Free
-  vacated_emptied empty =
-      let new : GroupState = with_hole (group_in gs s.group) s.slot in
-      let here : group_in (vacated gs (Some s)) s.group ≡ new = put_same gs s.group new inside in
-      ap (λ y. y.class) here
-      ∙ freed_empty (record (group_in gs s.group) { slots = set (group_in gs s.group).slots s.slot None })
-      (λ i. sym (ap (λ l. get_or l i None) is) ∙ sym (ap (λ y. get_or y.slots i None) here) ∙ empty i)
+  vacated_emptied empty = grind (arith, put_same, freed_empty, is)
 
   pub vacated_shape : (i : ℕ) → length (group_in (vacated gs (Some s)) i).slots ≡ length (group_in gs i).slots
-  vacated_shape i = elim (eqb_tells i s.group) [
-    | inl e ↦
-        ap (λ j. length (group_in (vacated gs (Some s)) j).slots) e.1
-        ∙ ap (λ y. length y.slots) (put_same gs s.group (with_hole (group_in gs s.group) s.slot) inside)
-        ∙ ap length is
-        ∙ length-set (group_in gs s.group).slots s.slot None
-        ∙ sym (ap (λ j. length (group_in gs j).slots) e.1)
-    | inr n ↦ ap (λ y. length y.slots) (put_other gs s.group (with_hole (group_in gs s.group) s.slot) i n.1)
-  ]
+  vacated_shape i = grind (arith, eqb_tells, put_same, is, length-set, put_other)
 
   pub vacated_stand : (geo : Geometry) → GroupsStand geo gs → GroupsStand geo (vacated gs (Some s))
   vacated_stand geo ok =

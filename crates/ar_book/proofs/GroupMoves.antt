@@ -62,43 +62,16 @@ fewer_mirrored Small = omega arith
 
 -- the groups are two
 moves_apart : (t : Tables) (from to : ℕ) → CanMove t from to → from ≢ to
-moves_apart t from to can same =
-    let full = can.full 0 (mirrored_some t.geometry) in
-    let empty : key_at t (slot_at from 0) ≡ None = ap (λ g. key_at t (slot_at g 0)) same ∙ can.empty 0 in
-    let key = some_value (key_at t (slot_at from 0)) full in
-    none-some key.0 (sym empty ∙ key.1)
+moves_apart t from to can same = grind (arith, mirrored_some, some_value, none-some)
 
 -- before the first move
 moving_start : (t : Tables) (from to : ℕ) → TablesAgree t → CanMove t from to → IsMoving t from to 0 t
-moving_start t from to ok can =
-    let some = mirrored_some t.geometry in
-    record {
-      agree = ok;
-      rest = λ j le. refl;
-      gone = λ j lt. absurd (omega arith);
-      empty = λ j le. can.empty j;
-      opened = can.opened;
-      open_from = λ lt. can.mirrored;
-      freed = λ le. absurd (omega arith);
-      geometry = refl;
-      groups = refl;
-      members = λ g. refl;
-      others = λ g not_from not_to. refl;
-      order = refl;
-      stamps = λ k. refl;
-      reserved = refl;
-      unplaced = λ k is. is;
-    }
+moving_start t from to ok can = grind (arith, mirrored_some)
 
 -- the slot that the next block moves to is there, and so is the first one past them all
 pub slot_there : (t u : Tables) (from to i : ℕ) → CanMove t from to → IsMoving t from to i u
     → i ≤ slots_of t.geometry Mirrored → HasSlot u (slot_at to i)
-slot_there t u from to i can moving inside =
-    let more = fewer_mirrored t.geometry in
-    let group : to < length u.groups = subst (λ n. to < n) (sym moving.groups) can.to_there in
-    let parity : slots_of u.geometry (class_of u to) ≡ slots_of t.geometry Parity =
-    ap (λ c. slots_of u.geometry c) moving.opened ∙ ap (λ g. slots_of g Parity) moving.geometry in
-    (group, omega arith)
+slot_there t u from to i can moving inside = grind (arith, fewer_mirrored)
 
 module _ (t u : Tables) (from to i : ℕ) (k : Key) (ok_t : TablesAgree t) (can : CanMove t from to)
     (moving : IsMoving t from to i u)
@@ -290,14 +263,7 @@ slot_names t u from to i ok can is inside none =
 pub moved_puts : (t : Tables) (from to n p : ℕ) → moved_first (record t { puts = p }) from to n
     ≡ record (moved_first t from to n) { puts = p }
 moved_puts t from to zero p = refl
-moved_puts t from to (suc n) p =
-    ap (λ (x : Tables). moved_from x (key_at t (slot_at from n)) (slot_at to n)) (moved_puts t from to n p)
-    ∙ by (key_at t (slot_at from n))
-  where
-    by : (o : Option Key) → moved_from (record (moved_first t from to n) { puts = p }) o (slot_at to n)
-        ≡ record (moved_from (moved_first t from to n) o (slot_at to n)) { puts = p }
-    by None = refl
-    by (Some k) = refl
+moved_puts t from to (suc n) p = grind (arith, moved_puts t from to n p)
 
 -- the tables are those that the call is made with
 pub can_move : (t s : Tables) (from to : ℕ) → t ≡ s → CanMove s from to → CanMove t from to

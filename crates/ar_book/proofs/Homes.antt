@@ -1,6 +1,5 @@
 -- What tables that agree say of a block and its home.
-use Rattle.std.proofs.Common.{◌≡◌, ◌≢◌, ℕ, ◌<◌, ◌≤◌, Option, None, Some, length, refl, sym, ap, subst, ◌∙◌, inl, inr}
-use Rattle.std.proofs.Common.{arith}
+use Rattle.std.proofs.Common.{◌≡◌, ◌≢◌, ℕ, ◌<◌, ◌≤◌, None, Some, sym, ap, subst, ◌∙◌, arith}
 use Rattle.std.proofs.lemmas.Bool.{cases_lt}
 use Rattle.std.proofs.lemmas.List.{get_or_past}
 use Rattle.std.proofs.lemmas.Option.{none-some, same_Some}
@@ -8,18 +7,14 @@ use Rattle.ar_disks.specs.declared.address.Key.{Key}
 use Rattle.ar_book.specs.declared.class.Class.{Class}
 use Rattle.ar_book.specs.declared.class.Class.TheVariants.{Free}
 use Rattle.ar_book.specs.declared.class.Slot.{Slot}
-use Rattle.ar_book.specs.Tables.{Tables, unit_in, key_at, home, level, level_in, level_of, class_of, slots_of, HasBlock}
-use Rattle.ar_book.specs.Tables.{HasSlot}
+use Rattle.ar_book.specs.Tables.{Tables, key_at, home, level, level_in, level_of, class_of, slots_of, HasBlock, HasSlot}
 use Rattle.ar_book.specs.Choices.{IsHole, IsEmpty}
 use Rattle.ar_book.specs.Book.{TablesAgree}
 use Rattle.ar_book.proofs.GroupLemmas.{there_group}
 
 -- a key that has a home is a block of a unit
 pub home_block : (t : Tables) (k : Key) (s : Slot) → home t k ≡ Some s → HasBlock t k
-home_block t k s e = elim (cases_lt k.rb (length (unit_in t.units k.addr).homes)) [
-  | inl h ↦ h
-  | inr h ↦ absurd (none-some s (sym (get_or_past (unit_in t.units k.addr).homes k.rb None h) ∙ e))
-]
+home_block t k s e = grind (arith, cases_lt, none-some, get_or_past)
 
 -- a block with a home stands at the level of that slot's class
 pub home_level : (t : Tables) (k : Key) (s : Slot) → home t k ≡ Some s → level t k ≡ level_of (class_of t s.group)
@@ -62,18 +57,11 @@ module _ (t : Tables) (ok : TablesAgree t) where
 
   -- a group with a slot that names something is not free
   pub key_class : (s : Slot) (k : Key) → key_at t s ≡ Some k → class_of t s.group ≢ Free
-  key_class s k e free =
-      let within : s.slot < slots_of t.geometry (class_of t s.group) = (key_slot s k e).1 in
-      let none : slots_of t.geometry (class_of t s.group) ≡ 0 = ap (λ c. slots_of t.geometry c) free in
-      absurd (omega arith)
+  key_class s k e free = grind (arith, key_slot)
 
   -- a slot after those of the group's class names nothing
   pub key_beyond : (s : Slot) → slots_of t.geometry (class_of t s.group) ≤ s.slot → key_at t s ≡ None
-  key_beyond s beyond = by (key_at t s) (λ k e. (key_slot s k e).1)
-    where
-      by : (o : Option Key) → ((k : Key) → o ≡ Some k → s.slot < slots_of t.geometry (class_of t s.group)) → o ≡ None
-      by None within = refl
-      by (Some k) within = let inside = within k refl in absurd (omega arith)
+  key_beyond s beyond = grind (arith, key_slot)
 
   -- so a free group's slots are all empty
   pub free_empty : (g : ℕ) → class_of t g ≡ Free → IsEmpty t g

@@ -2,14 +2,12 @@
 use Rattle.std.proofs.Common.{◌≡◌, ◌≢◌, ℕ, ◌+◌, ◌*◌, ◌<◌, ◌≤◌, Option, None, Some, List, [], ◌∷◌, ◌++◌, length, get_or}
 use Rattle.std.proofs.Common.{set, fold, refl, sym, ap, subst, ◌∙◌, inl, inr, arith, get_or-set_same, get_or-set_other}
 use Rattle.std.specs.Prelude.{IfSome, IfNone}
-use Rattle.std.specs.List.{position_or_len}
 use Rattle.std.specs.Option.{ForSome, MatchOption}
 use Rattle.std.proofs.lemmas.Bool.{cases_eq}
 use Rattle.std.proofs.lemmas.Option.{none-some, same_Some}
 use Rattle.std.proofs.lemmas.List.{length-set, ext_get_or, set-get_or}
 use Rattle.std.proofs.lemmas.Map.{keys-set_value}
 use Rattle.ar_disks.specs.Geometry.{rows_of}
-use Rattle.ar_disks.specs.Members.{with_member}
 use Rattle.ar_disks.specs.declared.address.Addr.{Addr}
 use Rattle.ar_disks.specs.declared.address.Key.{Key}
 use Rattle.ar_disks.specs.declared.address.Place.{Place}
@@ -19,17 +17,16 @@ use Rattle.ar_index.specs.declared.choices.Choices.{Choices}
 use Rattle.ar_index.specs.Choices.{place_in, nothing, with_oldest}
 use Rattle.ar_index.specs.Tree.{TreeState, leaves}
 use Rattle.ar_book.specs.declared.class.Class.{Class}
-use Rattle.ar_book.specs.declared.class.Class.TheVariants.{Free, Mirrored, Parity}
+use Rattle.ar_book.specs.declared.class.Class.TheVariants.{Mirrored}
 use Rattle.ar_book.specs.declared.class.Level.TheVariants.{Mirrored as MirroredLevel}
 use Rattle.ar_book.specs.declared.class.Slot.{Slot}
-use Rattle.ar_disks.specs.Addresses.{same_addr}
 use Rattle.ar_book.specs.Tables.{GroupState, UnitTableState, Tables, group_in, unit_in, key_at, home, level, level_in}
-use Rattle.ar_book.specs.Tables.{level_of, reserved, HasBlock, HasSlot}
+use Rattle.ar_book.specs.Tables.{level_of, HasBlock, HasSlot}
 use Rattle.ar_book.specs.Changes.{with_key, with_hole, named, vacated, homed, restamped, grown, unmarked, opened}
-use Rattle.ar_book.specs.Changes.{free_group, formed, shifted}
+use Rattle.ar_book.specs.Changes.{formed, shifted}
 use Rattle.ar_book.specs.Book.{TablesAgree}
-use Rattle.ar_book.specs.Index.{age_of, choices_by, choices_in, choices_of, leaves_from, leaves_of, free_leaf}
-use Rattle.ar_book.specs.Index.{oldest_by, oldest_in, oldest_of, KeepsOldest, HasNoOldest}
+use Rattle.ar_book.specs.Index.{age_of, choices_in, choices_of, leaves_from, leaves_of, free_leaf, oldest_in, oldest_of}
+use Rattle.ar_book.specs.Index.{KeepsOldest, HasNoOldest}
 use Rattle.ar_disks.proofs.Addresses.{addr_tells, make_key}
 use Rattle.ar_book.proofs.UnitLemmas.{has_by_block, unit_same, unit_other}
 use Rattle.ar_book.proofs.GroupLemmas.{there_group, named_shape, vacated_size, vacated_shape}
@@ -58,16 +55,11 @@ module _ (t : Tables) where
 
   pub shifted_leaves : (g p : ℕ) (x : Place) → leaves_of t.geometry t.units (shifted t g p x).groups
       ≡ leaves_of t.geometry t.units t.groups
-  shifted_leaves g p x =
-      same_leaf t.geometry (place_in t.units) (age_of t.units) g t.groups
-      (record (group_in t.groups g) { members = with_member (group_in t.groups g).members p x }) refl refl
+  shifted_leaves g p x = grind (arith, same_leaf)
 
   pub formed_leaves : (m : Members) → leaves_of t.geometry t.units (formed t m).groups
       ≡ leaves_of t.geometry t.units t.groups ++ free_leaf (length t.groups) ∷ []
-  formed_leaves m =
-      leaves_push t.geometry (place_in t.units) (age_of t.units) 0 t.groups (free_group m (3 * rows_of t.geometry))
-      ∙ ap (λ n. leaves_of t.geometry t.units t.groups ++ free_leaf n ∷ []) (let e : 0 + length t.groups
-      ≡ length t.groups = omega arith in e)
+  formed_leaves m = grind (arith, leaves_push)
 
 -- a slot is vacated, where there is one
 pub vacated_leaves : (g : Geometry) (units : List (Addr × UnitTableState)) (gs new : List GroupState)
@@ -121,13 +113,7 @@ released_leaves t k ok new index now o former put before two =
 
 -- the oldest block among a group's choices is that of the group
 oldest_chosen : (t : Tables) (i n : ℕ) → (choices_of t.geometry t.units n (group_in t.groups i)).oldest ≡ oldest_in t i
-oldest_chosen t i n = by (group_in t.groups i).class
-  where
-    by : (c : Class) → (choices_by c t.geometry (place_in t.units) (age_of t.units) n (group_in t.groups i)).oldest
-        ≡ oldest_by c (place_in t.units) (age_of t.units) (group_in t.groups i)
-    by Free = refl
-    by Mirrored = refl
-    by Parity = refl
+oldest_chosen t i n = grind (arith)
 
 -- where the group of its home keeps its oldest block, or it has none, nothing is refreshed
 pub kept_still : (t : Tables) (k : Key) (n : ℕ) (ok : TablesAgree t) (index : List Choices) (o changed : Option Slot)
@@ -147,24 +133,12 @@ kept_still t k n ok index o (Some q) former same needed before keeps =
 -- a group that isn't mirrored has no oldest block among its choices
 no_oldest : (g : Geometry) (units : List (Addr × UnitTableState)) (n : ℕ) (x : GroupState)
     → x.class ≢ Mirrored → (choices_of g units n x).oldest ≡ None
-no_oldest g units n x other = by x.class other
-  where
-    by : (c : Class) → c ≢ Mirrored → (choices_by c g (place_in units) (age_of units) n x).oldest ≡ None
-    by Free ne = refl
-    by Mirrored ne = absurd (ne refl)
-    by Parity ne = refl
+no_oldest g units n x other = grind (arith)
 
 -- of a group's choices no other than the oldest block has to do with the units
 oldest_alone : (g : Geometry) (units new : List (Addr × UnitTableState)) (n : ℕ) (x : GroupState)
     → with_oldest (choices_of g units n x) (oldest_of new x) ≡ choices_of g new n x
-oldest_alone g units new n x = by x.class
-  where
-    by : (c : Class)
-        → with_oldest (choices_by c g (place_in units) (age_of units) n x) (oldest_by c (place_in new) (age_of new) x)
-        ≡ choices_by c g (place_in new) (age_of new) n x
-    by Free = refl
-    by Mirrored = refl
-    by Parity = refl
+oldest_alone g units new n x = grind (arith)
 
 -- a block that isn't at the mirrored level gets a stamp: no slot of the group of its home is looked at for that
 pub unlooked_still : (t : Tables) (k : Key) (ok : TablesAgree t)
@@ -203,10 +177,7 @@ module _ (t : Tables) (k : Key) (n : ℕ) (ok : TablesAgree t) (block : HasBlock
       ])
 
   same_places : place_in units ≡ place_in t.units
-  same_places =
-      let u = unit_in t.units k.addr in
-      λ i. λ a. position_or_len (same_addr a)
-      (keys-set_value (same_addr k.addr) t.units (record u { stamps = set u.stamps k.rb n }) i)
+  same_places = grind (arith, keys-set_value)
 
   -- a group that is not its home's has the choices that it had
   elsewhere : (i : ℕ) → ((q : Slot) → home t k ≡ Some q → i ≢ q.group)
@@ -254,12 +225,7 @@ module _ (t : Tables) (k : Key) (n : ℕ) (ok : TablesAgree t) (block : HasBlock
       ])
 
   stamps : TablesAgree t → (age_of units k).stamp ≡ n
-  stamps agree =
-      let u = unit_in t.units k.addr in
-      ap (λ x. get_or x.stamps k.rb 0)
-      (unit_same t.units k.addr (record u { stamps = set u.stamps k.rb n })
-      (has_by_block t.units k.addr k.rb block))
-      ∙ get_or-set_same u.stamps k.rb n 0 (stamps_long t (reserved t) k (record { tables = agree; total = refl }) block)
+  stamps agree = grind (arith, unit_same, has_by_block, get_or-set_same, stamps_long)
 
   -- a group keeps its choices where another of its blocks is the oldest and stays so
   kept_choices : (i : ℕ) → KeepsOldest (choices_of t.geometry t.units i (group_in t.groups i)).oldest k n

@@ -1,11 +1,11 @@
 -- The leaves of the tree, after one group was put, or the units changed.
-use Rattle.std.proofs.Common.{◌≡◌, ℕ, zero, suc, ◌+◌, ◌<◌, cond, Option, None, Some, is_some, List, [], ◌∷◌, ◌++◌}
-use Rattle.std.proofs.Common.{length, get_or, set, count_by, refl, sym, ap, subst, ◌∙◌, inl, inr, arith}
+use Rattle.std.proofs.Common.{◌≡◌, ℕ, zero, suc, ◌+◌, ◌<◌, Bool, true, false, cond, Option, None, Some, is_some, List}
+use Rattle.std.proofs.Common.{[], ◌∷◌, ◌++◌, length, get_or, set, count_by, refl, sym, ap, ◌∙◌, inl, inr, arith}
 use Rattle.std.proofs.Common.{get_or-set_same}
 use Rattle.std.specs.Prelude.{nat_lt, if◌then◌else◌}
 use Rattle.std.specs.Map.{keys_of}
-use Rattle.std.specs.List.{position_or_len}
-use Rattle.std.specs.Option.{option_map}
+use Rattle.std.specs.Option.{option_map, ForSome}
+use Rattle.std.proofs.lemmas.Option.{none-some, same_Some}
 use Rattle.std.proofs.lemmas.Bool.{cases_lt}
 use Rattle.std.proofs.lemmas.List.{ext_get_or, set-get_or, set_past}
 use Rattle.std.proofs.lemmas.List.Sums.{sum_by-cons}
@@ -14,67 +14,63 @@ use Rattle.ar_disks.specs.declared.address.Key.{Key}
 use Rattle.ar_disks.specs.declared.geometry.Geometry.{Geometry}
 use Rattle.ar_index.specs.declared.choices.Age.{Age}
 use Rattle.ar_index.specs.declared.choices.Choices.{Choices}
-use Rattle.ar_index.specs.Choices.{place_in, nothing, older}
+use Rattle.ar_index.specs.Choices.{place_in, nothing, older, AreOfGroup}
 use Rattle.ar_index.specs.Tree.{TreeState, leaves, free_in, IsRight}
 use Rattle.ar_book.specs.declared.class.Class.{Class}
 use Rattle.ar_book.specs.declared.class.Class.TheVariants.{Free, Mirrored, Parity}
-use Rattle.ar_disks.specs.Addresses.{same_addr}
-use Rattle.ar_book.specs.Tables.{GroupState, UnitTableState, Tables, no_group, group_in, unit_in, is_free, slots_of}
+use Rattle.ar_book.specs.Tables.{GroupState, UnitTableState, Tables, group_in, unit_in, is_free, slots_of}
 use Rattle.ar_book.specs.Index.{age_of, oldest_named, choices_by, choices_in, choices_of, leaves_from, leaves_of}
-use Rattle.ar_book.specs.Index.{IsIndexed}
+use Rattle.ar_book.specs.Index.{IsIndexed, free_leaf}
 
 pub leaves_length : (g : Geometry) (place : Addr → ℕ) (age : Key → Age) (n : ℕ) (gs : List GroupState)
     → length (leaves_from g place age n gs) ≡ length gs
 leaves_length g place age n [] = refl
 leaves_length g place age n (x ∷ gs) = ap suc (leaves_length g place age (suc n) gs)
 
+-- a number is that of its group
+if_own : (b : Bool) (n : ℕ) → ForSome (cond {A = Option ℕ} b (Some n) None) (λ m. m ≡ n)
+if_own true n = λ m e. sym (same_Some n m e)
+if_own false n = λ m e. absurd (none-some m e)
+
+none_own : (n : ℕ) → ForSome (let o : Option ℕ = None in o) (λ m. m ≡ n)
+none_own n = λ m e. absurd (none-some m e)
+
+-- the choices of a free group name no other
+pub free_own : (n : ℕ) → AreOfGroup n (free_leaf n)
+free_own n = record { mirrored = none_own n; parity = none_own n; free = if_own true n }
+
+-- nor do those of any group
+pub choices_own : (g : Geometry) (place : Addr → ℕ) (age : Key → Age) (n : ℕ) (x : GroupState)
+    → AreOfGroup n (choices_in g place age n x)
+choices_own g place age n x = grind (arith, free_own, if_own, none_own)
+
 -- a leaf is that of its group
 pub leaf_at : (g : Geometry) (place : Addr → ℕ) (age : Key → Age) (n i : ℕ) (gs : List GroupState) → i < length gs
     → get_or (leaves_from g place age n gs) i nothing ≡ choices_in g place age (n + i) (group_in gs i)
 leaf_at g place age n i [] h = absurd (omega arith)
 leaf_at g place age n zero (x ∷ gs) h = ap (λ m. choices_in g place age m x) (let e : n ≡ n + 0 = omega arith in e)
-leaf_at g place age n (suc i) (x ∷ gs) h =
-    leaf_at g place age (suc n) i gs (omega arith)
-    ∙ ap (λ m. choices_in g place age m (group_in gs i)) (let e : suc n + i ≡ n + suc i = omega arith in e)
+leaf_at g place age n (suc i) (x ∷ gs) h = grind (arith, leaf_at g place age (suc n) i gs (omega arith))
 
 -- a group is put
 put_leaf : (g : Geometry) (place : Addr → ℕ) (age : Key → Age) (n i : ℕ) (gs : List GroupState) (x : GroupState)
     → leaves_from g place age n (set gs i x) ≡ set (leaves_from g place age n gs) i (choices_in g place age (n + i) x)
-put_leaf g place age n i [] x = nil i
-  where
-    nil : (i : ℕ) → leaves_from g place age n (set (let e : List GroupState = [] in e) i x)
-        ≡ set (let e : List Choices = [] in e) i (choices_in g place age (n + i) x)
-    nil zero = refl
-    nil (suc i) = refl
-put_leaf g place age n zero (y ∷ gs) x =
-    ap (λ m. choices_in g place age m x ∷ leaves_from g place age (suc n) gs) (let e : n ≡ n + 0 = omega arith in e)
-put_leaf g place age n (suc i) (y ∷ gs) x =
-    ap (λ l. choices_in g place age n y ∷ l)
-    (put_leaf g place age (suc n) i gs x
-    ∙ ap (λ m. set (leaves_from g place age (suc n) gs) i (choices_in g place age m x)) (let e : suc n + i
-    ≡ n + suc i = omega arith in e))
+put_leaf g place age n i [] x = grind (arith)
+put_leaf g place age n zero (y ∷ gs) x = grind (arith)
+put_leaf g place age n (suc i) (y ∷ gs) x = grind (arith, put_leaf g place age (suc n) i gs x)
 
 -- the tree is right again once the leaf of a group that was put is
 pub refreshed : (g : Geometry) (units : List (Addr × UnitTableState)) (gs new : List GroupState)
     (index now : List Choices) (i : ℕ) (x : GroupState) → i < length gs
     → index ≡ leaves_of g units gs → new ≡ set gs i x → now ≡ set index i (choices_of g units i (group_in new i))
     → now ≡ leaves_of g units new
-refreshed g units gs new index now i x inside before put e =
-    let here : group_in new i ≡ x = ap (λ l. group_in l i) put ∙ get_or-set_same gs i x no_group inside in
-    e ∙ ap (λ y. set index i (choices_of g units i y)) here ∙ ap (λ l. set l i (choices_of g units i x)) before
-    ∙ sym (put_leaf g (place_in units) (age_of units) 0 i gs x
-    ∙ ap (λ m. set (leaves_of g units gs) i (choices_of g units m x)) (let z : 0 + i ≡ i = omega arith in z))
-    ∙ sym (ap (leaves_of g units) put)
+refreshed g units gs new index now i x inside before put e = grind (arith, get_or-set_same, put_leaf)
 
 -- the units' order and all stamps stay
 pub same_ages : (g : Geometry) (units new : List (Addr × UnitTableState)) (gs : List GroupState)
     → ((k : Key) → get_or (unit_in new k.addr).stamps k.rb 0 ≡ get_or (unit_in units k.addr).stamps k.rb 0)
     → keys_of new ≡ keys_of units
     → leaves_of g new gs ≡ leaves_of g units gs
-same_ages g units new gs stamps order =
-    let places : place_in new ≡ place_in units = λ i. λ a. position_or_len (same_addr a) (order i) in
-    let ages : age_of new ≡ age_of units = λ i. λ k. record { stamp = stamps k i; key = k } in
-    λ i. leaves_from g (places i) (ages i) 0 gs
+same_ages g units new gs stamps order = grind (arith)
 
 -- the ages of the blocks that slots name stay
 pub same_named : (place : Addr → ℕ) (f h : Key → Age) (slots : List (Option Key))
@@ -107,10 +103,7 @@ pub leaves_push : (g : Geometry) (place : Addr → ℕ) (age : Key → Age) (n :
     → leaves_from g place age n (gs ++ x ∷ []) ≡ leaves_from g place age n gs
     ++ choices_in g place age (n + length gs) x ∷ []
 leaves_push g place age n [] x = ap (λ m. choices_in g place age m x ∷ []) (let e : n ≡ n + 0 = omega arith in e)
-leaves_push g place age n (y ∷ gs) x =
-    ap (λ l. choices_in g place age n y ∷ l) (leaves_push g place age (suc n) gs x
-    ∙ ap (λ m. leaves_from g place age (suc n) gs ++ choices_in g place age m x ∷ []) (let e : suc n + length gs
-    ≡ n + length (y ∷ gs) = omega arith in e))
+leaves_push g place age n (y ∷ gs) x = grind (arith, leaves_push g place age (suc n) gs x)
 
 -- as many leaves are free as groups
 pub free_leaves : (g : Geometry) (place : Addr → ℕ) (age : Key → Age) (n : ℕ) (gs : List GroupState)
@@ -176,9 +169,7 @@ same_leaf g place age i gs x class slots =
 -- the leaf of a group, among all
 pub leaf_of : (g : Geometry) (units : List (Addr × UnitTableState)) (gs : List GroupState) (i : ℕ) → i < length gs
     → get_or (leaves_of g units gs) i nothing ≡ choices_of g units i (group_in gs i)
-leaf_of g units gs i h =
-    leaf_at g (place_in units) (age_of units) 0 i gs h
-    ∙ ap (λ m. choices_of g units m (group_in gs i)) (let e : 0 + i ≡ i = omega arith in e)
+leaf_of g units gs i h = grind (arith, leaf_at)
 
 -- a tree with the leaf of each group is right
 pub all_leaves : (g : Geometry) (units : List (Addr × UnitTableState)) (gs : List GroupState) (index : List Choices)
@@ -192,13 +183,9 @@ all_leaves g units gs index size each =
 -- the tree has as many leaves as there are groups
 pub index_length : (t : Tables) (n : ℕ) (index : TreeState) → IsIndexed t n index
     → length (leaves index) ≡ length t.groups
-index_length t n index ok =
-    ap length ok.leaves ∙ leaves_length t.geometry (place_in t.units) (age_of t.units) 0 t.groups
+index_length t n index ok = grind (arith, leaves_length)
 
 -- a tree that is right for units is so for others in the same order
 pub same_order : (units new : List (Addr × UnitTableState)) (index : TreeState) → keys_of new ≡ keys_of units
     → IsRight (place_in units) index → IsRight (place_in new) index
-same_order units new index order ok = subst (λ (f : Addr → ℕ). IsRight f index) (sym places) ok
-  where
-    places : place_in new ≡ place_in units
-    places = λ i. λ a. position_or_len (same_addr a) (order i)
+same_order units new index order ok = grind (arith)

@@ -1,5 +1,5 @@
 -- What each change leaves of the book's invariant.
-use Rattle.std.proofs.Common.{◌≡◌, ℕ, ◌^◌, ◌<◌, List, None, Some, length, sym, ap, ◌∙◌, arith}
+use Rattle.std.proofs.Common.{◌≡◌, ℕ, ◌^◌, ◌<◌, List, None, Some, length, sym, ◌∙◌, arith}
 use Rattle.std.proofs.lemmas.Option.{none-some}
 use Rattle.ar_disks.specs.declared.address.Key.{Key}
 use Rattle.ar_book.specs.declared.class.Slot.{Slot}
@@ -12,10 +12,7 @@ use Rattle.ar_book.proofs.PlaceLemmas.{assigned_agrees, released_agrees}
 
 former : (t : Tables) (k : Key) (s : Slot) → TablesAgree t → HasSlot t s → key_at t s ≡ None → (q : Slot)
     → home t k ≡ Some q → key_in (named t.groups s k) q ≡ Some k
-former t k s ok slot empty q e =
-    let before : key_in t.groups q ≡ Some k = ok.agree.to_slot k q e in
-    named_other t.groups s k slot.0 q (λ f. none-some k (sym empty ∙ ap (λ x. key_in t.groups x) (sym f) ∙ before))
-    ∙ before
+former t k s ok slot empty q e = grind (arith, named_other, none-some)
 
 -- a block that is assigned: its former slot is there when it is vacated
 pub former_group : (t : Tables) (k : Key) (s : Slot) → TablesAgree t → HasSlot t s → key_at t s ≡ None → (q : Slot)
@@ -34,10 +31,7 @@ assigned_kept t n k s ok block slot empty = record {
 }
 
 pub released_kept : (t : Tables) (n : ℕ) (k : Key) → BookAgrees t n → HasBlock t k → BookAgrees (released t k) n
-released_kept t n k ok block = record {
-  tables = released_agrees t k ok.tables block;
-  total = ok.total ∙ sym (homed_reserved t.units k None block);
-}
+released_kept t n k ok block = grind (arith, released_agrees, homed_reserved)
 
 -- as many groups as the book has are fewer than 2 ^ 32, so each number is below the one that stands for none
 pub still_few : (t : Tables) (new : List GroupState) → TablesAgree t → length new ≡ length t.groups

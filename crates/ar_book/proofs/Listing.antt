@@ -1,6 +1,5 @@
 -- The directory of units has the place of each.
 use Rattle.std.proofs.Common.{◌≡◌, if◌then◌else◌, ℕ, zero, suc, ◌+◌, ◌*◌, ◌<◌, ◌≤◌, Bool, true, false, not, cond}
-use Rattle.std.proofs.Common.{nat_lt}
 use Rattle.std.proofs.Common.{Option, None, Some, IsSome, is_some, List, [], ◌∷◌, ◌++◌, length, get_or, set, take}
 use Rattle.std.proofs.Common.{slice_get, position, replicate, refl, sym, ap, subst, ◌∙◌, inl, inr, arith, true≢false}
 use Rattle.std.proofs.Common.{get_or-set_same, get_or-set_other, lt-ltb, le-ltb, length-append, append_assoc, drop}
@@ -27,10 +26,7 @@ spot_low : (a : Addr) → a.lun ≤ 7 → spot_of a ≡ 8 * a.host.number + a.lu
 spot_low a h = ap (λ b. if b then 8 * a.host.number + a.lun else 32) (le-leb a.lun 7 h)
 
 spot_high : (a : Addr) → 7 < a.lun → spot_of a ≡ 32
-spot_high a h = elim (leb_tells a.lun 7) [
-  | inl y ↦ absurd (let low = y.1 in omega arith)
-  | inr n ↦ ap (λ b. if b then 8 * a.host.number + a.lun else 32) n.0
-]
+spot_high a h = grind (arith, leb_tells)
 
 -- a LUN up to 7 has a spot
 pub spot_fits : (a : Addr) → a.lun ≤ 7 → spot_of a < 32
@@ -38,16 +34,7 @@ spot_fits a h = let low = spot_low a h in let range = a.host.in_range in omega a
 
 -- addresses with one spot are equal
 pub spot_apart : (a b : Addr) → spot_of a ≡ spot_of b → spot_of a < 32 → a ≡ b
-spot_apart a b e lt = elim (cases_lt 7 a.lun) [
-  | inl high ↦ absurd (let is = spot_high a high in omega arith)
-  | inr low ↦ elim (cases_lt 7 b.lun) [
-    | inl high ↦ absurd (let is = spot_high b high in omega arith)
-    | inr less ↦
-        let x = spot_low a low in
-        let y = spot_low b less in
-        make_addr a b (same_host a.host b.host (omega arith)) (omega arith)
-  ]
-]
+spot_apart a b e lt = grind (arith, cases_lt, spot_high, spot_low, make_addr, same_host)
 
 -- the first place of a list that is one longer
 module _ (test : Addr → Bool) (ks : List Addr) (k : Addr) where
@@ -55,44 +42,23 @@ module _ (test : Addr → Bool) (ks : List Addr) (k : Addr) where
   long = length-append ks (k ∷ [])
 
   some_at : (xs : List Addr) (i : ℕ) → position_or_len test xs ≡ i → i < length xs → position test xs ≡ Some i
-  some_at xs i e lt =
-      ap (λ n. cond (nat_lt n (length xs)) (Some n) None) e ∙ ap (λ b. cond b (Some i) None) (lt-ltb i _ lt)
+  some_at xs i e lt = grind (arith, lt-ltb)
 
   none_at : (xs : List Addr) → position_or_len test xs ≡ length xs → position test xs ≡ None
-  none_at xs e =
-      ap (λ n. cond (nat_lt n (length xs)) (Some n) None) e
-      ∙ ap (λ b. cond b (Some (length xs)) None) (le-ltb _ _ (omega arith))
+  none_at xs e = grind (arith, le-ltb)
 
   at_end : position_or_len test ks ≡ length ks → position_or_len test (ks ++ k ∷ [])
       ≡ length ks + cond {A = ℕ} (test k) 0 1
-  at_end e = elim (eqb_tells (position_or_len test ks) (length ks)) [
-    | inl y ↦ position_or_len_push test ks k
-        ∙ ap (λ b. cond b (length ks + cond {A = ℕ} (test k) 0 1) (position_or_len test ks)) y.0
-    | inr n ↦ absurd (n.1 e)
-  ]
+  at_end e = grind (arith, eqb_tells, position_or_len_push)
 
   before : position_or_len test ks < length ks → position_or_len test (ks ++ k ∷ []) ≡ position_or_len test ks
-  before lt = elim (eqb_tells (position_or_len test ks) (length ks)) [
-    | inl y ↦ absurd (let e = y.1 in omega arith)
-    | inr n ↦ position_or_len_push test ks k
-        ∙ ap (λ b. cond b (length ks + cond {A = ℕ} (test k) 0 1) (position_or_len test ks)) n.0
-  ]
+  before lt = grind (arith, eqb_tells, position_or_len_push)
 
   position_new : position test ks ≡ None → test k ≡ true → position test (ks ++ k ∷ []) ≡ Some (length ks)
-  position_new none passes =
-      let end = at_end (no_place test ks none) ∙ ap (λ b. length ks + cond {A = ℕ} b 0 1) passes in
-      some_at (ks ++ k ∷ []) (length ks) (omega arith) (omega (arith, long))
+  position_new none passes = grind (arith, at_end, no_place, some_at, long)
 
   position_other : test k ≡ false → position test (ks ++ k ∷ []) ≡ position test ks
-  position_other fails = elim (cases_lt (position_or_len test ks) (length ks)) [
-    | inl lt ↦ some_at (ks ++ k ∷ []) (position_or_len test ks) (before lt) (omega (arith, long))
-        ∙ sym (some_at ks (position_or_len test ks) refl lt)
-    | inr le ↦
-        let most = prefix_len-le-length (λ x. not (test x)) ks in
-        let same : position_or_len test ks ≡ length ks = omega arith in
-        let end = at_end same ∙ ap (λ b. length ks + cond {A = ℕ} b 0 1) fails in
-        none_at (ks ++ k ∷ []) (omega (arith, long)) ∙ sym (none_at ks same)
-  ]
+  position_other fails = grind (arith, cases_lt, some_at, before, long, prefix_len-le-length, at_end, none_at)
 
 keys_push : (es : List (Addr × UnitTableState)) (e : Addr × UnitTableState)
     → keys_of (es ++ e ∷ []) ≡ keys_of es ++ e.0 ∷ []
@@ -142,16 +108,7 @@ more_listed places es a u listed fits fresh = record {
 
 -- where units are listed their addresses have spots
 pub listed_spots : (places : List (Option ℕ)) (es : List (Addr × UnitTableState)) → AreListed places es → HaveSpots es
-listed_spots places es listed = record { each = each }
-  where
-    each : (a : Addr) → IsSome (lookup (same_addr a) es) → spot_of a < 32
-    each a there = elim (cases_lt (spot_of a) 32) [
-      | inl lt ↦ lt
-      | inr le ↦
-          let none : position (same_addr a) (keys_of es) ≡ None =
-          sym (listed.each a) ∙ get_or_past places (spot_of a) None (omega (arith, listed.len)) in
-          absurd (true≢false (sym there ∙ sym (some_index (same_addr a) es) ∙ ap is_some none))
-    ]
+listed_spots places es listed = grind (arith, cases_lt, get_or_past, some_index)
 
 -- the next unit is listed
 pub next_listed : (places : List (Option ℕ)) (es : List (Addr × UnitTableState)) (place : ℕ) (a : Addr)
@@ -178,8 +135,7 @@ next_listed places es place a u distinct at listed fits =
 -- units are listed as those with the same keys
 pub same_listed : (places : List (Option ℕ)) (es fs : List (Addr × UnitTableState)) → keys_of fs ≡ keys_of es
     → AreListed places es → AreListed places fs
-same_listed places es fs same listed =
-    record { len = listed.len; each = λ a. listed.each a ∙ ap (position (same_addr a)) (sym same) }
+same_listed places es fs same listed = grind (arith)
 
 -- the unit at the place of an address
 pub at_place : (es : List (Addr × UnitTableState)) (a : Addr) (place : ℕ)
@@ -211,8 +167,7 @@ put_first test (e ∷ es) place w first = by (test e.0) refl place first (λ i. 
 -- a value written at the place of an address is that of its unit
 pub put_at_place : (es : List (Addr × UnitTableState)) (a : Addr) (place : ℕ) (u : UnitTableState)
     → position (same_addr a) (keys_of es) ≡ Some place → set_value_at es place u ≡ set_value (same_addr a) es u
-put_at_place es a place u found =
-    put_first (same_addr a) es place u (Found-position (same_addr a) es place found).or_len
+put_at_place es a place u found = grind (arith, put_first, Found-position)
 
 -- the unit read at the place of an address
 pub unit_at_place : (es : List (Addr × UnitTableState)) (a : Addr) (place : ℕ) (u : UnitTableState)
@@ -222,10 +177,6 @@ unit_at_place es a place u found at = ap (λ o. unwrap_or o no_unit) (at_place e
 pub no_unit_there : (es : List (Addr × UnitTableState)) (a : Addr) → position (same_addr a) (keys_of es) ≡ None
     → lookup (same_addr a) es ≡ None
 no_unit_there es a none = (Missing-position (same_addr a) es none).value
-
-pub place_within : (es : List (Addr × UnitTableState)) (a : Addr) (place : ℕ)
-    → position (same_addr a) (keys_of es) ≡ Some place → place < length es
-place_within es a place found = (Found-position (same_addr a) es place found).within
 
 -- no unit is listed before the first
 pub none_taken : (es : List (Addr × UnitTableState)) → AreListed (replicate 32 None) (take 0 es)
@@ -250,15 +201,7 @@ got_unit es fs a place k u same found at =
 left_there : (test query : Addr → Bool) (es : List (Addr × UnitTableState))
     → IsSome (lookup query (remove_entry test es)) → IsSome (lookup query es)
 left_there test query [] h = h
-left_there test query (e ∷ es) h = by (left_there test query es) (test e.0) (query e.0) refl h
-  where
-    by : (IsSome (lookup query (remove_entry test es)) → IsSome (lookup query es)) → (t q : Bool) → query e.0 ≡ q
-        → IsSome (lookup query (cond t es (e ∷ remove_entry test es))) → IsSome (lookup query (e ∷ es))
-    by rest t true is there = ap (λ b. is_some (cond b (Some e.1) (lookup query es))) is
-    by rest true false is there = subst (λ b. IsSome (cond b (Some e.1) (lookup query es))) (sym is) there
-    by rest false false is there =
-        subst (λ b. IsSome (cond b (Some e.1) (lookup query es))) (sym is)
-        (rest (subst (λ b. IsSome (cond b (Some e.1) (lookup query (remove_entry test es)))) is there))
+left_there test query (e ∷ es) h = grind (arith, left_there test query es)
 
 -- the units that are left keep their spots
 pub spots_left : (es : List (Addr × UnitTableState)) (test : Addr → Bool) → HaveSpots es

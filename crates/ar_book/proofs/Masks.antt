@@ -1,6 +1,6 @@
 -- The mask of a group's empty slots.
-use Rattle.std.proofs.Common.{◌≡◌, ℕ, ◌<◌, ◌≤◌, cond, Option, None, is_some, List, get_or, replicate}
-use Rattle.std.proofs.Common.{sym, ap, ◌∙◌, inl, inr, arith}
+use Rattle.std.proofs.Common.{◌≡◌, ℕ, ◌<◌, ◌≤◌, cond, Option, None, is_some, List, get_or, replicate, sym, ap, ◌∙◌, inl}
+use Rattle.std.proofs.Common.{inr, arith}
 use Rattle.std.specs.Int.{bit_at}
 use Rattle.std.proofs.lemmas.Bool.{cases_lt}
 use Rattle.std.proofs.lemmas.Option.{none-some}
@@ -16,12 +16,7 @@ bit_of o = cond {A = ℕ} (is_some o) 0 1
 
 -- none of as many empty slots is occupied
 blank : (n i : ℕ) → get_or (replicate n (let e : Option Key = None in e)) i None ≡ None
-blank n i = elim (cases_lt i n) [
-  | inl inside ↦ get_or-replicate n i None None inside
-  | inr past ↦
-      let size = length-replicate n (let e : Option Key = None in e) in
-      get_or_past (replicate n None) i None (omega arith)
-]
+blank n i = grind (arith, cases_lt, get_or-replicate, length-replicate, get_or_past)
 
 pub marked_new : (n : ℕ) → n ≤ 48 → IsMarked (replicate n None) 0 18446744073709551615
 marked_new n few = record {

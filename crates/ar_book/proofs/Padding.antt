@@ -1,6 +1,6 @@
 -- Empty places after the end of a list change no reading of it.
-use Rattle.std.proofs.Common.{◌≡◌, ◌+◌, ℕ, zero, suc, Option, None, is_some, List, [], ◌∷◌, ◌++◌, get_or, count_by}
-use Rattle.std.proofs.Common.{cond, replicate, refl, arith}
+use Rattle.std.proofs.Common.{◌≡◌, ℕ, zero, suc, Option, None, is_some, List, [], ◌∷◌, ◌++◌, get_or, count_by, cond}
+use Rattle.std.proofs.Common.{replicate, refl, arith}
 use Rattle.std.proofs.lemmas.List.Sums.{sum_by-cons, sum_by-append}
 
 -- nothing, of a type
@@ -23,17 +23,8 @@ get_padded (x ∷ xs) n (suc i) d = get_padded xs n i d
 
 pub count_none : (X : Type 0) (n : ℕ) → count_by is_some (replicate n (nothing X)) ≡ 0
 count_none X zero = refl
-count_none X (suc n) =
-    let head : count_by is_some (replicate (suc n) (nothing X)) ≡ 0 + count_by is_some (replicate n (nothing X)) =
-    sum_by-cons one_if (nothing X) (replicate n (nothing X)) in
-    let rest : count_by is_some (replicate n (nothing X)) ≡ 0 = count_none X n in
-    omega arith
+count_none X (suc n) = grind (arith, sum_by-cons, count_none X n)
 
 pub count_padded : {X : Type 0} (xs : List (Option X)) (n : ℕ)
     → count_by is_some (xs ++ replicate n (nothing X)) ≡ count_by is_some xs
-count_padded {X} xs n =
-    let all : count_by is_some (xs ++ replicate n (nothing X))
-    ≡ count_by is_some xs + count_by is_some (replicate n (nothing X)) =
-    sum_by-append one_if xs (replicate n (nothing X)) in
-    let none : count_by is_some (replicate n (nothing X)) ≡ 0 = count_none X n in
-    omega arith
+count_padded {X} xs n = grind (arith, sum_by-append, count_none)

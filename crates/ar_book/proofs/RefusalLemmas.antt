@@ -1,7 +1,7 @@
 -- What is known where a making or a growth is not refused.
-use Rattle.std.proofs.Common.{◌≡◌, ◌≢◌, ℕ, ◌<◌, ◌≤◌, ◌+◌, ◌-◌, ◌*◌, ◌/◌, ◌%◌, ◌^◌, min, Bool, true, false, not, ◌||◌}
-use Rattle.std.proofs.Common.{nat_lt, nat_le, eqb, if◌then◌else◌, Option, None, Some, is_some, IsSome, Result, Ok, Err}
-use Rattle.std.proofs.Common.{OnOk, length, refl, sym, ◌∙◌, arith, true≢false}
+use Rattle.std.proofs.Common.{◌≡◌, ℕ, ◌<◌, ◌≤◌, ◌+◌, ◌-◌, ◌*◌, ◌/◌, ◌%◌, ◌^◌, min, Bool, true, false, not, ◌||◌, nat_lt}
+use Rattle.std.proofs.Common.{nat_le, if◌then◌else◌, Option, None, Some, is_some, IsSome, Result, Ok, Err, OnOk, length}
+use Rattle.std.proofs.Common.{refl, sym, ◌∙◌, arith, true≢false}
 use Rattle.std.specs.Map.{lookup}
 use Rattle.std.specs.Result.{is_err}
 use Rattle.std.proofs.lemmas.Option.{none-some}
@@ -11,7 +11,7 @@ use Rattle.ar_disks.specs.declared.address.Addr.{Addr}
 use Rattle.ar_disks.specs.declared.geometry.Geometry.{Geometry}
 use Rattle.ar_disks.specs.declared.geometry.Geometry.TheVariants.{Paper, Small}
 use Rattle.ar_book.specs.declared.refusal.Refusal.{Refusal}
-use Rattle.ar_book.specs.declared.refusal.Refusal.TheVariants.{BadLun, Exists, Size, NoRoom, Absent}
+use Rattle.ar_book.specs.declared.refusal.Refusal.TheVariants.{Size, NoRoom, Absent}
 use Rattle.ar_disks.specs.Addresses.{same_addr}
 use Rattle.ar_book.specs.Tables.{Tables, UnitTableState, has_unit, unit_in, blocks_of, reserved, room}
 use Rattle.ar_book.specs.Refusals.{unit_make_refusal, unit_grow_refusal}
@@ -48,8 +48,7 @@ fits t m ok h = omega (arith, ok.room, h)
 -- and their number is one of 32 bits
 pub reserved_fits : (t : Tables) (m : ℕ) → TablesAgree t
     → reserved t + m ≤ 3 * rows_of t.geometry * (length t.groups - 1) → reserved t + m < 2 ^ 32
-reserved_fits t m ok h =
-    omega (arith, h, room_fits t.geometry (length t.groups) (few_groups t.geometry t.groups ok.groups))
+reserved_fits t m ok h = grind (arith, room_fits, few_groups)
 
 pub record CanMake (t : Tables) (a : Addr) (n : ℕ) : Type 0 where
   pub lun : a.lun ≤ 7
@@ -59,18 +58,7 @@ pub record CanMake (t : Tables) (a : Addr) (n : ℕ) : Type 0 where
   pub room : reserved t + blocks_of t.geometry n ≤ 3 * rows_of t.geometry * (length t.groups - 1)
 
 pub can_make : (t : Tables) (a : Addr) (n : ℕ) → TablesAgree t → unit_make_refusal t a n ≡ None → CanMake t a n
-can_make t a n ok e =
-    let p = four (nat_lt 7 a.lun) (has_unit t a) (eqb n 0 || nat_lt 1048576 n)
-    (nat_lt (room t) (blocks_of t.geometry n)) BadLun Exists Size (NoRoom (room t)) e in
-    let size = or_parts (eqb n 0) (nat_lt 1048576 n) p.2 in
-    let ne : n ≢ 0 = eqb-false n 0 size.0 in
-    record {
-      lun = ltb-false 7 a.lun p.0;
-      fresh = none_found (lookup (same_addr a) t.units) p.1;
-      some = omega arith;
-      few = ltb-false 1048576 n size.1;
-      room = fits t (blocks_of t.geometry n) ok (ltb-false (room t) (blocks_of t.geometry n) p.3);
-    }
+can_make t a n ok e = grind (arith, four, or_parts, eqb-false, ltb-false, none_found, fits)
 
 pub record CanGrow (t : Tables) (a : Addr) (n : ℕ) : Type 0 where
   pub there : IsSome (lookup (same_addr a) t.units)

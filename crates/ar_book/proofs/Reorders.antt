@@ -2,7 +2,7 @@
 use Rattle.std.proofs.Common.{◌≡◌, ◌≢◌, ℕ, suc, ◌+◌, ◌*◌, ◌<◌, ◌≤◌, cond, count_by, true, false, Option, None, Some}
 use Rattle.std.proofs.Common.{is_some, List, [], ◌∷◌, ◌++◌, length, get_or, map, set, fold, refl, sym, ap, subst, ◌∙◌}
 use Rattle.std.proofs.Common.{inl, inr, arith, true≢false, get_or-set_same, get_or-set_other}
-use Rattle.std.specs.Prelude.{Bool, not}
+use Rattle.std.specs.Prelude.{Bool}
 use Rattle.std.specs.List.{position_or_len}
 use Rattle.std.specs.Map.{lookup, keys_of, remove_entry}
 use Rattle.std.specs.Option.{option_map}
@@ -98,8 +98,7 @@ module _ (f g : Addr → ℕ) (a : Addr) (alike : (b c : Addr) → IsOther a b �
 
 -- past the last leaf there is nothing
 leaf_past : (index : TreeState) (i : ℕ) (P : Addr → Type 0) → length (leaves index) ≤ i → Names P (leaf index i).oldest
-leaf_past index i P past b e =
-    absurd (none-some b (sym (ap (λ (c : Choices). c.oldest) (get_or_past (leaves index) i nothing past)) ∙ e))
+leaf_past index i P past b e = grind (arith, none-some, get_or_past)
 
 -- where a unit is made that wasn't there
 module _ (t : Tables) (ok : TablesAgree t) (a : Addr) (n : ℕ) (new : lookup (same_addr a) t.units ≡ None) where
@@ -149,9 +148,7 @@ module _ (t : Tables) (ok : TablesAgree t) (a : Addr) (n : ℕ) (new : lookup (s
 
 -- a blank leaf names no block
 blank_names : (c : Choices) (P : Addr → Type 0) → is_nothing c ≡ true → Names P c.oldest
-blank_names c P e b f =
-    let last = (and_parts _ (not (is_some c.oldest)) e).1 in
-    absurd (true≢false (sym last ∙ ap (λ o. not (is_some o)) f))
+blank_names c P e b f = grind (arith, and_parts)
 
 -- where a unit goes, whose blocks' groups are blank
 module _ (t : Tables) (ok : TablesAgree t) (a : Addr) (old index : TreeState) (before : leaves old
@@ -223,12 +220,7 @@ module _ (t : Tables) (ok : TablesAgree t) (a : Addr) (old index : TreeState) (b
 -- the homes from the next place on
 pub further_on : (homes : List (Option Slot)) (n i : ℕ) → ((s : Slot) → get_or homes n None ≡ Some s → s.group ≢ i)
     → IsAmong homes n i → IsAmong homes (n + 1) i
-further_on homes n i not_here m = elim (cases_lt n m.place) [
-  | inl later ↦ record { place = m.place; slot = m.slot; behind = omega arith; is = m.is; here = m.here }
-  | inr same ↦
-      let e : m.place ≡ n = omega (arith, m.behind) in
-      absurd (not_here m.slot (ap (λ j. get_or homes j None) (sym e) ∙ m.is) m.here)
-]
+further_on homes n i not_here m = grind (arith, cases_lt)
 
 -- the groups of the first homes are blank, and nothing else has changed
 pub record AreBlanked (us : List (Addr × UnitTableState)) (homes : List (Option Slot)) (n : ℕ) (old index : TreeState)
@@ -247,19 +239,13 @@ pub record AreRefreshed (g : Geometry) (us : List (Addr × UnitTableState)) (gs 
 -- one home more, of which the group is another
 later_outside : (homes : List (Option Slot)) (n i : ℕ) → ((s : Slot) → get_or homes n None ≡ Some s → s.group ≢ i)
     → AreOutside homes n i → AreOutside homes (n + 1) i
-later_outside homes n i not_here outside j s h e = elim (cases_lt j n) [
-  | inl before ↦ outside j s before e
-  | inr last ↦ let same : j ≡ n = omega arith in not_here s (ap (λ m. get_or homes m None) (sym same) ∙ e)
-]
+later_outside homes n i not_here outside j s h e = grind (arith, cases_lt)
 
 module _ (homes : List (Option Slot)) (n : ℕ) (old index : TreeState) (each : (i : ℕ)
     → IsBlanked homes n old index i) where
   blanked_beside : (now : TreeState) (i : ℕ) → leaf now i ≡ leaf index i
       → ((s : Slot) → get_or homes n None ≡ Some s → s.group ≢ i) → IsBlanked homes (n + 1) old now i
-  blanked_beside now i same not_here = elim (each i) [
-    | inl kept ↦ inl (same ∙ kept.0, later_outside homes n i not_here kept.1)
-    | inr none ↦ inr (ap is_nothing same ∙ none.0, none.1)
-  ]
+  blanked_beside now i same not_here = grind (arith, later_outside)
 
   blanked_here : (now : TreeState) (q : Slot) → get_or homes n None ≡ Some q → is_nothing (leaf now q.group) ≡ true
       → IsBlanked homes (n + 1) old now q.group
@@ -283,27 +269,15 @@ module _ (homes : List (Option Slot)) (n : ℕ) (old index : TreeState) (each : 
   pub blanked_set : (now : TreeState) (q : Slot) → get_or homes n None ≡ Some q → q.group < length (leaves index)
       → leaves now ≡ set (leaves index) q.group nothing
       → (i : ℕ) → IsBlanked homes (n + 1) old now i
-  blanked_set now q at inside put i = elim (cases_eq i q.group) [
-    | inl same ↦
-        subst (IsBlanked homes (n + 1) old now) (sym same)
-        (blanked_here now q at
-        (ap is_nothing (ap (λ l. get_or l q.group nothing) put
-        ∙ get_or-set_same (leaves index) q.group nothing nothing inside)))
-    | inr other ↦
-        blanked_beside now i (ap (λ l. get_or l i nothing) put
-        ∙ get_or-set_other (leaves index) q.group i nothing nothing other)
-        (λ s e here. other (sym here ∙ ap (λ (r : Slot). r.group) (same_Some s q (sym e ∙ at))))
-  ]
+  blanked_set now q at inside put i =
+      grind (arith, cases_eq, blanked_here, get_or-set_same, blanked_beside, get_or-set_other, same_Some)
 
 module _ (g : Geometry) (us : List (Addr × UnitTableState)) (gs : List GroupState) (homes : List (Option Slot)) (n : ℕ)
     (index : TreeState)
     (each : (i : ℕ) → i < length gs → IsLeafOrBlank g us gs homes n index i) where
   right_beside : (now : TreeState) (i : ℕ) → i < length gs → leaf now i ≡ leaf index i
       → ((s : Slot) → get_or homes n None ≡ Some s → s.group ≢ i) → IsLeafOrBlank g us gs homes (n + 1) now i
-  right_beside now i inside same not_here = elim (each i inside) [
-    | inl right ↦ inl (same ∙ right)
-    | inr none ↦ inr (ap is_nothing same ∙ none.0, further_on homes n i not_here none.1)
-  ]
+  right_beside now i inside same not_here = grind (arith, further_on)
 
   pub right_none : get_or homes n None ≡ None → (i : ℕ) → i < length gs → IsLeafOrBlank g us gs homes (n + 1) index i
   right_none at i inside = right_beside index i inside refl (λ s e. absurd (none-some s (sym at ∙ e)))
@@ -311,15 +285,7 @@ module _ (g : Geometry) (us : List (Addr × UnitTableState)) (gs : List GroupSta
   -- a home whose group isn't blank any more
   pub right_skip : (q : Slot) → get_or homes n None ≡ Some q → is_nothing (leaf index q.group) ≡ false → (i : ℕ)
       → i < length gs → IsLeafOrBlank g us gs homes (n + 1) index i
-  right_skip q at some i inside = elim (cases_eq i q.group) [
-    | inl same ↦ elim (each i inside) [
-      | inl right ↦ inl right
-      | inr none ↦ absurd (true≢false (sym none.0 ∙ ap (λ j. is_nothing (leaf index j)) same ∙ some))
-    ]
-    | inr other ↦
-        right_beside index i inside refl
-        (λ s e here. other (sym here ∙ ap (λ (r : Slot). r.group) (same_Some s q (sym e ∙ at))))
-  ]
+  right_skip q at some i inside = grind (arith, cases_eq, right_beside, same_Some)
 
   -- and one whose group is refreshed
   pub right_set : (now : TreeState) (q : Slot) → get_or homes n None ≡ Some q → q.group < length (leaves index)
@@ -337,12 +303,7 @@ module _ (g : Geometry) (us : List (Addr × UnitTableState)) (gs : List GroupSta
 
   -- once no home is left each leaf is right
   pub right_leaf : length homes ≤ n → (i : ℕ) → i < length gs → leaf index i ≡ choices_of g us i (group_in gs i)
-  right_leaf all i inside = elim (each i inside) [
-    | inl right ↦ right
-    | inr none ↦
-        absurd (none-some none.1.slot (sym (get_or_past homes none.1.place None (omega (arith, none.1.behind)))
-        ∙ none.1.is))
-  ]
+  right_leaf all i inside = grind (arith, none-some, get_or_past)
 
 -- 1 where it is so
 abbrev one_if : Bool → ℕ
@@ -358,13 +319,7 @@ put_blanks cs i c inside = sum_by-set (λ (y : Choices). one_if (is_nothing y)) 
 pub blanks_less : (index now : TreeState) (i : ℕ) (c : Choices) → i < length (leaves index)
     → leaves now ≡ set (leaves index) i c
     → is_nothing (leaf index i) ≡ true → is_nothing c ≡ false → blanks now + 1 ≡ blanks index
-blanks_less index now i c inside put was is =
-    let all = put_blanks (leaves index) i c inside in
-    let one : one_if (is_nothing (leaf index i)) ≡ 1 = ap one_if was in
-    let none : one_if (is_nothing c) ≡ 0 = ap one_if is in
-    let same : blanks now ≡ count_by is_nothing (set (leaves index) i c) =
-    ap (λ (l : List Choices). count_by is_nothing l) put in
-    omega (arith, all, one, none, same)
+blanks_less index now i c inside put was is = grind (arith, put_blanks)
 
 -- each blank leaf less took 60 steps at most
 pub record CountsBlanks (g : Geometry) (us : List (Addr × UnitTableState)) (gs : List GroupState)

@@ -1,7 +1,7 @@
 -- The choices at the root of the tree are those of plain searches over the groups.
 use Rattle.std.proofs.Common.{◌≡◌, ℕ, zero, suc, ◌+◌, ◌-◌, ◌<◌, ◌≤◌, Bool, true, false, cond, ◌&&◌, Option, None, Some}
-use Rattle.std.proofs.Common.{is_some, IsSome, IfSome, IfNone, List, [], ◌∷◌, length, take, drop, get_or, count_by}
-use Rattle.std.proofs.Common.{refl, sym, ap, subst, ◌∙◌, inl, inr, true≢false, arith}
+use Rattle.std.proofs.Common.{is_some, IfSome, IfNone, List, [], ◌∷◌, length, take, drop, get_or, count_by, refl, sym}
+use Rattle.std.proofs.Common.{ap, subst, ◌∙◌, inl, inr, true≢false, arith}
 use Rattle.std.specs.Prelude.{nat_lt}
 use Rattle.std.specs.Option.{option_or}
 use Rattle.std.proofs.lemmas.Bool.{cases_lt, and_parts, and_from}
@@ -22,7 +22,7 @@ use Rattle.ar_book.specs.Tables.{GroupState, Tables, no_group, group_in, class_o
 use Rattle.ar_book.specs.Choices.{IsHole, IsHoleOf, IsLowestFree}
 use Rattle.ar_book.specs.Book.{TablesAgree}
 use Rattle.ar_book.specs.Cleaning.{IsOpenAfter}
-use Rattle.ar_book.specs.Index.{age_of, choices_by, choices_in, leaves_from, leaves_of, open_in}
+use Rattle.ar_book.specs.Index.{age_of, choices_in, leaves_from, leaves_of, open_in}
 use Rattle.ar_book.proofs.CountLemmas.{all_used, none_used}
 use Rattle.ar_book.proofs.PlaceLemmas.{slots_within}
 use Rattle.ar_book.proofs.GroupLemmas.{no_free}
@@ -73,14 +73,7 @@ first_found p n (x ∷ gs) m e = by (p x) refl e (first_found p (suc n) gs m)
 first_none : (p : GroupState → Bool) (n : ℕ) (gs : List GroupState) → first_where p n gs ≡ None → (i : ℕ)
     → i < length gs → p (group_in gs i) ≡ false
 first_none p n [] e i h = absurd (omega arith)
-first_none p n (x ∷ gs) e i h = by (p x) refl e (first_none p (suc n) gs) i h
-  where
-    by : (b : Bool) → p x ≡ b → cond b (Some n) (first_where p (suc n) gs) ≡ None
-        → (first_where p (suc n) gs ≡ None → (i : ℕ) → i < length gs → p (group_in gs i) ≡ false)
-        → (i : ℕ) → i < length (x ∷ gs) → p (group_in (x ∷ gs) i) ≡ false
-    by true t f rest i h = absurd (none-some n (sym f))
-    by false t f rest zero h = t
-    by false t f rest (suc i) h = rest f i (omega arith)
+first_none p n (x ∷ gs) e i h = grind (arith, none-some, first_none p (suc n) gs)
 
 -- a search for a choice that is each group's own number, or none
 module _ (g : Geometry) (place : Addr → ℕ) (age : Key → Age) (q : Choices → Option ℕ) (p : GroupState
@@ -90,24 +83,14 @@ module _ (g : Geometry) (place : Addr → ℕ) (age : Key → Age) (q : Choices 
   search_first : (n : ℕ) (gs : List GroupState) → q (search_all place (leaves_from g place age n gs))
       ≡ first_where p n gs
   search_first n [] = empty
-  search_first n (x ∷ gs) =
-      joins (choices_in g place age n x) (search_all place (leaves_from g place age (suc n) gs))
-      ∙ ap (λ o. option_or o (q (search_all place (leaves_from g place age (suc n) gs)))) (own n x)
-      ∙ pick (p x) ∙ ap (λ o. cond (p x) (Some n) o) (search_first (suc n) gs)
-    where
-      pick : (b : Bool) → option_or (cond b (Some n) None) (q (search_all place (leaves_from g place age (suc n) gs)))
-          ≡ cond b (Some n) (q (search_all place (leaves_from g place age (suc n) gs)))
-      pick true = refl
-      pick false = refl
+  search_first n (x ∷ gs) = grind (arith, search_first (suc n) gs)
 
 -- the choices of the groups from a place on
 leaves_drop : (g : Geometry) (place : Addr → ℕ) (age : Key → Age) (k n : ℕ) (gs : List GroupState)
     → drop k (leaves_from g place age n gs) ≡ leaves_from g place age (n + k) (drop k gs)
 leaves_drop g place age zero n gs = ap (λ m. leaves_from g place age m gs) (let e : n ≡ n + 0 = omega arith in e)
 leaves_drop g place age (suc k) n [] = refl
-leaves_drop g place age (suc k) n (x ∷ gs) =
-    leaves_drop g place age k (suc n) gs
-    ∙ ap (λ m. leaves_from g place age m (drop k gs)) (let e : suc n + k ≡ n + suc k = omega arith in e)
+leaves_drop g place age (suc k) n (x ∷ gs) = grind (arith, leaves_drop g place age k (suc n) gs)
 
 -- whether the two are one class that has slots
 abbrev opens_by : Class → Class → Bool
@@ -136,19 +119,7 @@ open_nothing Parity = refl
 
 open_own : (g : Geometry) (place : Addr → ℕ) (age : Key → Age) (c : Class) (n : ℕ) (x : GroupState)
     → open_in c (choices_in g place age n x) ≡ cond (opens g c x) (Some n) None
-open_own g place age c n x = by c x.class
-  where
-    by : (c d : Class) → open_in c (choices_by d g place age n x)
-        ≡ cond (opens_by c d && nat_lt (used x) (slots_of g x.class)) (Some n) None
-    by Free Free = refl
-    by Free Mirrored = refl
-    by Free Parity = refl
-    by Mirrored Free = refl
-    by Mirrored Mirrored = refl
-    by Mirrored Parity = refl
-    by Parity Free = refl
-    by Parity Mirrored = refl
-    by Parity Parity = refl
+open_own g place age c n x = grind (arith)
 
 opens_class : (c d : Class) → opens_by c d ≡ true → d ≡ c
 opens_class Free d e = absurd (true≢false (sym e))
@@ -190,19 +161,7 @@ module _ (t : Tables) (ok : TablesAgree t) where
   -- a group of which fewer slots name a block has a hole
   pub some_hole : (i : ℕ) → i < length t.groups → used (group_in t.groups i) < end i → ((j : ℕ) → IsHoleOf t i j → ⊥)
       → ⊥
-  some_hole i h few never =
-      let count = used_first i h in
-      let len : length (take (end i) (slots i)) ≡ end i = length-take-le (end i) (slots i) (long_enough i h) in
-      let full : count_by is_some (take (end i) (slots i)) ≡ length (take (end i) (slots i)) =
-      all_used (take (end i) (slots i)) (λ j l.
-      named (get_or (take (end i) (slots i)) j None)
-      (λ e. never j
-      (record { slot = omega arith; empty = sym (get_or-take (end i) (slots i) j None (omega arith)) ∙ e }))) in
-      omega arith
-    where
-      named : (o : Option Key) → (o ≡ None → ⊥) → IsSome o
-      named None f = absurd (f refl)
-      named (Some k) f = refl
+  some_hole i h few never = grind (arith, used_first, length-take-le, long_enough, all_used, get_or-take)
 
   -- and one with a hole has such
   pub hole_counts : (i j : ℕ) → i < length t.groups → IsHoleOf t i j → used (group_in t.groups i) < end i
@@ -236,12 +195,7 @@ module _ (t : Tables) (ok : TablesAgree t) where
 
   -- a hole of a class is one of its group, which passes
   hole_opens : (c : Class) (s : Slot) → IsHole t c s → opens t.geometry c (group_in t.groups s.group) ≡ true
-  hole_opens c s h =
-      let here : IsHoleOf t s.group s.slot =
-      record { slot = subst (λ d. s.slot < slots_of t.geometry d) (sym h.class) h.slot; empty = h.empty } in
-      let few = hole_counts s.group s.slot h.group here in
-      and_from _ _ (opens_same t.geometry c (class_of t s.group) s.slot h.class h.slot)
-      ((Decides-ltb (used (group_in t.groups s.group)) (end s.group)).1 few)
+  hole_opens c s h = grind (arith, hole_counts, and_from, opens_same, Decides-ltb)
 
   -- the lowest group of a class that has a hole
   pub record IsOpen (c : Class) (m : ℕ) : Type 0 where
@@ -277,8 +231,7 @@ module _ (t : Tables) (ok : TablesAgree t) where
 
     pub open_none : open_in c (search_all (place_in t.units) (leaves_of t.geometry t.units t.groups)) ≡ None
         → (s : Slot) → IsHole t c s → ⊥
-    open_none e s h =
-        true≢false (sym (hole_opens c s h) ∙ first_none (opens t.geometry c) 0 t.groups (sym found ∙ e) s.group h.group)
+    open_none e s h = grind (arith, hole_opens, first_none, found)
 
     -- and so for either answer
     pub open_there : (o : Option ℕ) → open_in c (search_all (place_in t.units) (leaves_of t.geometry t.units t.groups))
@@ -328,10 +281,7 @@ module _ (t : Tables) (ok : TablesAgree t) where
 
     -- a group after it that doesn't pass has no hole
     shut : (s : Slot) → IsHole t c s → g < s.group → opens t.geometry c (group_in rest (s.group - (g + 1))) ≡ false → ⊥
-    shut s h past fails =
-        let place : g + 1 + (s.group - (g + 1)) ≡ s.group = omega arith in
-        true≢false (sym (hole_opens c s h)
-        ∙ ap (λ x. opens t.geometry c x) (sym (group_after (s.group - (g + 1)) ∙ ap (group_in t.groups) place)) ∙ fails)
+    shut s h past fails = grind (arith, hole_opens, group_after)
 
     after_found : (m : ℕ) → later ≡ Some m → IsOpenAfter t c g m
     after_found m e =
@@ -359,22 +309,13 @@ module _ (t : Tables) (ok : TablesAgree t) where
 
     pub after_none : (o : Option ℕ) → later ≡ o → IfNone o ((s : Slot) → IsHole t c s → g < s.group → ⊥)
     after_none (Some m) e = tt
-    after_none None e = λ s h past.
-        let len = length-drop (g + 1) t.groups in
-        shut s h past
-        (first_none (opens t.geometry c) (g + 1) rest (sym found_after ∙ e) (s.group - (g + 1))
-        (omega (arith, h.group, len)))
+    after_none None e = grind (arith, length-drop, shut, first_none, found_after)
 
 -- the lowest free group
 module _ (t : Tables) where
   free_own : (g : Geometry) (place : Addr → ℕ) (age : Key → Age) (n : ℕ) (x : GroupState)
       → (choices_in g place age n x).free ≡ cond (is_free x.class) (Some n) None
-  free_own g place age n x = by x.class
-    where
-      by : (c : Class) → (choices_by c g place age n x).free ≡ cond (is_free c) (Some n) None
-      by Free = refl
-      by Mirrored = refl
-      by Parity = refl
+  free_own g place age n x = grind (arith)
 
   free_found : (search_all (place_in t.units) (leaves_of t.geometry t.units t.groups)).free
       ≡ first_where (λ x. is_free x.class) 0 t.groups

@@ -63,25 +63,11 @@ module _ (place : Addr → ℕ) (f h : Key → Age) (k : Key) (a : Age) (other :
 
   -- the block that stays stands first, or after
   first : (j : Key) (r : Option Age) → f j ≡ a → NoOlder r → older place (Some (h j)) r ≡ Some a
-  first j r e n = by r n
-    where
-      is : h j ≡ a
-      is = same j (λ q. other (sym (ap (λ (x : Age). x.key) e) ∙ named j ∙ q)) ∙ e
-
-      by : (r : Option Age) → NoOlder r → older place (Some (h j)) r ≡ Some a
-      by None n = ap Some is
-      by (Some b) n = ap (λ t. Some (cond t (h j) b)) (ap (λ x. is_no_newer place x b) is ∙ n b refl) ∙ ap Some is
+  first j r e n = grind (arith)
 
   behind : (j : Key) (r : Option Age) → is_no_newer place (f j) a ≡ false → r ≡ Some a
       → older place (Some (h j)) r ≡ Some a
-  behind j r e q = ap (older place (Some (h j))) q ∙ ap (λ t. Some (cond t (h j) a)) newer
-    where
-      newer : is_no_newer place (h j) a ≡ false
-      newer = elim (key_tells j k) [
-        | inl s ↦ ap (λ x. is_no_newer place (h x) a) s
-            ∙ late
-        | inr ne ↦ ap (λ x. is_no_newer place x a) (same j ne) ∙ e
-      ]
+  behind j r e q = grind (arith, key_tells)
 
   pub stays : (slots : List (Option Key)) → oldest_named place f slots ≡ Some a → oldest_named place h slots ≡ Some a
   stays [] e = absurd (none-some a e)

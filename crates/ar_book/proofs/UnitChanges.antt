@@ -35,11 +35,7 @@ module _ (t : Tables) (n m puts : ℕ) (a : Addr) (u : UnitTableState) (ok : Boo
   put_homes k = unit_keeps (λ x. get_or x.homes k.rb None) t.units a u (homes k.rb) k.addr
 
   total : reserved (record t { units = set_value (same_addr a) t.units u; puts = puts }) ≡ reserved t + m
-  total =
-      let all : sum_by (λ x. length x.homes) (values_of (set_value (same_addr a) t.units u))
-      + length (unit_in t.units a).homes ≡ sum_by (λ x. length x.homes) (values_of t.units) + length u.homes =
-      unit_sum t.units a u there (λ x. length x.homes) in
-      omega arith
+  total = grind (arith, unit_sum)
 
   pub put_kept : (p : ℕ) → p ≡ n + m
       → BookAgrees (record t { units = set_value (same_addr a) t.units u; puts = puts }) p
@@ -127,13 +123,7 @@ keys_push (x ∷ us) a u = ap (λ l. x.0 ∷ l) (keys_push us a u)
 pub push_found : (test : Addr → Bool) (us : List (Addr × UnitTableState)) (a : Addr) (u : UnitTableState)
     → lookup test us ≡ None → lookup test (us ++ (a, u) ∷ []) ≡ cond (test a) (Some u) None
 push_found test [] a u e = refl
-push_found test (x ∷ us) a u e = by (test x.0) (push_found test us a u) e
-  where
-    by : (b : Bool) → (lookup test us ≡ None → lookup test (us ++ (a, u) ∷ []) ≡ cond (test a) (Some u) None)
-        → cond b (Some x.1) (lookup test us) ≡ None → cond b (Some x.1) (lookup test (us ++ (a, u) ∷ []))
-        ≡ cond (test a) (Some u) None
-    by true rest h = absurd (none-some x.1 (sym h))
-    by false rest h = rest h
+push_found test (x ∷ us) a u e = grind (arith, none-some, push_found test us a u)
 
 -- and not at another address
 pub push_other : (test : Addr → Bool) (us : List (Addr × UnitTableState)) (a : Addr) (u : UnitTableState)
@@ -145,45 +135,23 @@ push_other test (x ∷ us) a u e = ap (λ o. cond (test x.0) (Some x.1) o) (push
 pub push_keeps : {A : Type 0} (f : UnitTableState → A) (test : Addr
     → Bool) (us : List (Addr × UnitTableState)) (a : Addr) (u : UnitTableState) → f u ≡ f no_unit
     → f (unwrap_or (lookup test (us ++ (a, u) ∷ [])) no_unit) ≡ f (unwrap_or (lookup test us) no_unit)
-push_keeps f test [] a u e = by (test a)
-  where
-    by : (b : Bool) → f (unwrap_or (cond b (Some u) None) no_unit) ≡ f no_unit
-    by true = e
-    by false = refl
-push_keeps f test (x ∷ us) a u e = by (test x.0) (push_keeps f test us a u e)
-  where
-    by : (b : Bool) → f (unwrap_or (lookup test (us ++ (a, u) ∷ [])) no_unit) ≡ f (unwrap_or (lookup test us) no_unit)
-        → f (unwrap_or (cond b (Some x.1) (lookup test (us ++ (a, u) ∷ []))) no_unit)
-        ≡ f (unwrap_or (cond b (Some x.1) (lookup test us)) no_unit)
-    by true h = refl
-    by false h = h
+push_keeps f test [] a u e = grind (arith)
+push_keeps f test (x ∷ us) a u e = grind (arith, push_keeps f test us a u e)
 
 -- its blocks are reserved
 pub made_reserved : (t : Tables) (a : Addr) (sectors : ℕ)
     → reserved (made t a sectors) ≡ reserved t + blocks_of t.geometry sectors
-made_reserved t a sectors =
-    ap (λ l. sum_by (λ x. length x.homes) l) (values_push t.units a (new_unit t.geometry sectors))
-    ∙ sum_by_push (λ x. length x.homes) (values_of t.units) (new_unit t.geometry sectors)
-    ∙ ap (λ x. reserved t + x) (length-replicate (blocks_of t.geometry sectors) (nothing Slot))
+made_reserved t a sectors = grind (arith, values_push, sum_by_push, length-replicate)
 
 module _ (t : Tables) (n : ℕ) (a : Addr) (sectors : ℕ) (ok : BookAgrees t n) (some : 0 < sectors)
     (few : sectors ≤ 1048576)
     (room : reserved t + blocks_of t.geometry sectors ≤ 3 * rows_of t.geometry * (length t.groups - 1)) where
   whole : IsValidUnit t.geometry (new_unit t.geometry sectors)
-  whole = record {
-    some = some;
-    few = few;
-    homes = length-replicate (blocks_of t.geometry sectors) (nothing Slot);
-    stamps = length-replicate (blocks_of t.geometry sectors) 0;
-  }
+  whole = grind (arith, length-replicate)
 
   made_placed : sum_by placed (values_of (t.units ++ (a, new_unit t.geometry sectors) ∷ []))
       ≡ sum_by placed (values_of t.units)
-  made_placed =
-      let all = ap (λ l. sum_by placed l) (values_push t.units a (new_unit t.geometry sectors))
-      ∙ sum_by_push placed (values_of t.units) (new_unit t.geometry sectors) in
-      let none : placed (new_unit t.geometry sectors) ≡ 0 = count_none Slot (blocks_of t.geometry sectors) in
-      omega arith
+  made_placed = grind (arith, values_push, sum_by_push, count_none)
 
   pub made_kept : IsDistinct same_addr (keys_of (t.units ++ (a, new_unit t.geometry sectors) ∷ []))
       → BookAgrees (made t a sectors) (n + blocks_of t.geometry sectors)

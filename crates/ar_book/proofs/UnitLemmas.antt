@@ -1,11 +1,11 @@
 -- What a change of one unit leaves in the list of units.
-use Rattle.std.proofs.Common.{◌≡◌, ◌≢◌, ℕ, ◌<◌, ◌+◌, Bool, true, false, cond, Option, None, Some, IsSome, is_some, List}
-use Rattle.std.proofs.Common.{[], ◌∷◌, length, get_or, set, sum_by, count_by, refl, sym, ap, subst, ◌∙◌, inl, inr}
-use Rattle.std.proofs.Common.{arith, true≢false, get_or-set_same, get_or-set_other}
+use Rattle.std.proofs.Common.{◌≡◌, ◌≢◌, ℕ, ◌<◌, ◌+◌, Bool, cond, Option, None, Some, IsSome, is_some, List, [], ◌∷◌}
+use Rattle.std.proofs.Common.{length, get_or, set, sum_by, count_by, refl, sym, ap, subst, ◌∙◌, inl, inr, arith}
+use Rattle.std.proofs.Common.{get_or-set_same, get_or-set_other}
 use Rattle.std.specs.List.{IsDistinct}
 use Rattle.std.specs.Map.{lookup, set_value, values_of}
 use Rattle.std.specs.Prelude.{IfNone}
-use Rattle.std.specs.Option.{unwrap_or, ForSome, MatchOption}
+use Rattle.std.specs.Option.{ForSome, MatchOption}
 use Rattle.std.proofs.lemmas.List.{get_or_past}
 use Rattle.std.proofs.Math.ListN.{length-set}
 use Rattle.std.proofs.lemmas.Option.{none-some}
@@ -18,7 +18,7 @@ use Rattle.ar_disks.specs.declared.address.Key.{Key}
 use Rattle.ar_disks.specs.declared.geometry.Geometry.{Geometry}
 use Rattle.ar_book.specs.declared.class.Slot.{Slot}
 use Rattle.ar_disks.specs.Addresses.{same_addr}
-use Rattle.ar_book.specs.Tables.{UnitTableState, unit_in, no_unit, home_in, placed}
+use Rattle.ar_book.specs.Tables.{UnitTableState, unit_in, home_in, placed}
 use Rattle.ar_book.specs.Changes.{homed}
 use Rattle.ar_book.specs.Book.{UnitsStand, IsValidUnit}
 use Rattle.ar_disks.proofs.Addresses.{addr_laws, addr_tells, same_addr_self, addr_apart, make_key}
@@ -26,33 +26,18 @@ use Rattle.ar_disks.proofs.Addresses.{addr_laws, addr_tells, same_addr_self, add
 -- the look-up found this unit
 pub found_in : (us : List (Addr × UnitTableState)) (a : Addr) → IsSome (lookup (same_addr a) us)
     → lookup (same_addr a) us ≡ Some (unit_in us a)
-found_in us a h = by (lookup (same_addr a) us) h
-  where
-    by : (o : Option UnitTableState) → IsSome o → o ≡ Some (unwrap_or o no_unit)
-    by None e = absurd (true≢false (sym e))
-    by (Some u) e = refl
+found_in us a h = grind (arith)
 
 -- a unit with a block is there
 pub has_by_block : (us : List (Addr × UnitTableState)) (a : Addr) (i : ℕ) → i < length (unit_in us a).homes
     → IsSome (lookup (same_addr a) us)
-has_by_block us a i h = by (lookup (same_addr a) us) h
-  where
-    by : (o : Option UnitTableState) → i < length (unwrap_or o no_unit).homes → IsSome o
-    by None l = absurd (omega arith)
-    by (Some u) l = refl
+has_by_block us a i h = grind (arith)
 
 -- where there is no such unit nothing is put
 pub put_absent : (test : Addr → Bool) (us : List (Addr × UnitTableState)) (u : UnitTableState) → lookup test us ≡ None
     → set_value test us u ≡ us
 put_absent test [] u e = refl
-put_absent test (x ∷ us) u e = by (put_absent test us u) (test x.0) refl
-  where
-    by : (lookup test us ≡ None → set_value test us u ≡ us) → (b : Bool) → test x.0 ≡ b
-        → set_value test (x ∷ us) u ≡ x ∷ us
-    by rest true h = absurd (none-some x.1 (sym e ∙ ap (λ c. cond c (Some x.1) (lookup test us)) h))
-    by rest false h =
-        ap (λ c. cond c ((x.0, u) ∷ us) (x ∷ set_value test us u)) h
-        ∙ ap (λ l. x ∷ l) (rest (sym (ap (λ c. cond c (Some x.1) (lookup test us)) h) ∙ e))
+put_absent test (x ∷ us) u e = grind (arith, none-some, put_absent test us u)
 
 module _ (us : List (Addr × UnitTableState)) (a : Addr) (u : UnitTableState) (there : IsSome (lookup (same_addr a) us))
   where
@@ -62,14 +47,11 @@ module _ (us : List (Addr × UnitTableState)) (a : Addr) (u : UnitTableState) (t
 
     -- the unit that was put
     pub unit_same : unit_in (set_value (same_addr a) us u) a ≡ u
-    unit_same = ap (λ o. unwrap_or o no_unit) (lookup_put a
-        ∙ ap (λ c. cond c (Some u) (lookup (same_addr a) us)) (same_addr_self a))
+    unit_same = grind (arith, lookup_put, same_addr_self)
 
     -- the others stay
     pub unit_other : (b : Addr) → a ≢ b → unit_in (set_value (same_addr a) us u) b ≡ unit_in us b
-    unit_other b ne =
-        ap (λ o. unwrap_or o no_unit) (lookup_put b
-        ∙ ap (λ c. cond c (Some u) (lookup (same_addr b) us)) (addr_apart a b ne))
+    unit_other b ne = grind (arith, lookup_put, addr_apart)
 
     -- a sum over the units
     pub unit_sum : (f : UnitTableState → ℕ) → sum_by f (values_of (set_value (same_addr a) us u)) + f (unit_in us a)
@@ -107,9 +89,6 @@ units_put geo us a u ok new = record {
 -- a block has another home
 module _ (us : List (Addr × UnitTableState)) (k : Key) (o : Option Slot)
     (inside : k.rb < length (unit_in us k.addr).homes) where
-  moved_in : UnitTableState
-  moved_in = record (unit_in us k.addr) { homes = set (unit_in us k.addr).homes k.rb o }
-
   here : IsSome (lookup (same_addr k.addr) us)
   here = has_by_block us k.addr k.rb inside
 
@@ -161,7 +140,5 @@ pub found_stamp : {A : Type 0} (f : A → UnitTableState) (units : List (Addr ×
     (o : Option A) → ForSome o (λ x. lookup (same_addr a) units ≡ Some (f x))
     → IfNone o (lookup (same_addr a) units ≡ None)
     → MatchOption o (stamp ≡ 0) (λ x. stamp ≡ get_or (f x).stamps rb 0) → stamp ≡ get_or (unit_in units a).stamps rb 0
-found_stamp f units a rb stamp None found none e =
-    e ∙ sym (get_or_past [] rb 0 (omega arith)) ∙ sym (ap (λ l. get_or (unwrap_or l no_unit).stamps rb 0) none)
-found_stamp f units a rb stamp (Some x) found none e =
-    e ∙ sym (ap (λ l. get_or (unwrap_or l no_unit).stamps rb 0) (found x refl))
+found_stamp f units a rb stamp None found none e = grind (arith, get_or_past)
+found_stamp f units a rb stamp (Some x) found none e = grind (arith)

@@ -12,6 +12,7 @@ use Rattle.ar_book.specs.declared.class.Class.TheVariants.{Free, Mirrored}
 use Rattle.ar_book.specs.declared.class.Level.TheVariants.{Mirrored as MirroredLevel}
 use Rattle.ar_book.specs.declared.class.Slot.{Slot}
 use Rattle.ar_disks.specs.Addresses.{same_addr}
+use Rattle.ar_book.specs.Changes.{opened}
 use Rattle.ar_book.specs.Tables.{Tables, group_in, key_at, home, stamp_of, class_of, level, slots_of, HasBlock}
 
 -- slot order: by group, then by number in the group
@@ -39,6 +40,12 @@ pub record IsLowestFree (t : Tables) (g : ℕ) : Type 0 where
   pub there : g < length t.groups
   pub free : class_of t g ≡ Free
   pub least : (h : ℕ) → h < g → class_of t h ≡ Free → ⊥
+
+-- the lowest free group is opened for a class, and its slots are empty
+pub record OpensLowest (old new : Tables) (class : Class) (group : ℕ) : Type 0 where
+  pub lowest : IsLowestFree old group
+  pub opened : new ≡ opened old group class
+  pub empty : IsEmpty new group
 
 -- the key is a block of a unit, at the mirrored level
 pub record IsMirrored (t : Tables) (k : Key) : Type 0 where

@@ -3,7 +3,7 @@
 // Both are counted as groups change, so no call walks over them. Kept in the search tree, the emptiest group would be
 // found in no step, but each write to a new slot, and each move, would climb to the root for it, and took up to 1.8
 // times as many instructions.
-ghost use Rattle.std.specs.Prelude.{◌≡◌, ◌+◌, ◌-◌, ◌*◌, ◌/◌, ◌^◌, ◌<◌, ◌≤◌, ℕ, length, IfSome, IfNone};
+ghost use Rattle.std.specs.Prelude.{◌≡◌, ◌+◌, ◌*◌, ◌/◌, ◌<◌, ◌≤◌, ℕ, length, IfSome, IfNone};
 ghost use Rattle.ar_disks.specs.Geometry.{rows_of};
 ghost use Rattle.ar_book.specs.Book.{TablesAgree};
 ghost use Rattle.ar_book.specs.Tables.{used, group_in, slots_of};
@@ -67,17 +67,13 @@ impl Book {
         unreachable!()
     }
 
-    /// The lowest hole of a class outside `group`, which can be emptied into such holes. Counts one step, and if
-    /// `group` is the lowest with a hole, one for each node of the search tree above its leaf: at most 12 for up to
-    /// 4,096 groups.
+    /// The lowest hole of a class outside `group`, which can be emptied into such holes. Counts one step.
     pub fn hole_beside(&self, class: Class, group: u32, steps: &mut Steps) -> Slot
         requires { CanBeEmptied self.now class group }
         ensures hole { IsLowestHoleBeside self.now class group result }
-        ensures few { length self.now.groups ≤ 4096 → steps.new.count ≤ steps.old.count + 13 }
-        ensures height { 2 ^ (steps.new.count - steps.old.count) ≤ 6 * length self.now.groups }
-        ensures on { steps.old.count ≤ steps.new.count }
+        ensures counted { steps.new.count ≡ steps.old.count + 1 }
     {
-        let number = self.open_beside(class, group, steps);
+        let number = self.open_beside(class, group);
         match self.scan(number, steps) {
             Some(slot) => Slot {
                 group: number,
@@ -88,33 +84,27 @@ impl Book {
     }
 
     // The lowest group of a class, but for `group`, that has a hole.
-    fn open_beside(&self, class: Class, group: u32, steps: &mut Steps) -> u32
+    fn open_beside(&self, class: Class, group: u32) -> u32
         requires { CanBeEmptied self.now class group }
         ensures found { IsOpenBeside self.now class group result }
-        ensures few { length self.now.groups ≤ 4096 → steps.new.count ≤ steps.old.count + 12 }
-        ensures height { 2 ^ (steps.new.count - steps.old.count) ≤ 3 * length self.now.groups }
-        ensures on { steps.old.count ≤ steps.new.count }
         ensures sound { TablesAgree self.now }
     {
-        match self.open_but(class, group, steps) {
+        match self.open_but(class, group) {
             Some(number) => number,
             None => unreachable!(),
         }
     }
 
     // The same, or None if no other group of the class has a hole.
-    fn open_but(&self, class: Class, group: u32, steps: &mut Steps) -> Option<u32>
+    fn open_but(&self, class: Class, group: u32) -> Option<u32>
         requires { group < length self.now.groups }
         ensures found { IfSome result (IsOpenBeside self.now class group) }
         ensures none { IfNone result ((slot : Slot) → IsHoleBeside self.now class group slot → ⊥) }
-        ensures few { length self.now.groups ≤ 4096 → steps.new.count ≤ steps.old.count + 12 }
-        ensures height { 2 ^ (steps.new.count - steps.old.count) ≤ 3 * length self.now.groups }
-        ensures on { steps.old.count ≤ steps.new.count }
         ensures sound { TablesAgree self.now }
     {
         let lowest = self.open(class)?;
         if lowest == group {
-            self.open_after(class, group, steps)
+            self.open_after(class, group)
         } else {
             Some(lowest)
         }

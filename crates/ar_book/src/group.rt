@@ -8,9 +8,8 @@ ghost use Rattle.ar_book.specs.Changes.{with_key, with_hole, free_group};
 ghost use Rattle.ar_book.specs.Fills.{count_of};
 
 use crate::Class;
-use crate::mask::{clear_bit, lowest_bit, set_bit};
 use ar_disks::{Geometry, Key, Members, Place};
-use ar_index::Steps;
+use ar_index::{Steps, clear_bit, lowest_bit, set_bit};
 use std::alloc::{AllocError, Global};
 use std::marker::Model;
 

@@ -5,8 +5,8 @@ ghost use Rattle.std.specs.Prelude.{IfNone};
 ghost use Rattle.ar_disks.specs.Geometry.{rows_of};
 ghost use Rattle.ar_disks.specs.Members.{member, AreApart, stands_on};
 ghost use Rattle.ar_book.specs.Tables.{group_in, free_groups};
-ghost use Rattle.ar_book.specs.Changes.{opened, formed, shifted};
-ghost use Rattle.ar_book.specs.Choices.{IsLowestFree, IsEmpty, IsUnused, AreUnused};
+ghost use Rattle.ar_book.specs.Changes.{formed, shifted};
+ghost use Rattle.ar_book.specs.Choices.{IsLowestFree, IsUnused, AreUnused, OpensLowest};
 
 use crate::index::{free_leaf, refresh};
 use crate::tables::{open_class, replace_member};
@@ -46,9 +46,7 @@ impl Book {
     pub fn open_group(&mut self, class: Class, steps: &mut Steps) -> Option<u32>
         requires { class ≢ Class.Free }
         ensures when { IsSome result ↔ (2 ≤ free_groups self.old) }
-        ensures lowest { IfSome result (IsLowestFree self.old) }
-        ensures opened { IfSome result (λ group. self.new ≡ opened self.old group class) }
-        ensures empty { IfSome result (IsEmpty self.new) }
+        ensures opens { IfSome result (OpensLowest self.old self.new class) }
         ensures unchanged { IfNone result (self.new ≡ self.old) }
         ensures still { IfNone result (steps.new.count ≡ steps.old.count) }
         ensures few { length self.old.groups ≤ 4096 → steps.new.count ≤ steps.old.count
@@ -76,9 +74,7 @@ impl Book {
     pub fn open_last(&mut self, class: Class) -> u32
         requires class { class ≢ Class.Free }
         requires last { free_groups self.old ≡ 1 }
-        ensures lowest { IsLowestFree self.old result }
-        ensures opened { self.new ≡ opened self.old result class }
-        ensures empty { IsEmpty self.new result }
+        ensures { OpensLowest self.old self.new class result }
     {
         let last = self.lowest_free();
         open_class(&mut self.groups, last, class);
@@ -98,7 +94,7 @@ impl Book {
         requires { 0 < free_groups self.now }
         ensures { IsLowestFree self.now result }
     {
-        match self.index.best().free.get() {
+        match self.index.lowest_free() {
             Some(number) => number,
             None => unreachable!(),
         }

@@ -15,7 +15,7 @@ ghost use Rattle.ar_book.specs.Index.{IsBlanked, IsLeafOrBlank, HaveChoices};
 use crate::group::slots_of;
 use crate::{Class, Group, Groups, Slot, UnitTable, Units};
 use ar_disks::{Addr, Geometry, Key};
-use ar_index::{Age, Choices, Lowest, Steps, Tree};
+use ar_index::{Age, Choices, Steps, Tree};
 
 // A unit's address and its table.
 type HeldUnit<'a> = (Addr, &'a UnitTable);
@@ -71,26 +71,24 @@ fn oldest_in(slots: &[Option<Key>], units: &Units, steps: &mut Steps) -> Option<
 }
 
 // The group's number, if it has an empty slot (a hole).
-fn if_open(group: &Group, number: u32, geometry: Geometry) -> Lowest
-    requires { number < 2 ^ 32 - 1 }
+fn if_open(group: &Group, number: u32, geometry: Geometry) -> Option<u32>
     ensures { result ≡ spec.if_open geometry number group.now }
 {
-    Lowest::of(if group.used() < slots_of(geometry, group.class()) as usize {
+    if group.used() < slots_of(geometry, group.class()) as usize {
         Some(number)
     } else {
         None
-    })
+    }
 }
 
 /// The leaf of a free group.
 pub(crate) fn free_leaf(number: u32) -> Choices
-    requires { number < 2 ^ 32 - 1 }
     ensures { result ≡ spec.free_leaf number }
 {
     Choices {
-        mirrored: Lowest::of(None),
-        parity: Lowest::of(None),
-        free: Lowest::of(Some(number)),
+        mirrored: None,
+        parity: None,
+        free: Some(number),
         oldest: None,
     }
 }
@@ -104,7 +102,6 @@ pub(crate) fn choices_of(
     units: &Units,
     steps: &mut Steps,
 ) -> Choices
-    requires { number < 2 ^ 32 - 1 }
     ensures choices { result ≡ spec.choices_of geometry units.now.entries number group.now }
     // Only a mirrored group is scanned.
     ensures still { group.now.class ≢ Class.Mirrored → steps.new.count ≡ steps.old.count }
@@ -115,14 +112,14 @@ pub(crate) fn choices_of(
         Class::Free => free_leaf(number),
         Class::Mirrored => Choices {
             mirrored: if_open(group, number, geometry),
-            parity: Lowest::of(None),
-            free: Lowest::of(None),
+            parity: None,
+            free: None,
             oldest: oldest_in(group.slots(), units, steps),
         },
         Class::Parity => Choices {
-            mirrored: Lowest::of(None),
+            mirrored: None,
             parity: if_open(group, number, geometry),
-            free: Lowest::of(None),
+            free: None,
             oldest: None,
         },
     }

@@ -11,7 +11,6 @@ mod group;
 mod group_list;
 mod groups;
 mod index;
-mod mask;
 mod moving;
 mod oldest;
 mod places;

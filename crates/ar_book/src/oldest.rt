@@ -15,7 +15,7 @@ impl Book {
             → IsNoNewer self.now key other) }
         ensures none { IfNone result ((other : Key) → IsMirrored self.now other → ⊥) }
     {
-        match self.index.best().oldest {
+        match self.index.oldest_of_all() {
             Some(age) => Some(age.key),
             None => None,
         }

@@ -1,7 +1,10 @@
 // A hole is an empty slot of a group in use. The search tree names the lowest group that has one, and the mask of that
 // group its lowest, so that no search walks over groups or slots.
-ghost use Rattle.std.specs.Prelude.{◌≡◌, ◌+◌, ◌-◌, ◌*◌, ◌^◌, ◌<◌, ◌≤◌, ℕ, length, IfSome, IfNone};
+ghost use Rattle.std.specs.Prelude.{◌≡◌, ◌+◌, ◌<◌, ◌≤◌, ℕ, length, drop, IfSome, IfNone};
 ghost use Rattle.std.specs.Option.{option_map};
+ghost use Rattle.ar_disks.specs.declared.address.Addr.{Addr};
+ghost use Rattle.ar_index.specs.Choices.{search_all};
+ghost use Rattle.ar_index.specs.Tree.{leaves};
 ghost use Rattle.ar_book.specs.declared.class.Slot.{Slot};
 ghost use Rattle.ar_book.specs.Tables.{class_of, group_in, free_groups, used};
 ghost use Rattle.ar_book.specs.Choices.{IsHole, IsHoleOf, IsUpTo, HasUnplacedBlock, IsFullMirrored};
@@ -12,16 +15,28 @@ ghost use Rattle.ar_book.specs.Index.{open_in, oldest_in};
 use crate::group::slots_of;
 use crate::index::choices_of;
 use crate::{Book, Class, Slot, Summary};
-use ar_index::{Choices, Steps};
+use ar_index::{Steps, Tree};
 
 // The lowest group of a class that has a hole.
-fn open_of(best: &Choices, class: Class) -> Option<u32>
-    ensures { result ≡ open_in class best.now }
+fn lowest_open(index: &Tree, class: Class) -> Option<u32>
+    ensures { (place : Addr → ℕ) → result ≡ open_in class (search_all place (leaves index.now)) }
 {
     match class {
         Class::Free => None,
-        Class::Mirrored => best.mirrored.get(),
-        Class::Parity => best.parity.get(),
+        Class::Mirrored => index.lowest_mirrored(),
+        Class::Parity => index.lowest_parity(),
+    }
+}
+
+// The lowest group of a class, among those after `group`, that has a hole.
+fn lowest_open_after(index: &Tree, class: Class, group: usize) -> Option<u32>
+    requires { group < length (leaves index.now) }
+    ensures { (place : Addr → ℕ) → result ≡ open_in class (search_all place (drop (group + 1) (leaves index.now))) }
+{
+    match class {
+        Class::Free => None,
+        Class::Mirrored => index.mirrored_after(group),
+        Class::Parity => index.parity_after(group),
     }
 }
 
@@ -100,23 +115,16 @@ impl Book {
         ensures none { IfNone result ((other : Slot) → IsHole self.now class other → ⊥) }
         ensures sound { TablesAgree self.now }
     {
-        open_of(&self.index.best(), class)
+        lowest_open(&self.index, class)
     }
 
-    // The lowest group of a class, among those after `group`, that has a hole. Counts a step for each node of the
-    // search tree above that group's leaf.
-    pub(crate) fn open_after(&self, class: Class, group: u32, steps: &mut Steps) -> Option<u32>
+    // The lowest group of a class, among those after `group`, that has a hole.
+    pub(crate) fn open_after(&self, class: Class, group: u32) -> Option<u32>
         requires { group < length self.now.groups }
         ensures found { IfSome result (IsOpenAfter self.now class group) }
         ensures none { IfNone result ((other : Slot) → IsHole self.now class other → group < other.group → ⊥) }
-        ensures few { length self.now.groups ≤ 4096 → steps.new.count ≤ steps.old.count + 12 }
-        ensures height { 2 ^ (steps.new.count - steps.old.count) ≤ 3 * length self.now.groups }
-        ensures on { steps.old.count ≤ steps.new.count }
     {
-        let choices = self
-            .index
-            .best_after(group as usize, self.units.map(), steps);
-        open_of(&choices, class)
+        lowest_open_after(&self.index, class, group as usize)
     }
 
     /// The lowest mirrored group, which is full. It exists if a block has no home, no group has a hole, and one group

@@ -11,8 +11,8 @@ unreachable-requires c =
     let none : free_groups (the_view c.self.inside) ≡ 0 =
     lowest_none (the_view c.self.inside)
     (ap (λ l. (search_all (place_in c.self.inside.units.entries) l).free) (sym c.self.invariant.leaves)
-    ∙ ap (λ x. x.free) (sym (c.best.ensures (place_in c.self.inside.units.entries) c.self.invariant.right))
-    ∙ sym c.get.ensures ∙ c.in-None.is) in
+    ∙ sym (c.lowest_free.ensures (place_in c.self.inside.units.entries))
+    ∙ c.in-None.is) in
     let same : free_groups (the_view c.self.inside) ≡ free_groups c.args.self.now = ap free_groups c.self.view_is in
     omega (arith, c.requires)
 
@@ -21,5 +21,5 @@ returns c =
     subst (λ (x : Tables). IsLowestFree x c.in-Some.number) c.self.view_is
     (lowest_found (the_view c.self.inside) c.in-Some.number
     (ap (λ l. (search_all (place_in c.self.inside.units.entries) l).free) (sym c.self.invariant.leaves)
-    ∙ ap (λ x. x.free) (sym (c.best.ensures (place_in c.self.inside.units.entries) c.self.invariant.right))
-    ∙ sym c.get.ensures ∙ c.in-Some.is))
+    ∙ sym (c.lowest_free.ensures (place_in c.self.inside.units.entries))
+    ∙ c.in-Some.is))

@@ -12,7 +12,7 @@ returns-in-Some-clause-found c =
     subst (λ (x : Tables). IsMirrored x c.in-Some.age.key) c.self.view_is
     (oldest_found (the_view c.self.inside) c.self.invariant.kept.tables c.in-Some.age
     (ap (λ l. (search_all (place_in c.self.inside.units.entries) l).oldest) (sym c.self.invariant.leaves)
-    ∙ ap (λ x. x.oldest) (sym (c.best.ensures (place_in c.self.inside.units.entries) c.self.invariant.right))
+    ∙ sym (c.oldest_of_all.ensures (place_in c.self.inside.units.entries) c.self.invariant.right)
     ∙ c.in-Some.is))
 
 pub returns-in-Some-clause-oldest : goal.returns-in-Some-clause-oldest
@@ -20,7 +20,7 @@ returns-in-Some-clause-oldest c =
     subst (λ (x : Tables). (other : Key) → IsMirrored x other → IsNoNewer x c.in-Some.age.key other) c.self.view_is
     (oldest_first (the_view c.self.inside) c.self.invariant.kept.tables c.in-Some.age
     (ap (λ l. (search_all (place_in c.self.inside.units.entries) l).oldest) (sym c.self.invariant.leaves)
-    ∙ ap (λ x. x.oldest) (sym (c.best.ensures (place_in c.self.inside.units.entries) c.self.invariant.right))
+    ∙ sym (c.oldest_of_all.ensures (place_in c.self.inside.units.entries) c.self.invariant.right)
     ∙ c.in-Some.is))
 
 pub returns-in-None-clause-none : goal.returns-in-None-clause-none
@@ -28,5 +28,5 @@ returns-in-None-clause-none c =
     subst (λ (x : Tables). (other : Key) → IsMirrored x other → ⊥) c.self.view_is
     (oldest_none (the_view c.self.inside) c.self.invariant.kept.tables
     (ap (λ l. (search_all (place_in c.self.inside.units.entries) l).oldest) (sym c.self.invariant.leaves)
-    ∙ ap (λ x. x.oldest) (sym (c.best.ensures (place_in c.self.inside.units.entries) c.self.invariant.right))
+    ∙ sym (c.oldest_of_all.ensures (place_in c.self.inside.units.entries) c.self.invariant.right)
     ∙ c.in-None.is))

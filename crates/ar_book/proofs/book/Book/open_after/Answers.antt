@@ -11,8 +11,8 @@ use Rattle.ar_book.proofs.Searches.{after_some, after_none}
 use Rattle.ar_book.specs.contracts.book.Book.{the_view}
 use Rattle.ar_book.proofs.book.Book.open_after.Goals as goal
 
-pub best_after-choices-requires-clause-there : goal.best_after-choices-requires-clause-there
-best_after-choices-requires-clause-there c =
+pub lowest_open_after-requires : goal.lowest_open_after-requires
+lowest_open_after-requires c =
     let size : length (leaves c.self.inside.index) ≡ length c.self.inside.groups.items =
     ap length c.self.invariant.leaves
     ∙ leaves_length c.self.inside.geometry (place_in c.self.inside.units.entries)
@@ -22,36 +22,18 @@ best_after-choices-requires-clause-there c =
 pub returns-clause-found : goal.returns-clause-found
 returns-clause-found c =
     let t : Tables = the_view c.self.inside in
-    subst (λ (x : Tables). IfSome c.open_of.result (IsOpenAfter x c.args.class c.args.group)) c.self.view_is
-    (after_some t c.self.invariant.kept.tables c.args.class c.args.group c.open_of.result
+    subst (λ (x : Tables). IfSome c.lowest_open_after.result (IsOpenAfter x c.args.class c.args.group)) c.self.view_is
+    (after_some t c.self.invariant.kept.tables c.args.class c.args.group c.lowest_open_after.result
     (ap (λ l. open_in c.args.class (search_all (place_in c.self.inside.units.entries) (drop (c.args.group + 1) l)))
     (sym c.self.invariant.leaves)
-    ∙ ap (open_in c.args.class) (sym (rw c.map.ensures at c.best_after-choices.ensures.after))
-    ∙ sym c.open_of.ensures))
+    ∙ sym (c.lowest_open_after.ensures (place_in c.self.inside.units.entries))))
 
 pub returns-clause-none : goal.returns-clause-none
 returns-clause-none c =
     let t : Tables = the_view c.self.inside in
-    subst (λ (x : Tables). IfNone c.open_of.result
+    subst (λ (x : Tables). IfNone c.lowest_open_after.result
     ((s : Slot) → IsHole x c.args.class s → c.args.group < s.group → ⊥)) c.self.view_is
-    (after_none t c.self.invariant.kept.tables c.args.class c.args.group c.open_of.result
+    (after_none t c.self.invariant.kept.tables c.args.class c.args.group c.lowest_open_after.result
     (ap (λ l. open_in c.args.class (search_all (place_in c.self.inside.units.entries) (drop (c.args.group + 1) l)))
     (sym c.self.invariant.leaves)
-    ∙ ap (open_in c.args.class) (sym (rw c.map.ensures at c.best_after-choices.ensures.after))
-    ∙ sym c.open_of.ensures))
-
-pub returns-clause-few : goal.returns-clause-few
-returns-clause-few c = λ most.
-    let size : length (leaves c.self.inside.index) ≡ length c.self.inside.groups.items =
-    ap length c.self.invariant.leaves
-    ∙ leaves_length c.self.inside.geometry (place_in c.self.inside.units.entries)
-    (age_of c.self.inside.units.entries) 0 c.self.inside.groups.items in
-    c.best_after-choices.ensures.few (omega (arith, size, ap (λ (x : Tables). length x.groups) c.self.view_is))
-
-pub returns-clause-height : goal.returns-clause-height
-returns-clause-height c =
-    let size : length (leaves c.self.inside.index) ≡ length c.self.inside.groups.items =
-    ap length c.self.invariant.leaves
-    ∙ leaves_length c.self.inside.geometry (place_in c.self.inside.units.entries)
-    (age_of c.self.inside.units.entries) 0 c.self.inside.groups.items in
-    omega (arith, c.best_after-choices.ensures.height, size, ap (λ (x : Tables). length x.groups) c.self.view_is)
+    ∙ sym (c.lowest_open_after.ensures (place_in c.self.inside.units.entries))))

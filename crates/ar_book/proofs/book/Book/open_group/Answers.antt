@@ -8,7 +8,7 @@ use Rattle.ar_book.specs.contracts.book.Book.{the_view}
 use Rattle.ar_book.specs.Tables.{Tables}
 use Rattle.ar_book.specs.Choices.{IsLowestFree}
 use Rattle.ar_book.proofs.GroupChanges.{opened_kept}
-use Rattle.ar_book.proofs.AfterOpen.{opened_empty}
+use Rattle.ar_book.proofs.AfterOpen.{opens_lowest}
 use Rattle.ar_book.proofs.KeptLemmas.{still_few}
 use Rattle.ar_book.proofs.book.Book.open_group.Goals as goal
 
@@ -34,11 +34,10 @@ pub refresh-requires-clause-leaves : goal.refresh-requires-clause-leaves
 refresh-requires-clause-leaves c =
     index_length (the_view c.self.inside) _ _ c.self.invariant ∙ sym (ap length c.open_class.ensures ∙ length-set _ _ _)
 
-pub returns-clause-empty : goal.returns-clause-empty
-returns-clause-empty c =
+pub returns-clause-opens : goal.returns-clause-opens
+returns-clause-opens c =
     let low : IsLowestFree (the_view c.self.inside) c.lowest_free-group.result =
     subst (λ (x : Tables). IsLowestFree x c.lowest_free-group.result) (sym c.self.view_is)
     c.lowest_free-group.ensures in
-    rw c.open_class.ensures
-    (opened_empty (the_view c.self.inside) c.lowest_free-group.result c.args.class c.self.invariant.kept.tables
-    low.there low.free)
+    opens_lowest (the_view c.self.inside) _ c.lowest_free-group.result c.args.class c.open_class.new.groups.items
+    c.self.view_is c.self.invariant.kept.tables low c.open_class.ensures

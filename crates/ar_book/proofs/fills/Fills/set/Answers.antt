@@ -2,7 +2,6 @@ use Rattle.std.proofs.Common.{◌<◌, ◌/◌, ◌%◌, ◌∙◌, length, get_
 use Rattle.std.proofs.lemmas.List.{get_or_read}
 use Rattle.ar_book.specs.Fills.{FillsState, ChunkState, no_chunk}
 use Rattle.ar_book.proofs.FillCounts.{few_after, tallied_at}
-use Rattle.ar_book.proofs.FillPlaces.{fill_here, fill_others}
 use Rattle.ar_book.proofs.fills.Fills.set.Goals as goal
 
 pub overflow_add-self : goal.overflow_add-self
