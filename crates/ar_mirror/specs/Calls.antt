@@ -4,12 +4,13 @@ use Rattle.ar_disks.specs.Block.{part_at}
 use Rattle.ar_disks.specs.declared.geometry.Geometry.{Geometry}
 use Rattle.ar_disks.specs.declared.address.Place.{Place}
 use Rattle.ar_disks.specs.declared.address.Members.{Members}
-use Rattle.ar_disks.specs.Members.{AreDisjoint}
+use Rattle.ar_disks.specs.Members.{member, AreDisjoint}
 use Rattle.ar_extents.specs.declared.health.Health.TheVariants.{Broken as AllBroken}
 use Rattle.ar_disks.specs.declared.completion.Completion.{Completion}
 use Rattle.ar_disks.specs.declared.completion.Completion.TheVariants.{Done, Broken}
 use Rattle.ar_extents.specs.declared.outcome.RowOutcome.{RowOutcome}
 use Rattle.ar_extents.specs.declared.outcome.RowOutcome.TheVariants.{Done as RowDone, GivenUp, Broken as RowBroken}
+use Rattle.ar_extents.specs.Health.{IsRebuilding}
 use Rattle.ar_extents.specs.Set.{SetState, content, IsSound, IsLost}
 use Rattle.ar_extents.specs.Follows.{IsEither}
 use Rattle.ar_extents.specs.Access.{next_place, IsGivenUp}
@@ -61,6 +62,12 @@ pub record OtherMirrorSlotsHold (m : Members) (slot : ℕ) (old new : SetState) 
 pub record OtherGroupsHold (m : Members) (old new : SetState) : Type 0 where
   pub groups : (n : Members) → AreDisjoint m n → (t : ℕ) → t < mirror_slots_of old.geometry → (block : List ℕ)
       → Holds old n t block → Holds new n t block
+
+-- the member at this position is the extent that is rebuilt next
+pub record IsRebuiltNext (s : SetState) (m : Members) (position : ℕ) : Type 0 where
+  pub below : position < 4
+  pub rebuilding : IsRebuilding s.health
+  pub next : member m position ≡ next_place s
 
 -- the row of the rebuilt extent has the content of its partner's, and health is unchanged
 pub record IsCopied (old new : SetState) (partner : Place) (row : ℕ) : Type 0 where

@@ -9,7 +9,7 @@ ghost use Rattle.ar_extents.specs.Groups.{IsGroup};
 ghost use Rattle.ar_mirror.specs.Slots.{partner_of};
 ghost use Rattle.ar_extents.specs.Plans.{CarriesOut};
 ghost use Rattle.ar_mirror.specs.Plans.{copy_row};
-ghost use Rattle.ar_mirror.specs.Calls.{Rebuilds};
+ghost use Rattle.ar_mirror.specs.Calls.{IsRebuiltNext, Rebuilds};
 
 use crate::pair::partner;
 use ar_disks::{Block, Disk, Members, Place, Scratch};
@@ -27,10 +27,8 @@ pub fn rebuild_row<D: Disk>(
     scratch: &mut Scratch,
 ) -> RowOutcome
     requires group { IsGroup set.old members.now }
-    requires position { position < 4 }
+    requires next { IsRebuiltNext set.old members.now position }
     requires row { row < rows_of set.old.geometry }
-    requires rebuilding { IsRebuilding set.old.health }
-    requires next { member members.now position ≡ next_place set.old }
     requires scratch { scratch.old.geometry ≡ set.old.geometry }
 
     ensures answer { Rebuilds set.old set.new (member members.now (partner_of position)) row result }

@@ -16,6 +16,12 @@ use Rattle.ar_parity.specs.Row.{Blocks, block, AddUp, zero_blocks, row_of, data_
 pub record Stands (s : SetState) (m : Members) (row i : ℕ) (bytes : List ℕ) : Type 0 where
   pub content_is : IsSound s (member m i) → content s (member m i) row ≡ bytes
 
+-- two different member positions
+pub record ArePositions (i j : ℕ) : Type 0 where
+  pub one : i < 4
+  pub other : j < 4
+  pub apart : i ≢ j
+
 -- another member is lost, so a fault of this one's disk fails the set
 pub record IsBesideLost (s : SetState) (m : Members) (position : ℕ) : Type 0 where
   pub lost : ℕ

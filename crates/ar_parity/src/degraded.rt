@@ -1,5 +1,5 @@
 // Degraded reads: a lost block is the XOR of the three others of its stripe, and a part of it that of their parts.
-ghost use Rattle.std.specs.Prelude.{◌≡◌, ◌≢◌, ◌+◌, ◌*◌, ◌<◌, ◌≤◌, length};
+ghost use Rattle.std.specs.Prelude.{◌≡◌, ◌+◌, ◌*◌, ◌<◌, ◌≤◌, length};
 ghost use Rattle.ar_disks.specs.Block.{xor, part_at};
 ghost use Rattle.ar_disks.specs.Geometry.{rows_of, block_len_of};
 ghost use Rattle.ar_disks.specs.Members.{member};
@@ -9,7 +9,7 @@ ghost use Rattle.ar_extents.specs.Groups.{IsGroup, IsMember};
 ghost use Rattle.ar_extents.specs.Plans.{AttemptsAll};
 ghost use Rattle.ar_parity.specs.Plans.{two_reads, three_reads, succeeded};
 ghost use Rattle.ar_parity.specs.Row.{Blocks, block};
-ghost use Rattle.ar_parity.specs.Group.{RowAgrees};
+ghost use Rattle.ar_parity.specs.Group.{ArePositions, RowAgrees};
 ghost use Rattle.ar_disks.specs.Endings.{OnDone};
 ghost use Rattle.ar_parity.specs.Call.{ReportsFailure};
 
@@ -30,9 +30,7 @@ pub(crate) fn sum_of_two<D: Disk>(
     spare: &mut [u8],
 ) -> Completion
     requires group { IsGroup set.old members.now }
-    requires lost_below { lost < 4 }
-    requires below { beside < 4 }
-    requires apart { beside ≢ lost }
+    requires two { ArePositions beside lost }
     requires lost { IsLost set.old (member members.now lost) }
     requires row { row < rows_of set.old.geometry }
     requires within { 512 * first + length into.old ≤ block_len_of set.old.geometry }

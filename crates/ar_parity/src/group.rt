@@ -1,15 +1,15 @@
 // Reads and writes of slots. The XOR of a stripe's four blocks stays zero, with a missing member as well.
-ghost use Rattle.std.specs.Prelude.{◌≡◌, ◌≢◌, ℕ, ◌*◌, ◌<◌, List, length};
+ghost use Rattle.std.specs.Prelude.{◌≡◌, ℕ, ◌*◌, ◌<◌, List, length};
 ghost use Rattle.ar_disks.specs.Block.{zeros};
 ghost use Rattle.ar_disks.specs.Geometry.{rows_of, block_len_of};
 ghost use Rattle.ar_disks.specs.Members.{member};
 ghost use Rattle.ar_extents.specs.Groups.{IsGroup, outcome_of};
 ghost use Rattle.ar_extents.specs.Plans.{CarriesOut, each_of};
-ghost use Rattle.ar_parity.specs.Plans.{stripes_from, parity_read, parity_write};
+ghost use Rattle.ar_parity.specs.Plans.{stripes_from, parity_read};
 ghost use Rattle.ar_parity.specs.Row.{row_of, data_position, zero_blocks};
 ghost use Rattle.ar_parity.specs.Group.{RowAgrees, Holds, StopsOpening};
 ghost use Rattle.ar_disks.specs.Endings.{OnDone};
-ghost use Rattle.ar_parity.specs.Call.{UpdatesStripe};
+ghost use Rattle.ar_parity.specs.Call.{UpdatesStripe, WritesOneSlot};
 
 use crate::parts::{get_part, put_part};
 use crate::zero::zero_row;
@@ -93,13 +93,10 @@ pub fn put<D: Disk>(
     requires whole { length from.now ≡ block_len_of set.old.geometry }
     requires scratch { scratch.old.geometry ≡ set.old.geometry }
 
-    ensures outcome { result ≡ outcome_of set.new.health }
     ensures row { UpdatesStripe set.old set.new members.now (row_of slot) (data_position slot) from.now }
     ensures holds { (b : List ℕ) → Holds set.old members.now slot b → Holds set.new members.now slot from.now }
-    ensures slots { (k : ℕ) → k ≢ slot → (b : List ℕ) → Holds set.old members.now k b → Holds set.new members.now k b }
-
-    // Exactly these accesses are made.
-    ensures plan { CarriesOut (parity_write members.now slot) set.old set.new }
+    // Exactly the accesses of `parity_write` are made.
+    ensures writes { WritesOneSlot set.old set.new members.now slot result }
 
     ensures scratch { scratch.new.geometry ≡ scratch.old.geometry }
 {

@@ -1,15 +1,15 @@
 // Reads and writes of a part of a slot's block. They access what those of the whole block access, and only that part of
 // each row.
-ghost use Rattle.std.specs.Prelude.{◌≡◌, ◌≢◌, ◌+◌, ◌*◌, ◌<◌, ◌≤◌, ℕ, List, length};
+ghost use Rattle.std.specs.Prelude.{◌≡◌, ◌+◌, ◌*◌, ◌<◌, ◌≤◌, ℕ, List, length};
 ghost use Rattle.ar_disks.specs.Block.{part_at, with_sectors};
 ghost use Rattle.ar_disks.specs.Geometry.{rows_of, block_len_of};
 ghost use Rattle.ar_disks.specs.Endings.{OnDone};
 ghost use Rattle.ar_extents.specs.Groups.{IsGroup, outcome_of};
 ghost use Rattle.ar_extents.specs.Plans.{CarriesOut};
-ghost use Rattle.ar_parity.specs.Plans.{parity_read, parity_write};
+ghost use Rattle.ar_parity.specs.Plans.{parity_read};
 ghost use Rattle.ar_parity.specs.Row.{row_of, data_position};
 ghost use Rattle.ar_parity.specs.Group.{Holds};
-ghost use Rattle.ar_parity.specs.Call.{UpdatesPart};
+ghost use Rattle.ar_parity.specs.Call.{UpdatesPart, WritesOneSlot};
 
 use crate::degraded::sum_of_three;
 use crate::slots::{data_at, row_of_slot};
@@ -71,14 +71,11 @@ pub fn put_part<D: Disk>(
     requires within { 512 * first + length from.now ≤ block_len_of set.old.geometry }
     requires scratch { scratch.old.geometry ≡ set.old.geometry }
 
-    ensures outcome { result ≡ outcome_of set.new.health }
     ensures row { UpdatesPart set.old set.new members.now (row_of slot) (data_position slot) first from.now }
     ensures holds { (b : List ℕ) → Holds set.old members.now slot b
         → Holds set.new members.now slot (with_sectors b first from.now) }
-    ensures slots { (k : ℕ) → k ≢ slot → (b : List ℕ) → Holds set.old members.now k b → Holds set.new members.now k b }
-
-    // Exactly these accesses are made.
-    ensures plan { CarriesOut (parity_write members.now slot) set.old set.new }
+    // Exactly the accesses of `parity_write` are made.
+    ensures writes { WritesOneSlot set.old set.new members.now slot result }
 
     ensures scratch { scratch.new.geometry ≡ scratch.old.geometry }
 {

@@ -1,15 +1,12 @@
 // The rebuild of a row from the three others of its stripe. Nothing is written unless all three were read.
 ghost use Rattle.std.specs.Prelude.{◌≡◌, ℕ, ◌<◌};
 ghost use Rattle.ar_disks.specs.Geometry.{rows_of};
-ghost use Rattle.ar_disks.specs.Members.{member};
-ghost use Rattle.ar_extents.specs.Health.{IsRebuilding};
-ghost use Rattle.ar_extents.specs.Access.{next_place};
 ghost use Rattle.ar_extents.specs.Groups.{IsGroup};
 ghost use Rattle.ar_extents.specs.Plans.{CarriesOut};
 ghost use Rattle.ar_parity.specs.Plans.{parity_rebuild};
 ghost use Rattle.ar_parity.specs.Row.{Blocks};
 ghost use Rattle.ar_parity.specs.Group.{RowAgrees};
-ghost use Rattle.ar_parity.specs.Call.{Rebuilds};
+ghost use Rattle.ar_parity.specs.Call.{IsRebuiltNext, Rebuilds};
 
 use crate::degraded::lost_block;
 use ar_disks::{Completion, Disk, Members, Scratch};
@@ -28,9 +25,7 @@ pub fn rebuild_row<D: Disk>(
     scratch: &mut Scratch,
 ) -> RowOutcome
     requires group { IsGroup set.old members.now }
-    requires rebuilding { IsRebuilding set.old.health }
-    requires below { position < 4 }
-    requires next { member members.now position ≡ next_place set.old }
+    requires next { IsRebuiltNext set.old members.now position }
     requires row { row < rows_of set.old.geometry }
     requires scratch { scratch.old.geometry ≡ set.old.geometry }
 

@@ -7,7 +7,7 @@ ghost use Rattle.ar_extents.specs.Follows.{Follows};
 ghost use Rattle.ar_extents.specs.Groups.{IsGroup, outcome_of};
 ghost use Rattle.ar_extents.specs.Plans.{CarriesOut, each_of};
 ghost use Rattle.ar_parity.specs.Plans.{stripe_writes, write_two};
-ghost use Rattle.ar_parity.specs.Group.{HoldsStripe, Stands};
+ghost use Rattle.ar_parity.specs.Group.{ArePositions, HoldsStripe, Stands};
 ghost use Rattle.ar_parity.specs.Call.{ReportsFailure};
 
 use crate::slots::{data_at, parity_at};
@@ -75,9 +75,7 @@ fn write_both<D: Disk>(
     sum: &[u8],
 ) -> Completion
     requires group { IsGroup set.old members.now }
-    requires below { position < 4 }
-    requires parity_below { parity < 4 }
-    requires apart { position ≢ parity }
+    requires two { ArePositions position parity }
     requires row { row < rows_of set.old.geometry }
     requires whole { length from.now ≡ block_len_of set.old.geometry }
     requires sum_whole { length sum.now ≡ block_len_of set.old.geometry }

@@ -10,7 +10,7 @@ ghost use Rattle.ar_extents.specs.Groups.{IsGroup};
 ghost use Rattle.ar_extents.specs.Plans.{CarriesOut};
 ghost use Rattle.ar_parity.specs.Plans.{write_two, write_known, write_lost, write_by_reading, stripe_write};
 ghost use Rattle.ar_parity.specs.Row.{Blocks, block, changed, parity_position};
-ghost use Rattle.ar_parity.specs.Group.{Stands, RowAgrees};
+ghost use Rattle.ar_parity.specs.Group.{ArePositions, Stands, RowAgrees};
 ghost use Rattle.ar_parity.specs.Call.{ReportsFailure, UpdatesPart};
 
 use crate::degraded::sum_of_two;
@@ -32,9 +32,7 @@ fn write_both<D: Disk>(
     sum: &[u8],
 ) -> Completion
     requires group { IsGroup set.old members.now }
-    requires below { position < 4 }
-    requires parity_below { parity < 4 }
-    requires apart { position ≢ parity }
+    requires two { ArePositions position parity }
     requires row { row < rows_of set.old.geometry }
     requires within { 512 * first + length from.now ≤ block_len_of set.old.geometry }
     requires sum_len { length sum.now ≡ length from.now }

@@ -12,7 +12,7 @@ use Rattle.ar_parity.proofs.degraded.sum_of_two.Goals as goal
 pub read_beside-requires-clause-beside : goal.read_beside-requires-clause-beside
 read_beside-requires-clause-beside g c = record {
   lost = c.args.lost;
-  below = c.requires.lost_below;
+  below = c.requires.two.other;
   apart = c.lowest_beside-low.ensures.apart_one;
   is_lost = c.requires.lost;
 }
@@ -20,7 +20,7 @@ read_beside-requires-clause-beside g c = record {
 pub add_beside-requires-clause-beside : goal.add_beside-requires-clause-beside
 add_beside-requires-clause-beside g c = record {
   lost = c.args.lost;
-  below = c.requires.lost_below;
+  below = c.requires.two.other;
   apart = c.highest_beside-high.ensures.apart_one;
   is_lost = stays_lost c.args.set.now c.read_beside.new.set (member c.args.members.now c.args.lost)
       c.in-Done.ensures.works.follows c.requires.lost;
@@ -32,7 +32,7 @@ returns-in-Done-clause-sum g c =
     c.args.beside
     c.lowest_beside-low.result c.highest_beside-high.result c.args.first (length c.add_beside.new.into)
     c.read_beside.new.into c.add_beside.new.into
-    c.requires.lost_below c.requires.below c.requires.apart c.lowest_beside-low.ensures.position
+    c.requires.two.other c.requires.two.one c.requires.two.apart c.lowest_beside-low.ensures.position
     c.highest_beside-high.ensures.position c.lowest_beside-low.ensures.below c.highest_beside-high.ensures.below
     c.in-Done.ensures.works.follows c.in-Done.ensures.keeps
     (λ b stands. c.in-Done.ensures.bytes b stands

@@ -11,10 +11,8 @@ returns g c =
     let slot = c.args.slot in
     let put = c.put_part.ensures in
     record {
-      outcome = put.outcome;
       row = stripe_updated a b m (row_of slot) (data_position slot) c.args.from.now c.requires.whole put.row;
       holds = λ x held. whole_put a b m slot c.args.from.now x c.requires.whole held (put.holds x held);
-      slots = put.slots;
-      plan = put.plan;
+      writes = put.writes;
       scratch = put.scratch;
     }

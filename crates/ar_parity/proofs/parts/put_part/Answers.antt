@@ -25,11 +25,13 @@ returns g c =
     subst (λ r. UpdatesPart a b m r (data_position slot) first bytes) c.row_of_slot.ensures
     (subst (λ k. UpdatesPart a b m row k first bytes) c.data_at.ensures.position c.change.ensures.changes) in
     record {
-      outcome = outcome_reported b c.change.result c.change.ensures.answer;
       row = changes;
       holds = slot_changed a b m slot first bytes changes;
-      slots = others_kept a b m slot first bytes reported.works.follows changes
-          (subst (λ r. KeepsButRow m r a b) c.row_of_slot.ensures keeps);
-      plan = write_carried m slot _ _ _ _ c.data_at.ensures.position c.row_of_slot.ensures c.change.ensures.plan;
+      writes = record {
+        outcome = outcome_reported b c.change.result c.change.ensures.answer;
+        slots = others_kept a b m slot first bytes reported.works.follows changes
+            (subst (λ r. KeepsButRow m r a b) c.row_of_slot.ensures keeps);
+        plan = write_carried m slot _ _ _ _ c.data_at.ensures.position c.row_of_slot.ensures c.change.ensures.plan;
+      };
       scratch = c.change.ensures.scratch;
     }

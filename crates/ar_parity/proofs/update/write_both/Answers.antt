@@ -21,14 +21,14 @@ returns-in-Done g c =
     record {
       answer = two.answer;
       block = λ x stands.
-          stands_beside b d m row j i _ apart c.requires.parity_below c.requires.below c.requires.apart
+          stands_beside b d m row j i _ apart c.requires.two.other c.requires.two.one c.requires.two.apart
           two.works.follows two.keeps (one.here x stands);
       parity = λ x stands.
-          two.here x (stands_beside a b m row i j x apart c.requires.below c.requires.parity_below
-          (λ e. c.requires.apart (sym e)) one.works.follows one.keeps stands);
+          two.here x (stands_beside a b m row i j x apart c.requires.two.one c.requires.two.other
+          (λ e. c.requires.two.apart (sym e)) one.works.follows one.keeps stands);
       others = λ k lk ki kj.
-          kept_beside b d m row j k apart c.requires.parity_below lk kj two.keeps row
-          ∙ kept_beside a b m row i k apart c.requires.below lk ki one.keeps row;
+          kept_beside b d m row j k apart c.requires.two.other lk kj two.keeps row
+          ∙ kept_beside a b m row i k apart c.requires.two.one lk ki one.keeps row;
       follows = follows_then a b d one.works.follows two.works.follows;
       plan = one_then _ _ _ _ _ one.plan two.plan;
     }
@@ -45,7 +45,7 @@ returns-in-Broken g c =
       block = λ x stands. one.here x stands;
       parity = λ x stands. broken_stands b m row c.args.parity _ broken;
       others = λ k lk ki kj. kept_beside c.args.set.now b m row c.args.position k c.requires.group.apart
-          c.requires.below lk ki one.keeps row;
+          c.requires.two.one lk ki one.keeps row;
       follows = one.works.follows;
       plan = one_then _ _ _ _ _ one.plan
           (carries_broken (write_member m c.args.parity row) _ broken);
