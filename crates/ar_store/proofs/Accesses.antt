@@ -33,12 +33,12 @@ plan_accessed plan a b none carried =
       lost = plan_lost plan a b none carried;
     }
 
-read_rebuilds : (c : Class) (g : Geometry) (m : Members) (i : ℕ) → RebuildsNothing (slot_read c g m i)
+pub read_rebuilds : (c : Class) (g : Geometry) (m : Members) (i : ℕ) → RebuildsNothing (slot_read c g m i)
 read_rebuilds Free g m i = tt
 read_rebuilds Mirrored g m i = (tt, tt, (tt, tt, tt))
 read_rebuilds Parity g m i = (tt, tt, (tt, (tt, (tt, tt, tt), tt), tt))
 
-write_rebuilds : (c : Class) (g : Geometry) (m : Members) (i : ℕ) → RebuildsNothing (slot_write c g m i)
+pub write_rebuilds : (c : Class) (g : Geometry) (m : Members) (i : ℕ) → RebuildsNothing (slot_write c g m i)
 write_rebuilds Free g m i = tt
 write_rebuilds Mirrored g m i = (tt, (tt, tt, tt), (tt, tt, tt))
 write_rebuilds Parity g m i =
@@ -96,7 +96,7 @@ opens_accessed a b c NotOpened cut plan =
           (plan opening.0 opening.1.many opening.1.lowest)
     ]
 
-slot_keeps : (c : Class) (m : Members) (i : ℕ) (a b : SetState) → CarriesOut (slot_read c a.geometry m i) a b
+pub slot_keeps : (c : Class) (m : Members) (i : ℕ) (a b : SetState) → CarriesOut (slot_read c a.geometry m i) a b
     → Keeps Anywhere a b
 slot_keeps Free m i a b carried =
     subst (λ (s : SetState). Keeps Anywhere a s) (nothing_done a b carried) (keeps_refl Anywhere a)

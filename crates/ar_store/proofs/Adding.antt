@@ -1,25 +1,23 @@
 -- A store to which a disk is added.
-use Rattle.std.proofs.Common.{◌≡◌, ◌≢◌, ℕ, ◌*◌, ◌<◌, List, [], ◌∷◌, length, Option, None, Some, refl, sym, subst, ◌∙◌}
+use Rattle.std.proofs.Common.{◌≡◌, ℕ, ◌*◌, ◌<◌, List, [], ◌∷◌, length, refl, sym, subst, ◌∙◌}
 use Rattle.std.proofs.Common.{arith, length-append}
 use Rattle.ar_disks.specs.Disk.{DiskState}
 use Rattle.ar_disks.specs.Geometry.{rows_of}
 use Rattle.ar_disks.specs.Members.{member}
-use Rattle.ar_disks.specs.declared.address.Key.{Key}
 use Rattle.ar_disks.specs.declared.address.Place.{Place}
 use Rattle.ar_disks.specs.declared.geometry.Geometry.{Geometry}
-use Rattle.ar_extents.specs.declared.health.Health.TheVariants.{Broken}
 use Rattle.ar_extents.specs.Set.{SetState, HasExtent}
 use Rattle.ar_extents.specs.Changes.{added}
 use Rattle.ar_extents.proofs.Follows.{keeps_added}
 use Rattle.ar_extents.proofs.LooseLemmas.{is_loose-added_other}
 use Rattle.ar_book.specs.declared.class.Slot.{Slot}
-use Rattle.ar_book.specs.Tables.{Tables, group_in, class_of, home, slots_of, HasSlot}
-use Rattle.ar_book.proofs.Homes.{home_key, home_slot, key_slot}
+use Rattle.ar_book.specs.Tables.{Tables, group_in, class_of, slots_of, HasSlot}
+use Rattle.ar_book.proofs.Homes.{home_slot, key_slot}
 use Rattle.ar_store.specs.Store.{store_of}
-use Rattle.ar_store.specs.Slots.{SlotHolds, HoldsBlock, stands, AllStand}
+use Rattle.ar_store.specs.Slots.{SlotHolds, HoldsBlock, AllStand}
 use Rattle.ar_store.specs.Kept.{IsSpace, FieldsAgree}
 use Rattle.ar_store.proofs.Spaces.{slot_inside}
-use Rattle.ar_store.proofs.Standing.{stands_held, stands_nowhere}
+use Rattle.ar_store.proofs.Standing.{stands_kept}
 use Rattle.ar_store.proofs.Copies.{class_copied}
 
 -- an extent that was there still is
@@ -72,16 +70,11 @@ module _ (s : SetState) (disk : DiskState) (t : Tables) (space : IsSpace (store_
 
   -- every block stands as it did
   pub all_added : AllStand (store_of s t) (store_of (added s disk) t)
-  all_added = record { blocks = λ sound k. by k sound (home t k) refl }
-    where
-      by : (k : Key) → s.health ≢ Broken → (o : Option Slot) → home t k ≡ o
-          → stands (store_of (added s disk) t) k ≡ stands (store_of s t) k
-      by k sound None is = stands_nowhere (store_of (added s disk) t) k is ∙ sym (stands_nowhere (store_of s t) k is)
-      by k sound (Some slot) is =
-          let held = space.named slot k (home_key t space.tables k slot is) in
-          stands_held (store_of (added s disk) t) k slot held.block space_added sound is
-          (added_holds slot held.block (home_slot t space.tables k slot is) held.holds)
-          ∙ sym (stands_held (store_of s t) k slot held.block space sound is held.holds)
+  all_added = record {
+    blocks = λ sound k.
+        stands_kept s (added s disk) t k space space_added refl sound sound
+        (λ slot block is holds. added_holds slot block (home_slot t space.tables k slot is) holds);
+  }
 
 pub fields_added : (s : SetState) (disk : DiskState) (t : Tables) (block : List ℕ) (g : Geometry)
     → length s.loose ≡ length s.disks

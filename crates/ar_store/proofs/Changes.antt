@@ -75,6 +75,23 @@ parity_before t u g (inr free) is = absurd (free_not_parity (sym free.0 ∙ is))
     free_not_parity : Free ≢ Parity
     free_not_parity e = true≢false (ap is_free e)
 
+-- tables of the same groups, whose named slots hold blocks: the store keeps what it kept
+pub space_changed : (a : SetState) (t u : Tables) → IsSpace (store_of a t) → u.geometry ≡ t.geometry → TablesAgree u
+    → length u.groups ≡ length t.groups → ((g : ℕ) → (group_in u.groups g).members ≡ (group_in t.groups g).members)
+    → ((g : ℕ) → KeepsClass (class_of t g) (group_in u.groups g))
+    → ((slot : Slot) (j : Key) → key_at u slot ≡ Some j → class_of u slot.group ≡ class_of t slot.group)
+    → ((slot : Slot) (j : Key) → key_at u slot ≡ Some j → HoldsBlock (store_of a t) slot) → IsSpace (store_of a u)
+space_changed a t u space geometry agree count members classes class held = record {
+  geometry = geometry ∙ space.geometry;
+  tables = agree;
+  extents = extents_same a t u space count members;
+  named = λ slot j names. block_same a t u slot (class slot j names) (members slot.group) (held slot j names);
+  parity = λ slot inside is lt.
+      let before = parity_before t u slot.group (classes slot.group) is in
+      block_same a t u slot (is ∙ sym before) (members slot.group)
+      (space.parity slot (subst (λ n. slot.group < n) count inside) before lt);
+}
+
 module _ (a : SetState) (t : Tables) (k : Key) (s : Slot) (space : IsSpace (store_of a t)) (block : HasBlock t k)
     (vacant : IsVacant t s) where
   -- the tables agree after a move
@@ -83,18 +100,9 @@ module _ (a : SetState) (t : Tables) (k : Key) (s : Slot) (space : IsSpace (stor
 
   -- A block moves to a slot that holds some block: the store keeps what it kept.
   pub space_moved : HoldsBlock (store_of a t) s → IsSpace (store_of a (assigned t k s))
-  space_moved held = record {
-    geometry = space.geometry;
-    tables = moved_agrees;
-    extents = extents_same a t (assigned t k s) space (assigned_group_count t k s) (assigned_members t k s);
-    named = λ slot j names.
-        block_same a t (assigned t k s) slot (assigned_class_named t k s slot j names)
-        (assigned_members t k s slot.group) (held_before slot j names);
-    parity = λ slot inside is lt.
-        let before = parity_before t (assigned t k s) slot.group (assigned_class t k s slot.group) is in
-        block_same a t (assigned t k s) slot (is ∙ sym before) (assigned_members t k s slot.group)
-        (space.parity slot (subst (λ n. slot.group < n) (assigned_group_count t k s) inside) before lt);
-  }
+  space_moved held =
+      space_changed a t (assigned t k s) space refl moved_agrees (assigned_group_count t k s) (assigned_members t k s)
+      (assigned_class t k s) (assigned_class_named t k s) held_before
     where
       held_before : (slot : Slot) (j : Key) → key_at (assigned t k s) slot ≡ Some j → HoldsBlock (store_of a t) slot
       held_before slot j names =

@@ -37,8 +37,8 @@ use Rattle.ar_store.specs.Slots.{ClassHolds, SlotHolds, HoldsBlock, SlotsHold, A
 use Rattle.ar_store.specs.Slots.{HoldsSources, HoldsCopy, HoldsCopies}
 use Rattle.ar_store.specs.Calls.{IsAccessed, IsZerosFrom}
 use Rattle.ar_store.specs.Kept.{IsSpace}
-use Rattle.ar_store.specs.Placing.{IsVacant, IsSqueezed, SameUnits}
-use Rattle.ar_store.specs.Plans.{squeeze_plan, CarriesOutSqueeze}
+use Rattle.ar_store.specs.Placing.{IsVacant, SameUnits, BySqueeze, squeezed, prepared, lowest_group}
+use Rattle.ar_store.specs.Plans.{squeeze_plan, Squeezes, CarriesOutSearch}
 use Rattle.ar_store.proofs.Options.{some_value}
 use Rattle.ar_store.proofs.Classes.{class_disjoint}
 use Rattle.ar_store.proofs.Spaces.{groups_apart, held_then, space_accessed}
@@ -48,7 +48,8 @@ use Rattle.ar_store.proofs.Changes.{mirrored_not_free, units_refl, units_then}
 use Rattle.ar_store.proofs.Fills.{accessed_refl}
 use Rattle.ar_store.proofs.Openings.{HoldsWhole, space_filled, stand_filled}
 use Rattle.ar_store.proofs.Squeezing.{same_free}
-use Rattle.ar_store.proofs.Planned.{first_members, only_squeeze}
+use Rattle.ar_store.proofs.Gaps.{free_is, full_is}
+use Rattle.ar_store.proofs.Planned.{first_members}
 
 -- the group that is copied isn't the one that it is copied to
 pub from_to_apart : (t : Tables) (from to : ℕ) → IsFullMirrored t from → IsLowestFree t to → from ≢ to
@@ -331,34 +332,39 @@ copies_for d t u from to is free copies g is_g =
     (subst (λ n. HoldsCopies (group_in t.groups from).members (group_in t.groups n).members d) same copies)
 
 -- a squeeze, by its calls
-pub squeezed_by : (a c : StoreState) (b : SetState) (t : Tables) (from to : ℕ) (hole : Slot)
-    → IsFullMirrored a.book from → IsLowestFree a.book to
-    → CarriesOut (squeeze_plan a.disks.geometry (members_of a from) (members_of a to)) a.disks b
-    → HoldsSources (members_of a from) (members_of a to) a.disks b → b.health ≢ Broken → t ≡ a.book → c.disks ≡ b
-    → IsSqueezed t c.book hole → CarriesOutSqueeze a c
-squeezed_by a c b t from to hole full free plan copied sound is disks made =
-    let tables = (subst (λ (x : Tables). IsSqueezed x c.book hole) is made).tables from to full free in
-    only_squeeze a c from to full free (record {
-      plan = subst
-          (λ (d : SetState). CarriesOut (squeeze_plan a.disks.geometry (members_of a from) (members_of a to)) a.disks d)
-          (sym disks) plan;
-      copied = λ _.
-          subst (λ (d : SetState). HoldsSources (members_of a from) (members_of a to) a.disks d) (sym disks) copied;
-      moved = λ _. tables.0;
-      unmoved = λ broken. absurd (sound (ap (λ (d : SetState). d.health) (sym disks) ∙ broken));
-    })
+module _ (a c : StoreState) (from to : ℕ) (full : IsFullMirrored a.book from) (free : IsLowestFree a.book to) where
+  squeezes : Squeezes from to a c → CarriesOutSearch BySqueeze a c
+  squeezes made =
+      subst (λ n. Squeezes (lowest_group a.book Mirrored) n a c) (sym (free_is a.book to free))
+      (subst (λ n. Squeezes n to a c) (sym (full_is a.book from full)) made)
 
-pub squeeze_failed : (a c : StoreState) (from to : ℕ) → IsFullMirrored a.book from → IsLowestFree a.book to
-    → CarriesOut (squeeze_plan a.disks.geometry (members_of a from) (members_of a to)) a.disks c.disks
-    → c.disks.health ≡ Broken → c.book ≡ a.book → CarriesOutSqueeze a c
-squeeze_failed a c from to full free plan broken same =
-    only_squeeze a c from to full free
-    (record {
-      plan = plan;
-      copied = λ sound. absurd (sound broken);
-      moved = λ sound. absurd (sound broken);
-      unmoved = λ _. same;
-    })
+  pub squeezed_by : (b : SetState) (t : Tables)
+      → CarriesOut (squeeze_plan a.disks.geometry (members_of a from) (members_of a to)) a.disks b
+      → HoldsSources (members_of a from) (members_of a to) a.disks b → b.health ≢ Broken → t ≡ a.book → c.disks ≡ b
+      → c.book ≡ prepared t BySqueeze → CarriesOutSearch BySqueeze a c
+  squeezed_by b t plan copied sound is disks made =
+      squeezes (record {
+        plan = subst
+            (λ (d : SetState). CarriesOut (squeeze_plan a.disks.geometry (members_of a from) (members_of a to))
+            a.disks d) (sym disks) plan;
+        copied = λ _.
+            subst (λ (d : SetState). HoldsSources (members_of a from) (members_of a to) a.disks d) (sym disks) copied;
+        moved = λ _.
+            made ∙ ap (λ (x : Tables). prepared x BySqueeze) is
+            ∙ ap (λ n. squeezed a.book n (lowest_group a.book Free)) (full_is a.book from full)
+            ∙ ap (squeezed a.book from) (free_is a.book to free);
+        unmoved = λ broken. absurd (sound (ap (λ (d : SetState). d.health) (sym disks) ∙ broken));
+      })
+
+  pub squeeze_failed : CarriesOut (squeeze_plan a.disks.geometry (members_of a from) (members_of a to)) a.disks c.disks
+      → c.disks.health ≡ Broken → c.book ≡ a.book → CarriesOutSearch BySqueeze a c
+  squeeze_failed plan broken same =
+      squeezes (record {
+        plan = plan;
+        copied = λ sound. absurd (sound broken);
+        moved = λ sound. absurd (sound broken);
+        unmoved = λ _. same;
+      })
 
 -- the opened group keeps its members while blocks move there
 pub moved_members : (t u v : Tables) (from to : ℕ) → u ≡ opened t to Parity

@@ -1,5 +1,5 @@
 -- What a store keeps of its fields, and what it shows of them.
-use Rattle.std.proofs.Common.{◌≡◌, ◌≢◌, inl, inr, ℕ, ◌<◌, ◌≤◌, List, IsSome, length, None, Some, refl, sym, ap, subst}
+use Rattle.std.proofs.Common.{◌≡◌, ◌≢◌, ℕ, ◌<◌, ◌≤◌, List, IsSome, length, None, Some, refl, sym, ap, subst}
 use Rattle.std.proofs.Common.{◌∙◌, arith}
 use Rattle.ar_disks.specs.Geometry.{block_len_of}
 use Rattle.ar_disks.specs.declared.address.Key.{Key}
@@ -11,7 +11,6 @@ use Rattle.ar_extents.specs.Follows.{Follows, Keeps, Anywhere}
 use Rattle.ar_book.specs.declared.class.Slot.{Slot}
 use Rattle.ar_book.specs.Tables.{Tables, home, free_groups, HasBlock}
 use Rattle.ar_book.specs.Changes.{assigned, stamped}
-use Rattle.ar_disks.proofs.Addresses.{key_tells}
 use Rattle.ar_book.proofs.AfterAssign.{assigned_home}
 use Rattle.ar_book.proofs.AfterStamp.{stamped_home}
 use Rattle.ar_disks.specs.Block.{zeros}
@@ -27,6 +26,7 @@ use Rattle.ar_store.specs.Calls.{IsAccessed}
 use Rattle.ar_store.specs.Kept.{IsSpace, FieldsAgree}
 use Rattle.ar_store.specs.declared.space.Space.{Space}
 use Rattle.ar_store.specs.Spaces.{store_in, IsReady, Stays}
+use Rattle.ar_store.proofs.Fills.{one_stands}
 use Rattle.ar_store.proofs.Spaces.{space_read}
 use Rattle.ar_store.proofs.Standing.{stands_held, stands_nowhere, was_sound}
 use Rattle.ar_store.proofs.Options.{some_is}
@@ -82,12 +82,6 @@ given_stands s a b t k slot part bytes view space is ab sound read =
 pub given_done : (o : Completion) (P : Type 0) → o ≡ Done → OnDone o P → P
 given_done o P is given = subst (λ (x : Completion). OnDone x P) is given
 
--- first every block stood as it did, then every one but one
-pub put_others : (a b d : StoreState) (k : Key) → Follows b.disks d.disks → AllStand a b → OthersStand b d k
-    → OthersStand a d k
-put_others a b d k bd first second =
-    record { blocks = λ sound j ne. second.blocks sound j ne ∙ first.blocks (was_sound b.disks d.disks bd sound) j }
-
 -- a way was found, if the disks are sound after the write
 pub way_sound : (s : StoreState) (d : SetState) (k : Key) (way : Way) → IsReadyFor s k way → Follows s.disks d
     → d.health ≢ Broken → way ≢ NoWay
@@ -109,12 +103,5 @@ written_home s u k NoWay block ready is found = absurd (found refl)
 pub placed_stand : (a d : StoreState) (k : Key) (bytes : List ℕ) → home a.book k ≡ None
     → bytes ≡ zeros (block_len_of a.disks.geometry) → OthersStand a d k
     → (d.disks.health ≢ Broken → stands d k ≡ bytes) → AllStand a d
-placed_stand a d k bytes none zero others here = record {
-  blocks = λ sound j.
-      elim (key_tells j k) [
-        | inl same ↦
-            (let P : Key → Type 0 = λ x. stands d x ≡ stands a x in
-            subst P (sym same) (here sound ∙ zero ∙ sym (stands_nowhere a k none)))
-        | inr ne ↦ others.blocks sound j ne
-      ];
-}
+placed_stand a d k bytes none zero others here =
+    one_stands a d k others (λ sound. here sound ∙ zero ∙ sym (stands_nowhere a k none))

@@ -2,7 +2,15 @@
 use Rattle.std.proofs.Common.{◌≡◌, ◌≢◌, ◌≤◌, inl, inr, ℕ, Bool, List, length, Some, refl, sym, ap, subst, ◌∙◌, arith}
 use Rattle.ar_disks.specs.declared.address.Key.{Key}
 use Rattle.ar_disks.specs.declared.address.Place.{Place}
+use Rattle.ar_disks.specs.Block.{part_at, with_sectors}
 use Rattle.ar_disks.specs.Geometry.{block_len_of}
+use Rattle.ar_disks.specs.declared.completion.Completion.{Completion}
+use Rattle.ar_extents.specs.Groups.{outcome_of}
+use Rattle.ar_extents.proofs.Outcomes.{done_sound, broken_is}
+use Rattle.ar_parity.proofs.PartSums.{with_sectors-whole}
+use Rattle.ar_store.specs.declared.space.Space.{Space}
+use Rattle.ar_store.specs.Spaces.{store_in, WritesAt, PutsAt}
+use Rattle.ar_store.proofs.Overwriting.{all_given}
 use Rattle.ar_extents.specs.declared.health.Health.TheVariants.{Broken}
 use Rattle.ar_disks.specs.declared.completion.Completion.TheVariants.{Done, Broken as NotDone}
 use Rattle.ar_extents.specs.Set.{SetState, IsLost}
@@ -21,7 +29,8 @@ use Rattle.ar_store.specs.Slots.{SlotHolds, HoldsBlock, stands, AllStand, Others
 use Rattle.ar_store.specs.Kept.{IsSpace}
 use Rattle.ar_store.specs.Calls.{IsAccessed}
 use Rattle.ar_store.specs.Placing.{IsVacant, SameUnits}
-use Rattle.ar_store.proofs.Standing.{holds_same, hole_stand, others_stand, home_apart, stands_held, was_sound}
+use Rattle.ar_store.proofs.Standing.{holds_same, hole_stand, others_stand, home_apart, stands_held, stands_whole}
+use Rattle.ar_store.proofs.Standing.{was_sound}
 use Rattle.ar_store.proofs.Spaces.{slots_read}
 use Rattle.ar_store.proofs.Changes.{space_moved, others_moved, block_moved, units_assigned, space_stamped, all_stamped}
 use Rattle.ar_store.proofs.Changes.{others_stamped, units_stamped, units_then, block_then}
@@ -110,11 +119,8 @@ beside_then a b t u c s is ab keeps beside = record {
 -- and after a read alone.
 pub beside_read : (a b : SetState) (t u : Tables) (s : Slot) → u ≡ t → Follows a b → Keeps Anywhere a b
     → BesideHold (store_of a t) (store_of b u) s
-beside_read a b t u s is ab keeps = record {
-  slots = λ slot block there same ne holds.
-      subst (λ (x : Tables). SlotHolds (store_of b x) slot block) (sym is)
-      ((slots_read a b t ab keeps).slots slot block there holds);
-}
+beside_read a b t u s is ab keeps =
+    beside_then a b t u (store_of b u) s is ab keeps (record { slots = λ slot block there same ne holds. holds })
 
 -- A block was written to its home.
 pub record IsRewritten (a b : SetState) (t : Tables) (k : Key) (block : List ℕ) : Type 0 where
@@ -130,8 +136,8 @@ rewritten a b t k s block space_a space_b is ab slots here = record {
   others = others_stand a b t k s space_a space_b ab slots (home_apart t a k s space_a is);
 }
 
--- A block has a stamp more.
-pub record IsStamped (a : StoreState) (b : SetState) (t u v : Tables) (k : Key) (block : List ℕ) : Type 0 where
+-- A block was written, and then the tables changed.
+pub record IsWrittenAs (a : StoreState) (b : SetState) (t v : Tables) (k : Key) (block : List ℕ) : Type 0 where
   pub space : IsSpace (store_of b v)
   pub units : SameUnits t v
   pub here : stands (store_of b v) k ≡ block
@@ -139,10 +145,10 @@ pub record IsStamped (a : StoreState) (b : SetState) (t u v : Tables) (k : Key) 
 
 pub stamped_then : (a : StoreState) (b : SetState) (t u v : Tables) (k : Key) (block : List ℕ) → IsSpace (store_of b u)
     → HasBlock t k → SameUnits t u
-    → stands (store_of b u) k ≡ block → OthersStand a (store_of b u) k → v ≡ stamped u k → IsStamped a b t u v k block
+    → stands (store_of b u) k ≡ block → OthersStand a (store_of b u) k → v ≡ stamped u k → IsWrittenAs a b t v k block
 stamped_then a b t u v k block space has units here others is =
     let has_u = block_then t u k units has in
-    subst (λ (x : Tables). IsStamped a b t u x k block) (sym is) (record {
+    subst (λ (x : Tables). IsWrittenAs a b t x k block) (sym is) (record {
       space = space_stamped b u k space has_u;
       units = units_then t u (stamped u k) units (units_stamped b u k space has_u);
       here = all_stamped b u k space has_u k ∙ here;
@@ -153,23 +159,37 @@ stamped_then a b t u v k block space has units here others is =
 pub none_stands : (a b : StoreState) (k : Key) → b.disks.health ≡ Broken → OthersStand a b k
 none_stands a b k broken = record { blocks = λ sound. absurd (sound broken) }
 
--- The block that was read from a block's home was written to the hole: every block stands as it did.
-pub moved_stand : (a b c : StoreState) (k : Key) (from : Slot) (bytes : List ℕ) → IsSpace a → home a.book k ≡ Some from
-    → Follows a.disks b.disks → Follows b.disks c.disks → AllStand a b
-    → ((block : List ℕ) → SlotHolds a from block → bytes ≡ block)
-    → (c.disks.health ≢ Broken → stands c k ≡ bytes) → OthersStand b c k → AllStand a c
-moved_stand a b c k from bytes space is ab bc first read here others = record {
+-- first every block stood as it did, then every one but one
+pub put_others : (a b d : StoreState) (k : Key) → Follows b.disks d.disks → AllStand a b → OthersStand b d k
+    → OthersStand a d k
+put_others a b d k bd first second =
+    record { blocks = λ sound j ne. second.blocks sound j ne ∙ first.blocks (was_sound b.disks d.disks bd sound) j }
+
+-- every block stands as it did, if the others and this one do
+pub one_stands : (a d : StoreState) (k : Key) → OthersStand a d k
+    → (d.disks.health ≢ Broken → stands d k ≡ stands a k) → AllStand a d
+one_stands a d k others here = record {
   blocks = λ sound j.
       elim (key_tells j k) [
         | inl same ↦
-            (let P : Key → Type 0 = λ x. stands c x ≡ stands a x in
-            let held = space.named from k (home_key a.book space.tables k from is) in
-            let sound_a = was_sound a.disks b.disks ab (was_sound b.disks c.disks bc sound) in
-            subst P (sym same) (here sound ∙ read held.block held.holds
-            ∙ sym (stands_held a k from held.block space sound_a is held.holds)))
-        | inr ne ↦ others.blocks sound j ne ∙ first.blocks (was_sound b.disks c.disks bc sound) j
+            (let P : Key → Type 0 = λ x. stands d x ≡ stands a x in subst P (sym same) (here sound))
+        | inr ne ↦ others.blocks sound j ne
       ];
 }
+
+-- The block that was read from a block's home was written to the hole: every block stands as it did.
+pub moved_stand : (a b c : StoreState) (k : Key) (from : Slot) (bytes : List ℕ) → IsSpace a → home a.book k ≡ Some from
+    → Follows a.disks b.disks → Follows b.disks c.disks → AllStand a b
+    → length bytes ≡ block_len_of a.disks.geometry
+    → ((block : List ℕ) → SlotHolds a from block → bytes ≡ part_at block 0 (length bytes))
+    → (c.disks.health ≢ Broken → stands c k ≡ bytes) → OthersStand b c k → AllStand a c
+moved_stand a b c k from bytes space is ab bc first len read here others =
+    one_stands a c k (put_others a b c k bc first others)
+    (λ sound.
+    let held = space.named from k (home_key a.book space.tables k from is) in
+    let sound_a = was_sound a.disks b.disks ab (was_sound b.disks c.disks bc sound) in
+    here sound ∙ all_given held.block bytes (len ∙ sym held.len) (read held.block held.holds)
+    ∙ sym (stands_held a k from held.block space sound_a is held.holds))
 
 -- as many groups are free in the same tables
 pub same_free : (t u : Tables) → u ≡ t → free_groups t ≤ free_groups u
@@ -178,3 +198,53 @@ same_free t u is = subst (λ (x : Tables). free_groups t ≤ free_groups x) (sym
 -- a call that is done isn't one that found the disks broken
 pub done_not_broken : Done ≢ NotDone
 done_not_broken e = cc
+
+-- A block was written, and the tables changed as they should,
+pub puts_done : {X : Type 0} (old new : Space X) (k : Key) (after : Tables) (block : List ℕ)
+    → Done ≡ outcome_of new.disks.health → new.book ≡ after → free_groups old.book ≤ free_groups new.book
+    → IsWrittenAs (store_in old) new.disks old.book new.book k block → new.scratch.geometry ≡ new.disks.geometry
+    → IsAccessed old.disks new.disks → PutsAt old new k after block Done
+puts_done old new k after block answer tables free written scratch accessed = record {
+  outcome = answer;
+  tables = λ _. tables;
+  unwritten = λ broke. absurd (done_not_broken broke);
+  free = free;
+  here = λ _. written.here;
+  others = written.others;
+  stays = record {
+    ready = record { space = written.space; scratch = scratch };
+    units = written.units;
+    accessed = accessed;
+  };
+}
+
+-- or the array failed in the write;
+pub puts_none : {X : Type 0} (old new : Space X) (k : Key) (slot : Slot) (after : Tables) (block : List ℕ)
+    (o : Completion) → o ≡ NotDone → WritesAt old new slot o → PutsAt old new k after block NotDone
+puts_none old new k slot after block o is wrote = record {
+  outcome = sym is ∙ wrote.outcome;
+  tables = λ done. absurd (done_not_broken (sym done));
+  unwritten = λ _. wrote.book;
+  free = same_free old.book new.book wrote.book;
+  here = λ done. absurd (done_not_broken (sym done));
+  others = none_stands (store_in old) (store_in new) k (broken_is new.disks.health (sym is ∙ wrote.outcome));
+  stays = wrote.stays;
+}
+
+-- and a part that is all of the block is the block.
+pub puts_whole : {X : Type 0} (old new : Space X) (k : Key) (after : Tables) (bytes : List ℕ) (o : Completion)
+    → IsSpace (store_in old) → length bytes ≡ block_len_of old.disks.geometry
+    → PutsAt old new k after (with_sectors (stands (store_in old) k) 0 bytes) o → PutsAt old new k after bytes o
+puts_whole old new k after bytes o space len puts = record {
+  outcome = puts.outcome;
+  tables = puts.tables;
+  unwritten = puts.unwritten;
+  free = puts.free;
+  here = λ done.
+      let sound = was_sound old.disks new.disks puts.stays.accessed.follows
+      (done_sound new.disks.health (sym done ∙ puts.outcome)) in
+      puts.here done
+      ∙ with_sectors-whole (stands (store_in old) k) bytes (len ∙ sym (stands_whole (store_in old) k space sound));
+  others = puts.others;
+  stays = puts.stays;
+}

@@ -1,113 +1,161 @@
--- Whether there is a mirrored slot for a block, as a function of the tables.
-use Rattle.std.proofs.Common.{◌≡◌, ℕ, zero, suc, ◌<◌, ◌≤◌, Bool, true, false, ◌&&◌, ◌||◌, if◌then◌else◌, List, [], ◌∷◌}
-use Rattle.std.proofs.Common.{Option, None, Some, length, get_or, refl, sym, ap, subst, ◌∙◌, inl, inr, true≢false}
-use Rattle.std.proofs.Common.{arith}
-use Rattle.std.specs.Prelude.{nat_lt}
+-- What the searches of the tables find, as functions.
+use Rattle.std.proofs.Common.{◌≡◌, ◌⊎◌, inl, inr, ℕ, ◌<◌, ◌≤◌, Bool, true, false, ◌&&◌, if◌then◌else◌, List, Option}
+use Rattle.std.proofs.Common.{None}
+use Rattle.std.proofs.Common.{Some, length, get_or, refl, sym, ap, subst, ◌∙◌, true≢false, arith}
+use Rattle.std.specs.Prelude.{nat_lt, is_none}
+use Rattle.std.specs.List.{position_or_len}
+use Rattle.std.proofs.lemmas.Bool.{cases_lt, and_parts}
 use Rattle.std.proofs.lemmas.Bool.Decides.{Decides-ltb}
-use Rattle.std.proofs.lemmas.Option.{none-some}
+use Rattle.std.proofs.lemmas.List.{get_or_past}
+use Rattle.std.proofs.lemmas.List.Sums.{position_or_len_is, fails_before_first, passes_at_first}
 use Rattle.ar_disks.specs.declared.address.Key.{Key}
-use Rattle.ar_disks.specs.declared.geometry.Geometry.{Geometry}
 use Rattle.ar_book.specs.declared.class.Class.{Class}
-use Rattle.ar_book.specs.declared.class.Class.TheVariants.{Mirrored}
+use Rattle.ar_book.specs.declared.class.Class.TheVariants.{Free, Mirrored}
 use Rattle.ar_book.specs.declared.class.Slot.{Slot}
 use Rattle.ar_book.specs.Cleaning.{same_class}
-use Rattle.ar_book.specs.Choices.{IsHole}
-use Rattle.ar_book.specs.Tables.{GroupState, Tables, group_in, slots_of, free_groups}
+use Rattle.ar_book.specs.Choices.{IsHole, IsUpTo, IsLowestFree, IsFullMirrored}
+use Rattle.ar_book.specs.Tables.{GroupState, Tables, group_in, no_group, class_of, slots_of, free_groups}
 use Rattle.ar_book.proofs.CleaningLemmas.{same_class_self, class_tells}
-use Rattle.ar_store.specs.Placing.{HasNoHole, has_gap, offers_hole, lacks_mirrored_slot}
+use Rattle.ar_book.proofs.Keys.{make_slot}
+use Rattle.ar_store.specs.Placing.{IsLowestHole, HasNoHole, first_empty, offers_hole, hole_group, has_hole, lowest_hole}
+use Rattle.ar_store.specs.Placing.{lowest_group, lacks_mirrored_slot}
 
-gap_found : (n : ℕ) (slots : List (Option Key)) → has_gap n slots ≡ false
-    → (i : ℕ) → i < n → get_or slots i None ≡ None → ⊥
-gap_found zero slots e i lt empty = absurd (omega arith)
-gap_found (suc n) [] e i lt empty = true≢false e
-gap_found (suc n) (None ∷ slots) e i lt empty = true≢false e
-gap_found (suc n) (Some k ∷ slots) e zero lt empty = none-some k (sym empty)
-gap_found (suc n) (Some k ∷ slots) e (suc i) lt empty = gap_found n slots e i (omega arith) empty
+none_is : (o : Option Key) → is_none o ≡ true → o ≡ None
+none_is None e = refl
+none_is (Some k) e = absurd (true≢false (sym e))
 
-gap_none : (n : ℕ) (slots : List (Option Key)) → ((i : ℕ) → i < n → get_or slots i None ≡ None → ⊥)
-    → has_gap n slots ≡ false
-gap_none zero slots none = refl
-gap_none (suc n) [] none = absurd (none 0 (omega arith) refl)
-gap_none (suc n) (None ∷ slots) none = absurd (none 0 (omega arith) refl)
-gap_none (suc n) (Some k ∷ slots) none = gap_none n slots (λ i lt empty. none (suc i) (omega arith) empty)
+-- no empty slot comes before the first one
+empty_from : (slots : List (Option Key)) (i : ℕ) → get_or slots i None ≡ None → position_or_len is_none slots ≤ i
+empty_from slots i empty = elim (cases_lt i (position_or_len is_none slots)) [
+  | inl lt ↦ absurd (true≢false (sym (ap is_none empty) ∙ fails_before_first is_none slots i None lt))
+  | inr ge ↦ ge
+]
 
-neither : (a b : Bool) → (a || b) ≡ false → (a ≡ false) × (b ≡ false)
-neither true b e = absurd (true≢false e)
-neither false b e = (refl, e)
+empty_first : (slots : List (Option Key)) → get_or slots (position_or_len is_none slots) None ≡ None
+empty_first slots = elim (cases_lt (position_or_len is_none slots) (length slots)) [
+  | inl lt ↦ none_is (get_or slots (position_or_len is_none slots) None) (passes_at_first is_none slots None lt)
+  | inr ge ↦ get_or_past slots (position_or_len is_none slots) None ge
+]
 
-second_false : (a b : Bool) → a ≡ true → (a && b) ≡ false → b ≡ false
-second_false true b is e = e
-second_false false b is e = absurd (true≢false (sym is))
+-- of two slots that each come first, one is the other
+pub first_is : (s r : Slot) → IsUpTo s r → IsUpTo r s → s ≡ r
+first_is s r (inl lt) (inl gt) = absurd (omega arith)
+first_is s r (inl lt) (inr same) = absurd (let is = same.0 in omega arith)
+first_is s r (inr same) (inl gt) = absurd (let is = same.0 in omega arith)
+first_is s r (inr same) (inr other) = make_slot s r same.0 (let le = same.1 in let ge = other.1 in omega arith)
 
-and_false : (a : Bool) → (a && false) ≡ false
-and_false true = refl
-and_false false = refl
+-- a class is the same as one that it equals, and no other
+same_is : (c d : Class) → d ≡ c → same_class c d ≡ true
+same_is c d is = subst (λ (e : Class). same_class c e ≡ true) (sym is) (same_class_self c)
 
-module _ (geo : Geometry) (c : Class) where
-  offer_found : (gs : List GroupState) → offers_hole geo c gs ≡ false
-      → (g : ℕ) → g < length gs → (group_in gs g).class ≡ c → has_gap (slots_of geo c) (group_in gs g).slots ≡ false
-  offer_found [] e g lt is = absurd (omega arith)
-  offer_found (x ∷ gs) e zero lt is =
-      let parts = neither (same_class c x.class && has_gap (slots_of geo c) x.slots) (offers_hole geo c gs) e in
-      second_false (same_class c x.class) (has_gap (slots_of geo c) x.slots)
-      (subst (λ (d : Class). same_class c d ≡ true) (sym is) (same_class_self c)) parts.0
-  offer_found (x ∷ gs) e (suc g) lt is =
-      let parts = neither (same_class c x.class && has_gap (slots_of geo c) x.slots) (offers_hole geo c gs) e in
-      offer_found gs parts.1 g (omega arith) is
+is_same : (c d : Class) → same_class c d ≡ true → d ≡ c
+is_same c d e = elim (class_tells c d) [ inl same ↦ sym same.1 | inr other ↦ absurd (true≢false (sym e ∙ other)) ]
 
-  offer_none : (gs : List GroupState)
-      → ((g : ℕ) → g < length gs → (group_in gs g).class ≡ c → has_gap (slots_of geo c) (group_in gs g).slots ≡ false)
-      → offers_hole geo c gs ≡ false
-  offer_none [] none = refl
-  offer_none (x ∷ gs) none =
-      let full = has_gap (slots_of geo c) x.slots in
-      let head : (same_class c x.class && full) ≡ false = elim (class_tells c x.class) [
-        | inl same ↦ ap (λ b. same_class c x.class && b) (none 0 (omega arith) (sym same.1))
-            ∙ and_false (same_class c x.class)
-        | inr other ↦ ap (λ b. b && full) other
-      ] in
-      let rest = offer_none gs (λ g lt is. none (suc g) (omega arith) is) in
-      ap (λ b. b || offers_hole geo c gs) head ∙ rest
+module _ (t : Tables) (c : Class) where
+  offers : GroupState → Bool
+  offers = offers_hole t.geometry c
 
--- no group of the class has a hole exactly where none offers one
-pub no_hole : (t : Tables) (c : Class) → offers_hole t.geometry c t.groups ≡ false → HasNoHole t c
-no_hole t c e = record {
-  none = λ s hole.
-      gap_found (slots_of t.geometry c) (group_in t.groups s.group).slots
-      (offer_found t.geometry c t.groups e s.group hole.group hole.class) s.slot hole.slot hole.empty;
-}
+  -- the first group with a hole comes no later than that of any hole
+  hole_from : (s : Slot) → IsHole t c s → hole_group t c ≤ s.group
+  hole_from s hole = elim (cases_lt s.group (hole_group t c)) [
+    | inl lt ↦ absurd (
+        let g = group_in t.groups s.group in
+        let le = empty_from g.slots s.slot hole.empty in
+        let under = hole.slot in
+        let offered : offers_hole t.geometry c g ≡ true =
+        ap (λ b. b && nat_lt (first_empty g) (slots_of t.geometry c)) (same_is c g.class hole.class)
+        ∙ (Decides-ltb (first_empty g) (slots_of t.geometry c)).1 (omega arith) in
+        true≢false (sym offered ∙ fails_before_first (offers_hole t.geometry c) t.groups s.group no_group lt))
+    | inr ge ↦ ge
+  ]
 
-pub no_offer : (t : Tables) (c : Class) → HasNoHole t c → offers_hole t.geometry c t.groups ≡ false
-no_offer t c none =
-    offer_none t.geometry c t.groups
-    (λ g lt is. gap_none (slots_of t.geometry c) (group_in t.groups g).slots
-    (λ i inside empty. none.none (record { group = g; slot = i })
-    (record { group = lt; class = is; slot = inside; empty = empty })))
+  -- where there is one, the first hole is found
+  pub hole_is : has_hole t c ≡ true → IsLowestHole t c (lowest_hole t c)
+  hole_is has =
+      let there = (Decides-ltb (hole_group t c) (length t.groups)).0 has in
+      let g = group_in t.groups (hole_group t c) in
+      let parts = and_parts (same_class c g.class) (nat_lt (first_empty g) (slots_of t.geometry c))
+      (passes_at_first (offers_hole t.geometry c) t.groups no_group there) in
+      record {
+        hole = record {
+          group = there;
+          class = is_same c g.class parts.0;
+          slot = (Decides-ltb (first_empty g) (slots_of t.geometry c)).0 parts.1;
+          empty = empty_first g.slots;
+        };
+        least = λ r hole. elim (cases_lt (hole_group t c) r.group) [
+          | inl lt ↦ inl lt
+          | inr ge ↦ (
+              let le = hole_from r hole in
+              let same : r.group ≡ hole_group t c = omega arith in
+              inr (
+                sym same,
+                subst (λ n. first_empty (group_in t.groups n) ≤ r.slot) same
+                    (empty_from (group_in t.groups r.group).slots r.slot hole.empty),
+              ))
+        ];
+      }
+
+  pub no_hole : has_hole t c ≡ false → HasNoHole t c
+  no_hole lacks = record {
+    none = λ s hole.
+        let le = hole_from s hole in
+        let there = hole.group in
+        true≢false (sym ((Decides-ltb (hole_group t c) (length t.groups)).1 (omega arith)) ∙ lacks);
+  }
+
+  has_or_not : (b : Bool) → has_hole t c ≡ b → (has_hole t c ≡ true) ⊎ (has_hole t c ≡ false)
+  has_or_not true e = inl e
+  has_or_not false e = inr e
+
+  -- and what comes first is the first hole
+  pub found : (s : Slot) → IsLowestHole t c s → (has_hole t c ≡ true) × (s ≡ lowest_hole t c)
+  found s low = elim (has_or_not (has_hole t c) refl) [
+    | inl has ↦ (
+      has,
+      first_is s (lowest_hole t c) (low.least (lowest_hole t c) (hole_is has).hole) ((hole_is has).least s low.hole),
+    )
+    | inr lacks ↦ absurd ((no_hole lacks).none s low.hole)
+  ]
+
+  pub not_found : HasNoHole t c → has_hole t c ≡ false
+  not_found none = elim (has_or_not (has_hole t c) refl) [
+    | inl has ↦ absurd (none.none (lowest_hole t c) (hole_is has).hole)
+    | inr lacks ↦ lacks
+  ]
+
+  -- a group that is the lowest of its class
+  group_is : (g : ℕ) → g < length t.groups → class_of t g ≡ c → ((h : ℕ) → h < g → class_of t h ≡ c → ⊥)
+      → lowest_group t c ≡ g
+  group_is g there is least =
+      position_or_len_is (λ (x : GroupState). same_class c x.class) t.groups g no_group (omega arith)
+      (λ h lt. elim (class_tells c (class_of t h)) [
+        | inl same ↦ absurd (least h lt (sym same.1))
+        | inr other ↦ other
+      ])
+      (λ _. same_is c (class_of t g) is)
+
+pub free_is : (t : Tables) (g : ℕ) → IsLowestFree t g → lowest_group t Free ≡ g
+free_is t g low = group_is t Free g low.there low.free low.least
+
+pub full_is : (t : Tables) (g : ℕ) → IsFullMirrored t g → lowest_group t Mirrored ≡ g
+full_is t g full = group_is t Mirrored g full.there full.mirrored full.least
 
 -- there is no mirrored slot for a block
 pub lacks_of : (t : Tables) → HasNoHole t Mirrored → free_groups t < 2 → lacks_mirrored_slot t ≡ true
 lacks_of t none few =
-    ap (λ b. if b then false else nat_lt (free_groups t) 2) (no_offer t Mirrored none)
+    ap (λ b. if b then false else nat_lt (free_groups t) 2) (not_found t Mirrored none)
     ∙ (Decides-ltb (free_groups t) 2).1 few
 
-pub lacks_then : (t : Tables) → lacks_mirrored_slot t ≡ true → HasNoHole t Mirrored × (free_groups t < 2)
-lacks_then t lacks = by (offers_hole t.geometry Mirrored t.groups) refl lacks
-  where
-    by : (b : Bool) → offers_hole t.geometry Mirrored t.groups ≡ b
-        → (if b then false else nat_lt (free_groups t) 2) ≡ true → HasNoHole t Mirrored × (free_groups t < 2)
-    by true e is = absurd (true≢false (sym is))
-    by false e is = (no_hole t Mirrored e, (Decides-ltb (free_groups t) 2).0 is)
-
 -- there is one: a hole, or one in a group that may be opened
-lacks_not : (t : Tables) → (lacks_mirrored_slot t ≡ true → ⊥) → lacks_mirrored_slot t ≡ false
-lacks_not t never = by (lacks_mirrored_slot t) refl
-  where
-    by : (b : Bool) → lacks_mirrored_slot t ≡ b → lacks_mirrored_slot t ≡ false
-    by true e = absurd (never e)
-    by false e = e
-
-pub hole_offers : (t : Tables) (s : Slot) → IsHole t Mirrored s → lacks_mirrored_slot t ≡ false
-hole_offers t s hole = lacks_not t (λ lacks. (lacks_then t lacks).0.none s hole)
+pub hole_offers : (t : Tables) → has_hole t Mirrored ≡ true → lacks_mirrored_slot t ≡ false
+hole_offers t has = ap (λ b. if b then false else nat_lt (free_groups t) 2) has
 
 pub many_offer : (t : Tables) → 2 ≤ free_groups t → lacks_mirrored_slot t ≡ false
-many_offer t many = lacks_not t (λ lacks. let few = (lacks_then t lacks).1 in absurd (omega arith))
+many_offer t many = by (has_hole t Mirrored) (nat_lt (free_groups t) 2) refl
+  where
+    by : (b few : Bool) → nat_lt (free_groups t) 2 ≡ few
+        → (if b then false else nat_lt (free_groups t) 2) ≡ false
+    by true few e = refl
+    by false true e = absurd (let lt = (Decides-ltb (free_groups t) 2).0 e in omega arith)
+    by false false e = e

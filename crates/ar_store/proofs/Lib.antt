@@ -17,11 +17,9 @@ pub mod Accesses
 pub mod Costs
 pub mod SqueezeCosts
 pub mod Planned
-pub mod Deciding
 pub mod Gaps
 pub mod Overwriting
-pub mod PutPlans
-pub mod OnePlan
+pub mod Putting
 pub mod PutCosts
 pub mod DegradedCosts
 pub mod Copied

@@ -1,119 +1,96 @@
 -- What a put costs where none faults, and the extents that it uses are usable.
-use Rattle.std.proofs.Common.{◌≡◌, inl, inr, ℕ, List, [], ◌∷◌, ◌++◌, refl, sym, ◌∙◌, ap, arith}
+use Rattle.std.proofs.Common.{◌≡◌, ◌≢◌, List, [], ◌∷◌, ◌++◌, Option, None, Some, refl, sym, ◌∙◌, ap, subst}
 use Rattle.ar_disks.specs.declared.address.Key.{Key}
-use Rattle.ar_disks.specs.declared.address.Members.{Members}
-use Rattle.ar_disks.specs.declared.geometry.Geometry.{Geometry}
 use Rattle.ar_disks.specs.Geometry.{rows_of}
-use Rattle.ar_extents.specs.declared.health.Health.TheVariants.{Whole, Broken as AllBroken}
+use Rattle.ar_extents.specs.declared.health.Health.TheVariants.{Whole}
 use Rattle.ar_extents.specs.declared.log.AccessKind.{AccessKind}
 use Rattle.ar_extents.specs.declared.log.AccessKind.TheVariants.{Read, Write}
-use Rattle.ar_extents.specs.Plans.{AccessPlan, NoneFaults}
-use Rattle.ar_book.specs.declared.class.Class.TheVariants.{Mirrored, Parity}
+use Rattle.ar_extents.specs.Plans.{CarriesOut, NoneFaults}
+use Rattle.ar_book.specs.declared.class.Class.{Class}
+use Rattle.ar_book.specs.declared.class.Class.TheVariants.{Free, Mirrored, Parity}
+use Rattle.ar_book.specs.declared.class.Level.{Level}
+use Rattle.ar_book.specs.declared.class.Level.TheVariants.{Mirrored as MirroredLevel, Parity as ParityLevel}
 use Rattle.ar_book.specs.declared.class.Slot.{Slot}
-use Rattle.ar_book.specs.Tables.{slots_of}
-use Rattle.ar_mirror.specs.Slots.{one_of}
-use Rattle.ar_parity.specs.Row.{data_position}
-use Rattle.ar_disks.specs.Members.{member}
-use Rattle.ar_store.specs.Store.{StoreState, members_of}
-use Rattle.ar_store.specs.Plans.{slot_write, squeeze_plan, squeezing_plan, MakesAccesses, copies_kinds}
-use Rattle.ar_store.specs.Plans.{CarriesOutPut, NeedsNoSqueeze, GoesToMirrored, GoesToParity, write_as, WritesUsableAs}
-use Rattle.ar_store.specs.Plans.{IsPutPlan, in_place, to_mirrored_hole, to_opened_group, in_parity_place}
-use Rattle.ar_store.specs.Plans.{to_parity_hole, by_squeeze}
-use Rattle.ar_store.proofs.Costs.{kinds_of, makes, both_kinds, parity_kinds, mirrored_made, parity_made, not_failed}
+use Rattle.ar_book.specs.Tables.{home, level_in, level_of, slots_of}
+use Rattle.ar_store.specs.Store.{StoreState, members_of, class_in}
+use Rattle.ar_store.specs.Placing.{PutCase, InPlace, ToHole, ToNewGroup, BySqueeze, put_case, case_level, put_level}
+use Rattle.ar_store.specs.Placing.{lowest_group, lowest_hole}
+use Rattle.ar_store.specs.Plans.{slot_write, squeeze_plan, write_as, home_write, case_plan, put_plan, WritesUsableAs}
+use Rattle.ar_store.specs.Plans.{MakesAccesses, copies_kinds}
+use Rattle.ar_store.proofs.Costs.{kinds_of, makes, both_kinds, parity_kinds, mirrored_made, parity_made}
 use Rattle.ar_store.proofs.SqueezeCosts.{copies_are}
-use Rattle.ar_store.proofs.OnePlan.{put_carried}
-use Rattle.ar_store.proofs.Ways.{parity_not_mirrored, unplaced_not_mirrored, unplaced_not_parity}
+use Rattle.ar_store.proofs.Ways.{parity_not_mirrored}
 
-squeeze_are : (g : Geometry) (from to : Members) (slots : ℕ)
-    → kinds_of (squeezing_plan g from to slots) ≡ copies_kinds g (rows_of g) ++ parity_kinds
-squeeze_are g from to slots =
-    both_kinds (squeeze_plan g from to) (slot_write Parity g to slots) Whole
+-- the kinds of the accesses of a slot's write, by the level of its class
+write_kinds : Level → List AccessKind
+write_kinds MirroredLevel = Write ∷ Write ∷ []
+write_kinds ParityLevel = parity_kinds
+write_kinds _ = []
+
+class_kinds : (c : Class) (s : StoreState) (slot : Slot) → kinds_of (write_as c s slot) ≡ write_kinds (level_of c)
+unfolding write_kinds
+class_kinds Free s slot = refl
+class_kinds Mirrored s slot = refl
+class_kinds Parity s slot = refl
+
+home_kinds : (s : StoreState) (o : Option Slot)
+    → kinds_of (home_write s o) ≡ write_kinds (level_in s.book.groups o)
+unfolding write_kinds
+home_kinds s None = refl
+home_kinds s (Some slot) = class_kinds (class_in s slot.group) s slot
+
+-- of a put that needs no squeeze, by the level that the block is at then
+case_kinds : (s : StoreState) (k : Key) (c : PutCase) → c ≢ BySqueeze
+    → kinds_of (case_plan s k c) ≡ write_kinds (case_level s.book k c)
+unfolding write_kinds
+case_kinds s k InPlace direct = home_kinds s (home s.book k)
+case_kinds s k (ToHole c) direct = class_kinds c s (lowest_hole s.book c)
+case_kinds s k ToNewGroup direct = refl
+case_kinds s k BySqueeze direct = absurd (direct refl)
+
+squeeze_are : (s : StoreState) (k : Key)
+    → kinds_of (case_plan s k BySqueeze) ≡ copies_kinds s.disks.geometry (rows_of s.disks.geometry) ++ parity_kinds
+squeeze_are s k =
+    let g = s.disks.geometry in
+    let from = members_of s (lowest_group s.book Mirrored) in
+    let to = members_of s (lowest_group s.book Free) in
+    both_kinds (squeeze_plan g from to) (slot_write Parity g to (slots_of s.book.geometry Mirrored)) Whole
     ∙ ap (λ l. l ++ parity_kinds) (copies_are g from to (rows_of g))
 
--- the kinds of a put's accesses, by its case
-mirrored_by : (s : StoreState) (k : Key) (plan : AccessPlan) → IsPutPlan s k plan → GoesToMirrored s.book k
-    → kinds_of plan ≡ Write ∷ Write ∷ []
-mirrored_by s k _ (in_place _ _ slot at is) goes = refl
-mirrored_by s k _ (to_mirrored_hole _ _ slot low hole) goes = refl
-mirrored_by s k _ (to_opened_group _ _ g low none many free) goes = refl
-mirrored_by s k _ (in_parity_place _ _ slot at is none few) goes =
-    absurd (goes.way (λ high. parity_not_mirrored (sym at ∙ high)) none few)
-mirrored_by s k _ (to_parity_hole _ _ slot at none few hole) goes =
-    absurd (goes.way (λ high. unplaced_not_mirrored (sym at ∙ high)) none few)
-mirrored_by s k _ (by_squeeze _ _ from to at none full few is_from is_to) goes =
-    absurd (goes.way (λ high. unplaced_not_mirrored (sym at ∙ high)) none few)
+module _ (old new : StoreState) (k : Key) (none : NoneFaults old.disks new.disks)
+    (carried : CarriesOut (put_plan old k) old.disks new.disks) where
+  pub put_to_mirrored : old.disks.health ≡ Whole → put_level old.book k ≡ MirroredLevel
+      → MakesAccesses (Write ∷ Write ∷ []) old.disks new.disks
+  unfolding write_kinds
+  put_to_mirrored whole at =
+      makes (put_plan old k) (Write ∷ Write ∷ []) old.disks new.disks whole none carried
+      (case_kinds old k (put_case old.book k)
+      (λ is. parity_not_mirrored (sym (ap (case_level old.book k) is) ∙ at)) ∙ ap write_kinds at)
 
-parity_by : (s : StoreState) (k : Key) (plan : AccessPlan) → IsPutPlan s k plan → GoesToParity s.book k
-    → NeedsNoSqueeze s.book k
-    → kinds_of plan ≡ parity_kinds
-parity_by s k _ (in_place _ _ slot at is) goes needs = absurd (goes.low at)
-parity_by s k _ (to_mirrored_hole _ _ slot low hole) goes needs = absurd (goes.none.none slot hole.hole)
-parity_by s k _ (to_opened_group _ _ g low none many free) goes needs = absurd (let few = goes.few in omega arith)
-parity_by s k _ (in_parity_place _ _ slot at is none few) goes needs = refl
-parity_by s k _ (to_parity_hole _ _ slot at none few hole) goes needs = refl
-parity_by s k _ (by_squeeze _ _ from to at none full few is_from is_to) goes needs = absurd (needs.way at none full few)
+  pub put_to_parity : old.disks.health ≡ Whole → put_level old.book k ≡ ParityLevel → put_case old.book k ≢ BySqueeze
+      → MakesAccesses (Read ∷ Read ∷ Write ∷ Write ∷ []) old.disks new.disks
+  unfolding write_kinds
+  put_to_parity whole at direct =
+      makes (put_plan old k) parity_kinds old.disks new.disks whole none carried
+      (case_kinds old k (put_case old.book k) direct ∙ ap write_kinds at)
 
-squeeze_by : (s : StoreState) (k : Key) (plan : AccessPlan) → IsPutPlan s k plan → GoesToParity s.book k
-    → (NeedsNoSqueeze s.book k → ⊥)
-    → kinds_of plan ≡ copies_kinds s.disks.geometry (rows_of s.disks.geometry) ++ parity_kinds
-squeeze_by s k _ (in_place _ _ slot at is) goes needs = absurd (goes.low at)
-squeeze_by s k _ (to_mirrored_hole _ _ slot low hole) goes needs = absurd (goes.none.none slot hole.hole)
-squeeze_by s k _ (to_opened_group _ _ g low none many free) goes needs = absurd (let few = goes.few in omega arith)
-squeeze_by s k _ (in_parity_place _ _ slot at is none few) goes needs =
-    absurd (needs (record { way = λ unplaced n full f. unplaced_not_parity (sym unplaced ∙ at) }))
-squeeze_by s k _ (to_parity_hole _ _ slot at none few hole) goes needs =
-    absurd (needs (record { way = λ unplaced n full f. full.none slot hole.hole }))
-squeeze_by s k _ (by_squeeze _ _ from to at none full few is_from is_to) goes needs =
-    squeeze_are s.disks.geometry _ _ (slots_of s.book.geometry Mirrored)
+  pub put_squeezing : old.disks.health ≡ Whole → put_case old.book k ≡ BySqueeze
+      → MakesAccesses (copies_kinds old.disks.geometry (rows_of old.disks.geometry)
+      ++ Read ∷ Read ∷ Write ∷ Write ∷ []) old.disks new.disks
+  put_squeezing whole is =
+      makes (put_plan old k) (copies_kinds old.disks.geometry (rows_of old.disks.geometry) ++ parity_kinds) old.disks
+      new.disks whole none carried (ap (λ c. kinds_of (case_plan old k c)) is ∙ squeeze_are old k)
 
-put_by : (old new : StoreState) (k : Key) (kinds : List AccessKind) → old.disks.health ≡ Whole
-    → NoneFaults old.disks new.disks
-    → CarriesOutPut old k new → ((plan : AccessPlan) → IsPutPlan old k plan → kinds_of plan ≡ kinds)
-    → MakesAccesses kinds old.disks new.disks
-put_by old new k kinds whole none put are = elim put.one [
-  | inl was ↦ absurd (let k : Whole ≡ AllBroken = sym whole ∙ was.was in cc)
-  | inr by ↦ makes by.plan kinds old.disks new.disks whole none by.carried (are by.plan by.is_plan)
-]
+  -- a put to a slot whose two extents are usable, whichever disk is missing
+  pub put_to_mirrored_slot : (slot : Slot) → WritesUsableAs Mirrored old slot
+      → put_plan old k ≡ write_as Mirrored old slot → MakesAccesses (Write ∷ Write ∷ []) old.disks new.disks
+  put_to_mirrored_slot slot usable is =
+      mirrored_made old.disks new.disks (members_of old slot.group) slot.slot usable none
+      (subst (λ p. CarriesOut p old.disks new.disks) is carried)
 
-pub put_to_mirrored : (old new : StoreState) (k : Key) → old.disks.health ≡ Whole → NoneFaults old.disks new.disks
-    → CarriesOutPut old k new
-    → GoesToMirrored old.book k → MakesAccesses (Write ∷ Write ∷ []) old.disks new.disks
-put_to_mirrored old new k whole none put goes =
-    put_by old new k (Write ∷ Write ∷ []) whole none put (λ plan is. mirrored_by old k plan is goes)
-
-pub put_to_parity : (old new : StoreState) (k : Key) → old.disks.health ≡ Whole → NoneFaults old.disks new.disks
-    → CarriesOutPut old k new
-    → GoesToParity old.book k → NeedsNoSqueeze old.book k
-    → MakesAccesses (Read ∷ Read ∷ Write ∷ Write ∷ []) old.disks new.disks
-put_to_parity old new k whole none put goes needs =
-    put_by old new k parity_kinds whole none put (λ plan is. parity_by old k plan is goes needs)
-
-pub put_squeezing : (old new : StoreState) (k : Key) → old.disks.health ≡ Whole → NoneFaults old.disks new.disks
-    → CarriesOutPut old k new
-    → GoesToParity old.book k → (NeedsNoSqueeze old.book k → ⊥)
-    → MakesAccesses (copies_kinds old.disks.geometry (rows_of old.disks.geometry)
-    ++ Read ∷ Read ∷ Write ∷ Write ∷ []) old.disks new.disks
-put_squeezing old new k whole none put goes needs =
-    put_by old new k (copies_kinds old.disks.geometry (rows_of old.disks.geometry) ++ parity_kinds) whole none put
-    (λ plan is. squeeze_by old k plan is goes needs)
-
--- a put to a slot whose two extents are usable, whichever disk is missing
-pub put_to_mirrored_slot : (old new : StoreState) (k : Key) (slot : Slot) → WritesUsableAs Mirrored old slot
-    → NoneFaults old.disks new.disks
-    → CarriesOutPut old k new → IsPutPlan old k (write_as Mirrored old slot)
-    → MakesAccesses (Write ∷ Write ∷ []) old.disks new.disks
-put_to_mirrored_slot old new k slot usable none put is =
-    let m = members_of old slot.group in
-    let sound = not_failed old.disks.health (one_of old.disks.geometry m slot.slot) usable.0 in
-    mirrored_made old.disks new.disks m slot.slot usable none
-    (put_carried old new k (write_as Mirrored old slot) sound put is)
-
-pub put_to_parity_slot : (old new : StoreState) (k : Key) (slot : Slot) → WritesUsableAs Parity old slot
-    → NoneFaults old.disks new.disks
-    → CarriesOutPut old k new → IsPutPlan old k (write_as Parity old slot)
-    → MakesAccesses (Read ∷ Read ∷ Write ∷ Write ∷ []) old.disks new.disks
-put_to_parity_slot old new k slot usable none put is =
-    let m = members_of old slot.group in
-    let sound = not_failed old.disks.health (member m (data_position slot.slot)) usable.0 in
-    parity_made old.disks new.disks m slot.slot usable none
-    (put_carried old new k (write_as Parity old slot) sound put is)
+  pub put_to_parity_slot : (slot : Slot) → WritesUsableAs Parity old slot
+      → put_plan old k ≡ write_as Parity old slot
+      → MakesAccesses (Read ∷ Read ∷ Write ∷ Write ∷ []) old.disks new.disks
+  put_to_parity_slot slot usable is =
+      parity_made old.disks new.disks (members_of old slot.group) slot.slot usable none
+      (subst (λ p. CarriesOut p old.disks new.disks) is carried)

@@ -1,6 +1,6 @@
 -- A store of which a disk is replaced: none of its extents is used before it is rebuilt, as none was while it was out.
-use Rattle.std.proofs.Common.{◌≡◌, ◌≢◌, inl, inr, ℕ, Bool, true, false, eqb, leb, ◌&&◌, List, Result, Ok, Err, OnOk}
-use Rattle.std.proofs.Common.{OnErr, None, refl, sym, ap, subst, ◌∙◌, true≢false, arith}
+use Rattle.std.proofs.Common.{◌≡◌, ◌≢◌, inl, inr, ℕ, Bool, true, false, eqb, leb, ◌&&◌, List}
+use Rattle.std.proofs.Common.{None, refl, sym, ap, ◌∙◌, true≢false, arith}
 use Rattle.std.proofs.lemmas.Bool.{le-leb}
 use Rattle.std.proofs.lemmas.Bool.Decides.{eqb_tells}
 use Rattle.std.proofs.lemmas.List.{length-set}
@@ -68,10 +68,3 @@ module _ (s : SetState) (t : Tables) (d : ℕ) (disk : DiskState) (taken : repla
   all_replaced space =
       all_alike s (replaced s d disk) t space (replaced_shape s d disk) slots_replaced
       (λ sound. out_sound s d (taken_out s d disk taken))
-
--- a call of the disks that is refused, or leaves what it says
-pub after_replacing : {A E : Type 0} (r : Result A E) (P : SetState
-    → Type 0) (Taken : Type 0) (old new changed : SetState) → OnOk r Taken → OnOk r (new ≡ changed)
-    → OnErr r (new ≡ old) → (Taken → P changed) → P old → P new
-after_replacing (Ok x) P Taken old new changed taken is same then before = subst P (sym is) (then taken)
-after_replacing (Err e) P Taken old new changed taken is same then before = subst P (sym same) before

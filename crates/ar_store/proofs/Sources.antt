@@ -18,6 +18,7 @@ use Rattle.ar_extents.specs.Follows.{Follows, Keeps, Anywhere}
 use Rattle.ar_extents.specs.Groups.{IsOutside}
 use Rattle.ar_extents.specs.Plans.{Stop, stops, both_of, CarriesOut}
 use Rattle.ar_extents.proofs.Plans.{both_carried, carries_broken}
+use Rattle.ar_mirror.specs.Holds.{Holds as MirrorHolds}
 use Rattle.ar_mirror.specs.Plans.{mirror_read}
 use Rattle.ar_mirror.proofs.Frames.{read_holds as mirror_read_holds, disjoint_holds as mirror_disjoint}
 use Rattle.ar_parity.specs.Group.{Holds as ParityHolds, HoldsStripe, KeepsButRow}
@@ -67,28 +68,25 @@ module _ (m : Members) (row : ℕ) (a b c : SetState) (ab : Follows a b)
         sources_then d (subst (λ (x : Geometry). CarriesOut (source_read x m (3 * row + 2)) c d)
         (bc.geometry ∙ ab.geometry) three)
 
--- a slot's block stays the same over reads, and over writes of other extents
-pub source_read_on : (m : Members) (i : ℕ) (a b : SetState) (block : List ℕ) → Follows a b → Keeps Anywhere a b
-    → IsSource m i a block → IsSource m i b block
-source_read_on m i a b block ab keeps source = record {
-  held = λ lt.
-      mirror_read_holds a b m i block ab keeps
-      (source.held (subst (λ (g : Geometry). i < slots_of g Mirrored) ab.geometry lt));
+-- a slot's block stays the same where the mirrored slot holds what it held: over reads, and writes of other extents
+source_on : (m : Members) (i : ℕ) (a b : SetState) (block : List ℕ) → b.geometry ≡ a.geometry
+    → (MirrorHolds a m i block → MirrorHolds b m i block) → IsSource m i a block → IsSource m i b block
+source_on m i a b block same still source = record {
+  held = λ lt. still (source.held (subst (λ (g : Geometry). i < slots_of g Mirrored) same lt));
   zero = λ le.
-      source.zero (subst (λ (g : Geometry). slots_of g Mirrored ≤ i) ab.geometry le)
-      ∙ ap (λ (g : Geometry). zeros (block_len_of g)) (sym ab.geometry);
+      source.zero (subst (λ (g : Geometry). slots_of g Mirrored ≤ i) same le)
+      ∙ ap (λ (g : Geometry). zeros (block_len_of g)) (sym same);
 }
 
-pub source_written_on : (m n : Members) (i : ℕ) (a b : SetState) (block : List ℕ) → Follows a b
+source_read_on : (m : Members) (i : ℕ) (a b : SetState) (block : List ℕ) → Follows a b → Keeps Anywhere a b
+    → IsSource m i a block → IsSource m i b block
+source_read_on m i a b block ab keeps =
+    source_on m i a b block ab.geometry (mirror_read_holds a b m i block ab keeps)
+
+source_written_on : (m n : Members) (i : ℕ) (a b : SetState) (block : List ℕ) → Follows a b
     → Keeps (IsOutside n) a b → AreDisjoint m n → IsSource m i a block → IsSource m i b block
-source_written_on m n i a b block ab keeps apart source = record {
-  held = λ lt.
-      mirror_disjoint a b m n i block ab keeps apart
-      (source.held (subst (λ (g : Geometry). i < slots_of g Mirrored) ab.geometry lt));
-  zero = λ le.
-      source.zero (subst (λ (g : Geometry). slots_of g Mirrored ≤ i) ab.geometry le)
-      ∙ ap (λ (g : Geometry). zeros (block_len_of g)) (sym ab.geometry);
-}
+source_written_on m n i a b block ab keeps apart =
+    source_on m i a b block ab.geometry (mirror_disjoint a b m n i block ab keeps apart)
 
 -- what three reads give
 pub sources_given : (o : Completion) (m : Members) (row : ℕ) (a b c : SetState) (x y z : List ℕ) → Follows a b
@@ -106,33 +104,28 @@ sources_given Done m row a b c x y z ab keeps_ab bc keeps_bc one two three = rec
       (source_read_on m (3 * row + 2) a b block ab keeps_ab source));
 }
 
--- the stripe was written with what was read
+-- a slot was written with the block that was read for it
+copied_as : (from to : Members) (i : ℕ) (a c : SetState) (bytes x : List ℕ) → bytes ≡ x
+    → ((block : List ℕ) → IsSource from i a block → x ≡ block) → ParityHolds c to i bytes → HoldsSource from to a c i
+copied_as from to i a c bytes x is gives holds = record {
+  holds = λ block source. subst (λ (y : List ℕ). ParityHolds c to i y) (is ∙ gives block source) holds;
+}
+
+-- and so the stripe
 pub stripe_copied : (from to : Members) (row : ℕ) (a c : SetState) (x y z u v w : List ℕ)
     → AreSources from row a x y z → u ≡ x → v ≡ y → w ≡ z → HoldsStripe c to row u v w
     → (slot : ℕ) → row_of slot ≡ row → HoldsSource from to a c slot
 stripe_copied from to row a c x y z u v w sources is_u is_v is_w holds slot here =
     let P : ℕ → Type 0 = λ i. HoldsSource from to a c i in
     elim (eqb_tells slot (3 * row)) [
-      | inl same ↦ subst P (sym same.1) (record {
-        holds = λ block source.
-            subst (λ (bytes : List ℕ). ParityHolds c to (3 * row) bytes) (is_u ∙ sources.first block source)
-            holds.first;
-      })
+      | inl same ↦ subst P (sym same.1) (copied_as from to (3 * row) a c u x is_u sources.first holds.first)
       | inr first ↦ elim (eqb_tells slot (3 * row + 1)) [
-        | inl same ↦ subst P (sym same.1) (record {
-          holds = λ block source.
-              subst (λ (bytes : List ℕ). ParityHolds c to (3 * row + 1) bytes) (is_v ∙ sources.second block source)
-              holds.second;
-        })
+        | inl same ↦ subst P (sym same.1) (copied_as from to (3 * row + 1) a c v y is_v sources.second holds.second)
         | inr second ↦
             let not_first = first.1 in
             let not_second = second.1 in
             let last : slot ≡ 3 * row + 2 = omega arith in
-            subst P (sym last) (record {
-              holds = λ block source.
-                  subst (λ (bytes : List ℕ). ParityHolds c to (3 * row + 2) bytes) (is_w ∙ sources.third block source)
-                  holds.third;
-            })
+            subst P (sym last) (copied_as from to (3 * row + 2) a c w z is_w sources.third holds.third)
       ]
     ]
 

@@ -1,5 +1,5 @@
 -- A store whose units are made, grow, are dropped, or lose their mark: its blocks stand as they did.
-use Rattle.std.proofs.Common.{◌≡◌, ◌≢◌, inl, inr, ℕ, ◌<◌, ◌≤◌, List, [], get_or, is_some, Option, None, Some, IsSome}
+use Rattle.std.proofs.Common.{◌≡◌, ◌≢◌, inl, inr, ℕ, ◌≤◌, List, [], get_or, is_some, Option, None, Some, IsSome}
 use Rattle.std.proofs.Common.{Result, Ok, Err, OnOk, OnErr, IsOk, IsTrue, ◌↔◌, refl, sym, ap, subst, ◌∙◌, true≢false}
 use Rattle.std.proofs.Common.{arith}
 use Rattle.std.specs.Map.{lookup}
@@ -12,17 +12,15 @@ use Rattle.ar_disks.specs.declared.geometry.Geometry.{Geometry}
 use Rattle.ar_disks.specs.Geometry.{block_len_of}
 use Rattle.ar_disks.specs.Block.{zeros}
 use Rattle.ar_extents.specs.Set.{SetState}
-use Rattle.ar_book.specs.declared.class.Class.TheVariants.{Free, Parity}
 use Rattle.ar_book.specs.declared.class.Slot.{Slot}
 use Rattle.ar_disks.specs.Addresses.{same_addr}
-use Rattle.ar_book.specs.Tables.{UnitTableState, Tables, is_free, no_unit, has_unit, group_in, class_of, key_at, home}
+use Rattle.ar_book.specs.Tables.{UnitTableState, Tables, no_unit, has_unit, key_at, home}
 use Rattle.ar_book.specs.Tables.{free_groups, key_in, HasBlock}
 use Rattle.ar_book.specs.Changes.{made, grown, dropped, released, unmarked, vacated}
 use Rattle.ar_book.specs.Refusals.{unit_make_refusal, unit_grow_refusal}
 use Rattle.ar_book.specs.Book.{TablesAgree}
 use Rattle.ar_disks.proofs.Addresses.{addr_tells}
 use Rattle.ar_book.proofs.Homes.{home_key}
-use Rattle.ar_book.proofs.GroupLemmas.{KeepsClass}
 use Rattle.ar_book.proofs.AfterMake.{made_home, made_agrees, grown_home, grown_agrees, unmarked_home, unmarked_agrees}
 use Rattle.ar_book.proofs.DropLemmas.{dropped_home_own, dropped_home_other, dropped_key_empty, dropped_key_own}
 use Rattle.ar_book.proofs.DropLemmas.{dropped_key_other, dropped_group_count, dropped_members, dropped_class}
@@ -37,7 +35,7 @@ use Rattle.ar_store.specs.Slots.{HoldsBlock, stands}
 use Rattle.ar_store.specs.Kept.{IsSpace, FieldsAgree}
 use Rattle.ar_store.specs.Placing.{SameUnits}
 use Rattle.ar_store.proofs.Standing.{stands_same, stands_nowhere, block_same}
-use Rattle.ar_store.proofs.Changes.{extents_same}
+use Rattle.ar_store.proofs.Changes.{extents_same, space_changed}
 
 -- the disks and the blocks that calls work in stay as they are, and no fewer groups are free
 pub fields_same : (a : SetState) (t u : Tables) (block : List ℕ) (g : Geometry) → FieldsAgree (store_of a t) block g
@@ -101,32 +99,11 @@ module _ (a : SetState) (t : Tables) (b : Addr) (space : IsSpace (store_of a t))
         | inr other ↦ space.named slot k was
       ]
 
-  -- and a group that has parity had it before
-  parity_before : (g : ℕ) → KeepsClass (class_of t g) (group_in (dropped t b).groups g)
-      → class_of (dropped t b) g ≡ Parity
-      → class_of t g ≡ Parity
-  parity_before g (inl same) is = sym same ∙ is
-  parity_before g (inr free) is = absurd (free_not_parity (sym free.0 ∙ is))
-    where
-      free_not_parity : Free ≢ Parity
-      free_not_parity e = true≢false (ap is_free e)
-
   pub space_dropped : IsSome (lookup (same_addr b) t.units) → IsSpace (store_of a (dropped t b))
   space_dropped there =
       let ok = space.tables in
-      let u : Tables = dropped t b in
-      record {
-        geometry = space.geometry;
-        tables = dropped_agrees t b ok there;
-        extents = extents_same a t u space (dropped_group_count t b ok) (dropped_members t b ok);
-        named = λ slot j names.
-            block_same a t u slot (dropped_class_named t b ok slot j names) (dropped_members t b ok slot.group)
-            (held_before slot j names);
-        parity = λ slot inside is lt.
-            let before = parity_before slot.group (dropped_class t b ok slot.group) is in
-            block_same a t u slot (is ∙ sym before) (dropped_members t b ok slot.group)
-            (space.parity slot (subst (λ n. slot.group < n) (dropped_group_count t b ok) inside) before lt);
-      }
+      space_changed a t (dropped t b) space refl (dropped_agrees t b ok there) (dropped_group_count t b ok)
+      (dropped_members t b ok) (dropped_class t b ok) (dropped_class_named t b ok) held_before
 
   pub free_dropped : free_groups t ≤ free_groups (dropped t b)
   free_dropped = dropped_free_groups t b space.tables
@@ -159,31 +136,10 @@ module _ (a : SetState) (t : Tables) (k : Key) (space : IsSpace (store_of a t)) 
   held_still : (slot : Slot) (j : Key) → key_at (released t k) slot ≡ Some j → HoldsBlock (store_of a t) slot
   held_still slot j names = space.named slot j (named_before t k space.tables block slot j names)
 
-  -- and a group that has parity had it before
-  parity_still : (g : ℕ) → KeepsClass (class_of t g) (group_in (released t k).groups g)
-      → class_of (released t k) g ≡ Parity
-      → class_of t g ≡ Parity
-  parity_still g (inl same) is = sym same ∙ is
-  parity_still g (inr free) is = absurd (free_not_parity (sym free.0 ∙ is))
-    where
-      free_not_parity : Free ≢ Parity
-      free_not_parity e = true≢false (ap is_free e)
-
   pub space_released : IsSpace (store_of a (released t k))
   space_released =
-      let u : Tables = released t k in
-      record {
-        geometry = space.geometry;
-        tables = released_agrees t k space.tables block;
-        extents = extents_same a t u space (released_group_count t k) (released_members t k);
-        named = λ slot j names.
-            block_same a t u slot (released_class_named t k slot j names) (released_members t k slot.group)
-            (held_still slot j names);
-        parity = λ slot inside is lt.
-            let before = parity_still slot.group (released_class t k slot.group) is in
-            block_same a t u slot (is ∙ sym before) (released_members t k slot.group)
-            (space.parity slot (subst (λ n. slot.group < n) (released_group_count t k) inside) before lt);
-      }
+      space_changed a t (released t k) space refl (released_agrees t k space.tables block) (released_group_count t k)
+      (released_members t k) (released_class t k) (released_class_named t k) held_still
 
   -- every other block stands as it did
   pub others_released : (j : Key) → j ≢ k → stands (store_of a (released t k)) j ≡ stands (store_of a t) j
@@ -217,12 +173,6 @@ home_absent t b k absent own =
     by : (o : Option UnitTableState) → lookup (same_addr k.addr) t.units ≡ o → home t k ≡ None
     by None is = ap (λ o. get_or (unwrap_or o no_unit).homes k.rb None) is ∙ get_or_past [] k.rb None (omega arith)
     by (Some u) is = absurd (absent (ap (λ c. is_some (lookup (same_addr c) t.units)) (sym own) ∙ ap is_some is))
-
--- a call of the book that leaves its tables alone where it is refused
-pub after_call : {A E : Type 0} (r : Result A E) (P : Tables → Type 0) (Q : Type 0) (old new changed : Tables)
-    → OnOk r (new ≡ changed) → OnErr r (new ≡ old) → OnOk r Q → (Q → P changed) → P old → P new
-after_call (Ok x) P Q old new changed is same granted then before = subst P (sym is) (then granted)
-after_call (Err e) P Q old new changed is same granted then before = subst P (sym same) before
 
 -- what follows where a call is not refused
 pub on_ok : {A E : Type 0} (r : Result A E) (Q : Type 0) → (IsOk r → Q) → OnOk r Q

@@ -1,5 +1,5 @@
 -- What calls return, and what they leave unchanged.
-use Rattle.std.specs.Prelude.{◌≡◌, ◌≢◌, ℕ, ◌+◌, ◌*◌, ◌≤◌, ◌<◌, ◌⊎◌, None}
+use Rattle.std.specs.Prelude.{◌≡◌, ◌≢◌, ℕ, ◌+◌, ◌*◌, ◌≤◌, ◌<◌, ◌⊎◌}
 use Rattle.ar_disks.specs.Block.{zeros}
 use Rattle.ar_disks.specs.Geometry.{rows_of, block_len_of}
 use Rattle.ar_disks.specs.declared.address.Key.{Key}
@@ -7,19 +7,18 @@ use Rattle.ar_extents.specs.Set.{SetState, IsLost}
 use Rattle.ar_extents.specs.Follows.{Follows, Keeps}
 use Rattle.ar_extents.specs.declared.health.Health.TheVariants.{Broken as AllBroken}
 use Rattle.ar_book.specs.declared.class.Class.{Class}
-use Rattle.ar_book.specs.declared.class.Class.TheVariants.{Mirrored, Parity}
+use Rattle.ar_book.specs.declared.class.Class.TheVariants.{Free, Mirrored, Parity}
 use Rattle.ar_book.specs.declared.class.Slot.{Slot}
 use Rattle.ar_book.specs.Tables.{Tables, home, slots_of, free_groups}
 use Rattle.ar_book.specs.Changes.{opened, slot_at}
-use Rattle.ar_book.specs.Choices.{IsFullMirrored, IsLowestFree}
+use Rattle.ar_book.specs.Choices.{IsLowestFree}
 use Rattle.ar_store.specs.declared.open.Opening.{Opening}
 use Rattle.ar_store.specs.declared.open.Opening.TheVariants.{Opened, Idle, Broken as NotOpened}
 use Rattle.ar_store.specs.declared.way.Way.{Way}
 use Rattle.ar_store.specs.declared.way.Way.TheVariants.{Home, Hole, Broken as NoWay}
 use Rattle.ar_store.specs.Store.{StoreState, class_in}
 use Rattle.ar_store.specs.Slots.{SlotHolds, BesideHold}
-use Rattle.ar_store.specs.Placing.{HasNoHole, HasNoWay, SameUnits, MayHavePrepared, LeavesOpened, IsSqueezed}
-use Rattle.ar_store.specs.Placing.{HasSqueezed}
+use Rattle.ar_store.specs.Placing.{SameUnits, IsVacant, MayHavePrepared, lowest_group, prepared, put_case, BySqueeze}
 
 -- Rows were read and written: disks failed only by faults, and unassigned extents stay so. An extent that isn't used,
 -- on a failed disk or not rebuilt yet, keeps its rows: only the rebuild writes them.
@@ -33,13 +32,11 @@ pub record StoreFollows (old new : StoreState) : Type 0 where
   pub units : SameUnits old.book new.book
   pub accessed : IsAccessed old.disks new.disks
 
--- What a put leaves on a failed array: the block keeps its old home; the tables are unchanged, or prepared for it by a
--- group that was opened, which stays open, or by a whole squeeze; and an array that had failed before is unchanged. If
--- the array failed in the squeeze, the tables are unchanged (`Squeezes`).
+-- What a put leaves on a failed array: the block keeps its old home; the tables are prepared for it, or unchanged, as
+-- the array failed in the squeeze; and an array that had failed before is unchanged.
 pub record BreaksPut (old : StoreState) (k : Key) (new : StoreState) : Type 0 where
   pub unmoved : home new.book k ≡ home old.book k
-  pub prepared : MayHavePrepared old.book k new.book
-  pub opened : old.disks.health ≢ AllBroken → LeavesOpened old.book k new.book
+  pub tables : old.disks.health ≢ AllBroken → MayHavePrepared old.book k new.book
   pub lost : old.disks.health ≡ AllBroken → new ≡ old
 
 -- a group was opened: the lowest free one of at least two
@@ -75,11 +72,8 @@ pub record HoldsZerosFrom (s : StoreState) (group first : ℕ) : Type 0 where
 
 -- After a put that needed a squeeze each slot after the block's own holds the zero block.
 pub record LeavesZeros (old : StoreState) (k : Key) (new : StoreState) : Type 0 where
-  pub after :
-      (from to : ℕ) → home old.book k ≡ None → HasNoHole old.book Mirrored → HasNoHole old.book Parity
-      → free_groups old.book < 2
-      → IsFullMirrored old.book from → IsLowestFree old.book to
-      → HoldsZerosFrom new to (slots_of old.book.geometry Mirrored + 1)
+  pub after : put_case old.book k ≡ BySqueeze
+      → HoldsZerosFrom new (lowest_group old.book Free) (slots_of old.book.geometry Mirrored + 1)
 
 -- the slot is in a parity group, each of whose slots from this one on holds the zero block
 pub record IsZerosFrom (s : StoreState) (slot : Slot) : Type 0 where
@@ -89,8 +83,9 @@ pub record IsZerosFrom (s : StoreState) (slot : Slot) : Type 0 where
 -- A squeeze was made: all blocks of the full mirrored group have moved to the only free one, after them is this hole,
 -- from which on each slot holds the zero block, and a group is free again.
 pub record LeavesHole (old new : StoreState) (s : Slot) : Type 0 where
-  pub squeezed : IsSqueezed old.book new.book s
-  pub made : HasSqueezed old.book new.book
+  pub slot : s ≡ slot_at (lowest_group old.book Free) (slots_of old.book.geometry Mirrored)
+  pub tables : new.book ≡ prepared old.book BySqueeze
+  pub empty : IsVacant new.book s
   pub free : 0 < free_groups new.book
   pub zeros : IsZerosFrom new s
 
@@ -100,10 +95,10 @@ pub record BreaksSqueeze (old new : StoreState) : Type 0 where
   pub unmoved : new.book ≡ old.book
 
 -- a slot that a squeeze has made for a block is such a one
-abbrev pub IsZerosOnWay : Tables → Key → StoreState → Way → Type 0
-IsZerosOnWay t k new (Home s) = Unit {0}
-IsZerosOnWay t k new (Hole s) = HasNoWay t k t → IsZerosFrom new s
-IsZerosOnWay t k new NoWay = Unit {0}
+abbrev pub IsZerosOnWay : StoreState → Way → Type 0
+IsZerosOnWay new (Home s) = Unit {0}
+IsZerosOnWay new (Hole s) = IsZerosFrom new s
+IsZerosOnWay new NoWay = Unit {0}
 
 -- if a hole was written, the other slots of its group keep their blocks
 abbrev pub BesideWay : Way → StoreState → StoreState → Type 0

@@ -5,7 +5,7 @@ use Rattle.ar_disks.specs.declared.geometry.Geometry.{Geometry}
 use Rattle.ar_disks.specs.Members.{member}
 use Rattle.ar_disks.specs.declared.address.Key.{Key}
 use Rattle.ar_extents.specs.declared.health.Health.TheVariants.{Broken}
-use Rattle.ar_extents.specs.Set.{HasExtent}
+use Rattle.ar_extents.specs.Set.{SetState, HasExtent}
 use Rattle.ar_extents.specs.Loose.{is_loose}
 use Rattle.ar_book.specs.declared.class.Class.TheVariants.{Parity}
 use Rattle.ar_book.specs.declared.class.Slot.{Slot}
@@ -35,6 +35,11 @@ pub record IsSpace (s : StoreState) : Type 0 where
 pub record IsKept (s : StoreState) : Type 0 where
   pub space : IsSpace s
   pub free : s.disks.health ≢ Broken → 0 < free_groups s.book
+
+-- the buffers of a call on the disks have their geometry
+pub record BuffersFit (s : SetState) (block : List ℕ) (scratch : Geometry) : Type 0 where
+  pub block_len : length block ≡ block_len_of s.geometry
+  pub scratch_same : scratch ≡ s.geometry
 
 -- the buffers of the calls have the geometry of the disks
 pub record FieldsAgree (s : StoreState) (block : List ℕ) (scratch : Geometry) : Type 0 where

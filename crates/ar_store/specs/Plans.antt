@@ -1,5 +1,5 @@
 -- What calls access, as plans: reads and writes of slots, one after another, of puts, and of squeezes.
-use Rattle.std.specs.Prelude.{◌≡◌, ◌≢◌, ◌⊎◌, ℕ, zero, suc, ◌+◌, ◌*◌, List, [], ◌∷◌, ◌++◌, map, ◌<◌, ◌≤◌}
+use Rattle.std.specs.Prelude.{◌≡◌, ◌≢◌, ◌⊎◌, ℕ, zero, suc, ◌+◌, ◌*◌, List, [], ◌∷◌, ◌++◌, map, ◌<◌}
 use Rattle.std.specs.Prelude.{Option, None, Some, nat_lt, if◌then◌else◌}
 use Rattle.ar_disks.specs.Block.{zeros}
 use Rattle.ar_disks.specs.Geometry.{rows_of, block_len_of}
@@ -19,16 +19,15 @@ use Rattle.ar_parity.specs.Plans.{parity_read, parity_write, stripe_writes, stri
 use Rattle.ar_parity.specs.Row.{row_of, data_position, parity_position}
 use Rattle.ar_book.specs.declared.class.Class.{Class}
 use Rattle.ar_book.specs.declared.class.Class.TheVariants.{Free, Mirrored, Parity}
-use Rattle.ar_book.specs.declared.class.Level.TheVariants.{Unplaced, Mirrored as MirroredLevel, Parity as ParityLevel}
 use Rattle.ar_book.specs.declared.class.Slot.{Slot}
-use Rattle.ar_book.specs.Tables.{Tables, home, level, slots_of, free_groups}
-use Rattle.ar_book.specs.Choices.{IsLowestFree, IsFullMirrored}
+use Rattle.ar_book.specs.Tables.{home, slots_of}
 use Rattle.ar_book.specs.Changes.{slot_at}
 use Rattle.ar_store.specs.declared.way.Way.{Way}
 use Rattle.ar_store.specs.declared.way.Way.TheVariants.{Home, Hole, Broken}
 use Rattle.ar_store.specs.Store.{StoreState, members_of, class_in}
 use Rattle.ar_store.specs.Slots.{ClassHolds, HoldsSources}
-use Rattle.ar_store.specs.Placing.{squeezed, HasNoHole, HasNoWay, IsLowestHole}
+use Rattle.ar_store.specs.Placing.{squeezed, lowest_hole, lowest_group, put_case, PutCase}
+use Rattle.ar_store.specs.Placing.{InPlace, ToHole, ToNewGroup, BySqueeze}
 use Rattle.ar_store.specs.Calls.{WasBroken}
 
 -- the read of a slot of four extents in the layout of a class, and its write
@@ -200,88 +199,53 @@ pub record SqueezesThenWrites (from to : ℕ) (old new : StoreState) : Type 0 wh
   pub writes : WritesSlot Parity between.disks new.disks (members_of old to) (slots_of old.book.geometry Mirrored)
   pub unwritten : new.disks.health ≡ AllBroken → new.book ≡ between.book
 
--- What a put accesses, by the cases of `Puts`: its slot is written, after a squeeze in the last case. An array that had
--- failed before squeezes nothing.
-pub record AccessesByCase (old : StoreState) (k : Key) (new : StoreState) : Type 0 where
-  pub mirrored : (s : Slot) → level old.book k ≡ MirroredLevel → home old.book k ≡ Some s
-      → WritesSlotOf Mirrored s old new
-  pub mirrored_hole : (s : Slot) → level old.book k ≢ MirroredLevel → IsLowestHole old.book Mirrored s
-      → WritesSlotOf Mirrored s old new
-  pub opened_group : (g : ℕ) → level old.book k ≢ MirroredLevel → HasNoHole old.book Mirrored
-      → 2 ≤ free_groups old.book → IsLowestFree old.book g → WritesSlotOf Mirrored (slot_at g 0) old new
-  pub parity : (s : Slot) → level old.book k ≡ ParityLevel → home old.book k ≡ Some s → HasNoHole old.book Mirrored
-      → free_groups old.book < 2 → WritesSlotOf Parity s old new
-  pub parity_hole : (s : Slot) → level old.book k ≡ Unplaced → HasNoHole old.book Mirrored → free_groups old.book < 2
-      → IsLowestHole old.book Parity s → WritesSlotOf Parity s old new
-  pub squeezed_group : (from to : ℕ) → level old.book k ≡ Unplaced → HasNoHole old.book Mirrored
-      → HasNoHole old.book Parity → free_groups old.book < 2 → IsFullMirrored old.book from → IsLowestFree old.book to
-      → WasBroken old new ⊎ SqueezesThenWrites from to old new
-
--- a squeeze, and then the write of the first slot that it leaves
-abbrev pub squeezing_plan : Geometry → Members → Members → ℕ → AccessPlan
-squeezing_plan g from to slots = both_of (squeeze_plan g from to) (slot_write Parity g to slots)
-
 -- the write of a slot of a store in the layout of a class
 abbrev pub write_as : Class → StoreState → Slot → AccessPlan
 write_as class s slot = slot_write class s.disks.geometry (members_of s slot.group) slot.slot
 
--- The plan of a put of the block, by the cases of `Puts`, of which it is the first that applies.
-pub data IsPutPlan : StoreState → Key → AccessPlan → Type 0 where
-  in_place : (s : StoreState) (k : Key) (slot : Slot) → level s.book k ≡ MirroredLevel → home s.book k ≡ Some slot
-      → IsPutPlan s k (write_as Mirrored s slot)
-  to_mirrored_hole : (s : StoreState) (k : Key) (slot : Slot) → level s.book k ≢ MirroredLevel
-      → IsLowestHole s.book Mirrored slot → IsPutPlan s k (write_as Mirrored s slot)
-  to_opened_group : (s : StoreState) (k : Key) (g : ℕ) → level s.book k ≢ MirroredLevel → HasNoHole s.book Mirrored
-      → 2 ≤ free_groups s.book → IsLowestFree s.book g → IsPutPlan s k (write_as Mirrored s (slot_at g 0))
-  in_parity_place : (s : StoreState) (k : Key) (slot : Slot) → level s.book k ≡ ParityLevel
-      → home s.book k ≡ Some slot → HasNoHole s.book Mirrored → free_groups s.book < 2
-      → IsPutPlan s k (write_as Parity s slot)
-  to_parity_hole : (s : StoreState) (k : Key) (slot : Slot) → level s.book k ≡ Unplaced → HasNoHole s.book Mirrored
-      → free_groups s.book < 2 → IsLowestHole s.book Parity slot → IsPutPlan s k (write_as Parity s slot)
-  by_squeeze : (s : StoreState) (k : Key) (from to : ℕ) → level s.book k ≡ Unplaced → HasNoHole s.book Mirrored
-      → HasNoHole s.book Parity → free_groups s.book < 2 → IsFullMirrored s.book from → IsLowestFree s.book to
-      → IsPutPlan s k (squeezing_plan s.disks.geometry (members_of s from) (members_of s to)
-      (slots_of s.book.geometry Mirrored))
+-- the write of a home: none is written where there is none
+abbrev pub home_write : StoreState → Option Slot → AccessPlan
+home_write s None = Stop
+home_write s (Some slot) = write_of s slot
 
--- one of the cases applied, and its plan was carried out, so that nothing else was accessed
-pub record CarriesOutPlan (old : StoreState) (k : Key) (new : StoreState) : Type 0 where
-  pub plan : AccessPlan
-  pub is_plan : IsPutPlan old k plan
-  pub carried : CarriesOut plan old.disks new.disks
+-- a squeeze of the lowest mirrored group to the lowest free one, and then the write of the first slot that it leaves
+abbrev pub squeezing_plan : StoreState → ℕ → ℕ → AccessPlan
+squeezing_plan s from to =
+    both_of (squeeze_plan s.disks.geometry (members_of s from) (members_of s to))
+    (write_as Parity s (slot_at to (slots_of s.book.geometry Mirrored)))
 
--- What a put accesses: exactly the plan of one of the cases; and what that case says besides. An array that had failed
--- before is unchanged.
+-- the plan of a put by its case: its slot is written, after a squeeze in the last case
+abbrev pub case_plan : StoreState → Key → PutCase → AccessPlan
+case_plan s k InPlace = home_write s (home s.book k)
+case_plan s k (ToHole c) = write_as c s (lowest_hole s.book c)
+case_plan s k ToNewGroup = write_as Mirrored s (slot_at (lowest_group s.book Free) 0)
+case_plan s k BySqueeze = squeezing_plan s (lowest_group s.book Mirrored) (lowest_group s.book Free)
+
+-- the plan of a put
+abbrev pub put_plan : StoreState → Key → AccessPlan
+put_plan s k = case_plan s k (put_case s.book k)
+
+-- what a put accesses, and keeps, by its case; an array that had failed before squeezes nothing
+abbrev pub AccessesByCase : PutCase → StoreState → Key → StoreState → Type 0
+AccessesByCase InPlace old k new =
+    (s : Slot) → home old.book k ≡ Some s → WritesSlotOf (class_in old s.group) s old new
+AccessesByCase (ToHole c) old k new = WritesSlotOf c (lowest_hole old.book c) old new
+AccessesByCase ToNewGroup old k new = WritesSlotOf Mirrored (slot_at (lowest_group old.book Free) 0) old new
+AccessesByCase BySqueeze old k new =
+    WasBroken old new ⊎ SqueezesThenWrites (lowest_group old.book Mirrored) (lowest_group old.book Free) old new
+
+-- What a put accesses: exactly its plan; and what its case says besides.
 pub record CarriesOutPut (old : StoreState) (k : Key) (new : StoreState) : Type 0 where
-  pub cases : AccessesByCase old k new
-  pub one : WasBroken old new ⊎ CarriesOutPlan old k new
+  pub plan : CarriesOut (put_plan old k) old.disks new.disks
+  pub by_case : AccessesByCase (put_case old.book k) old k new
 
--- a squeeze was carried out
-abbrev pub CarriesOutSqueeze : StoreState → StoreState → Type 0
-CarriesOutSqueeze old new = (from to : ℕ) → IsFullMirrored old.book from → IsLowestFree old.book to
-    → Squeezes from to old new
-
--- a put of the block goes to a mirrored slot: it is mirrored, or a mirrored group has a hole, or two groups are free
-pub record GoesToMirrored (t : Tables) (k : Key) : Type 0 where
-  pub way : level t k ≢ MirroredLevel → HasNoHole t Mirrored → free_groups t < 2 → ⊥
-
--- a put of the block goes to no mirrored slot
-pub record GoesToParity (t : Tables) (k : Key) : Type 0 where
-  pub low : level t k ≢ MirroredLevel
-  pub none : HasNoHole t Mirrored
-  pub few : free_groups t < 2
-
--- a put of the block needs no squeeze: it has a home, or there is a slot for it
-pub record NeedsNoSqueeze (t : Tables) (k : Key) : Type 0 where
-  pub way : level t k ≡ Unplaced → HasNoHole t Mirrored → HasNoHole t Parity → free_groups t < 2 → ⊥
-
--- a slot was found without a squeeze, so no disk was accessed
-pub record AccessesNothing (old : StoreState) (k : Key) (new : StoreState) : Type 0 where
-  pub needs : NeedsNoSqueeze old.book k
-  pub same : new.disks ≡ old.disks
-
--- the same, or a squeeze was needed
-abbrev pub CarriesOutSearch : StoreState → Key → StoreState → Type 0
-CarriesOutSearch old k new = AccessesNothing old k new ⊎ (HasNoWay old.book k old.book × CarriesOutSqueeze old new)
+-- what is accessed for a slot to be found: nothing, but for a squeeze
+abbrev pub CarriesOutSearch : PutCase → StoreState → StoreState → Type 0
+CarriesOutSearch InPlace old new = new.disks ≡ old.disks
+CarriesOutSearch (ToHole c) old new = new.disks ≡ old.disks
+CarriesOutSearch ToNewGroup old new = new.disks ≡ old.disks
+CarriesOutSearch BySqueeze old new =
+    Squeezes (lowest_group old.book Mirrored) (lowest_group old.book Free) old new
 
 -- the slot that was found was written
 abbrev pub WritesWay : Way → StoreState → StoreState → Type 0

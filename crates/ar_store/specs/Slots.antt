@@ -52,6 +52,11 @@ stands s k = stands_at s (home s.book k)
 pub record AllStand (old new : StoreState) : Type 0 where
   pub blocks : new.disks.health ≢ Broken → (k : Key) → stands new k ≡ stands old k
 
+-- the tables stay, and every block keeps its contents
+pub record KeepsContents (old new : StoreState) : Type 0 where
+  pub book : new.book ≡ old.book
+  pub stands : AllStand old new
+
 -- every block but `key`'s keeps its contents; unspecified for a failed array
 pub record OthersStand (old new : StoreState) (key : Key) : Type 0 where
   pub blocks : new.disks.health ≢ Broken → (k : Key) → k ≢ key → stands new k ≡ stands old k

@@ -12,7 +12,7 @@ impl<D: Disk> Store<D> {
     ghost use Rattle.ar_extents.specs.Changes.{fail_refusal, failed, add_refusal, added};
     ghost use Rattle.ar_extents.specs.Access.{Gets, is_read};
     ghost use Rattle.ar_extents.specs.Plans.{Attempts, read_at};
-    ghost use Rattle.ar_store.specs.Slots.{AllStand};
+    ghost use Rattle.ar_store.specs.Slots.{KeepsContents};
     ghost use Rattle.ar_store.specs.Calls.{IsAccessed};
 
     /// Marks `disk` as failed, as if an access to it had faulted. The blocks keep their contents, unless another disk
@@ -22,9 +22,8 @@ impl<D: Disk> Store<D> {
         ensures taken { OnOk result (fail_refusal self.old.disks disk ≡ None) }
         ensures refused { IfErr result (λ refusal. fail_refusal self.old.disks disk ≡ Some refusal) }
         ensures disks { OnOk result (self.new.disks ≡ failed self.old.disks disk) }
-        ensures book { self.new.book ≡ self.old.book }
         ensures unchanged { OnErr result (self.new ≡ self.old) }
-        ensures stands { AllStand self.old self.new }
+        ensures keeps { KeepsContents self.old self.new }
     {
         self.space.disks.fail(disk)
     }
@@ -39,9 +38,8 @@ impl<D: Disk> Store<D> {
         ensures refused { IfErr result
             (λ back. back.0 ≡ unwrap_or (add_refusal self.old.disks (D.state disk)) NoMemory) }
         ensures handed_back { IfErr result (λ back. back.1 ≡ disk) }
-        ensures book { self.new.book ≡ self.old.book }
         ensures unchanged { OnErr result (self.new ≡ self.old) }
-        ensures stands { AllStand self.old self.new }
+        ensures keeps { KeepsContents self.old self.new }
     {
         // Called for its contract: the set keeps a list of unassigned extents for each disk.
         let _health = self.space.disks.health();
@@ -60,8 +58,7 @@ impl<D: Disk> Store<D> {
         // Exactly this access is made: one read, or none where the extent is lost.
         ensures made { Attempts (read_at place row) (is_read result) self.old.disks self.new.disks }
 
-        ensures book { self.new.book ≡ self.old.book }
-        ensures stands { AllStand self.old self.new }
+        ensures keeps { KeepsContents self.old self.new }
         ensures accessed { IsAccessed self.old.disks self.new.disks }
     {
         self.space.disks.get(place, row, into)
@@ -72,7 +69,7 @@ impl<D: Disk + Drop> Store<D> {
     ghost use Rattle.std.specs.Prelude.{◌≡◌, Some, None, IfErr, OnOk, OnErr};
     ghost use Rattle.ar_extents.specs.Set.{CanCount};
     ghost use Rattle.ar_extents.specs.Changes.{replace_refusal, replaced};
-    ghost use Rattle.ar_store.specs.Slots.{AllStand, SlotsHold};
+    ghost use Rattle.ar_store.specs.Slots.{KeepsContents, SlotsHold};
 
     /// Puts `disk` in the place of the failed disk `number`, which is dropped, and starts its rebuild. No extent of the
     /// new disk is used before it is rebuilt, so every block keeps its contents, whatever is on the disk. An error
@@ -86,8 +83,7 @@ impl<D: Disk + Drop> Store<D> {
         ensures handed_back { IfErr result (λ back. back.1 ≡ disk) }
         ensures unchanged { OnErr result (self.new ≡ self.old) }
 
-        ensures book { self.new.book ≡ self.old.book }
-        ensures stands { AllStand self.old self.new }
+        ensures keeps { KeepsContents self.old self.new }
         ensures slots { SlotsHold self.old self.new }
     {
         self.space.disks.replace(number, disk)

@@ -1,22 +1,25 @@
 // Laws of the store's calls: what they access where no disk faults.
-ghost use Rattle.std.specs.Prelude.{◌≡◌, ◌≢◌, ℕ, ◌*◌, [], ◌∷◌, ◌++◌, None, Some};
+ghost use Rattle.std.specs.Prelude.{◌≡◌, ◌≢◌, ℕ, ◌*◌, true, false, [], ◌∷◌, ◌++◌, None, Some};
 ghost use Rattle.ar_disks.specs.declared.geometry.Geometry.{Geometry};
 ghost use Rattle.ar_disks.specs.Geometry.{rows_of};
 ghost use Rattle.ar_disks.specs.declared.address.Key.{Key};
 ghost use Rattle.ar_disks.specs.declared.address.Members.{Members};
-ghost use Rattle.ar_extents.specs.declared.health.Health.TheVariants.{Whole, Broken};
+ghost use Rattle.ar_extents.specs.declared.health.Health.TheVariants.{Whole};
 ghost use Rattle.ar_extents.specs.declared.log.AccessKind.TheVariants.{Read, Write};
 ghost use Rattle.ar_extents.specs.Set.{SetState};
-ghost use Rattle.ar_extents.specs.Plans.{AccessPlan, CarriesOut, NoneFaults};
+ghost use Rattle.ar_extents.specs.Plans.{CarriesOut, NoneFaults};
 ghost use Rattle.ar_book.specs.declared.class.Class.{Class};
 ghost use Rattle.ar_book.specs.declared.class.Class.TheVariants.{Free, Mirrored, Parity};
+ghost use Rattle.ar_book.specs.declared.class.Level.TheVariants.{Mirrored as MirroredLevel, Parity as ParityLevel};
 ghost use Rattle.ar_book.specs.declared.class.Slot.{Slot};
-ghost use Rattle.ar_book.specs.Tables.{home, slots_of};
+ghost use Rattle.ar_book.specs.Choices.{IsLowestFree, IsFullMirrored};
+ghost use Rattle.ar_book.specs.Tables.{Tables, home, slots_of};
 ghost use Rattle.ar_store.specs.Store.{StoreState, class_in};
-ghost use Rattle.ar_store.specs.Plans.{get_plan, move_plan, slot_write, write_as, IsPutPlan, Squeezes};
+ghost use Rattle.ar_store.specs.Plans.{get_plan, move_plan, put_plan, slot_write, write_as, Squeezes};
 ghost use Rattle.ar_store.specs.Plans.{ReadsUsable, WritesUsable, ReadsUsableOf, WritesUsableAs};
 ghost use Rattle.ar_store.specs.Plans.{MakesAccesses, copies_kinds, reads_in, writes_in};
-ghost use Rattle.ar_store.specs.Plans.{CarriesOutPut, GoesToMirrored, GoesToParity, NeedsNoSqueeze};
+ghost use Rattle.ar_store.specs.Placing.{has_hole, lowest_hole, lowest_group, IsLowestHole, HasNoHole};
+ghost use Rattle.ar_store.specs.Placing.{put_case, put_level, BySqueeze};
 ghost use Rattle.ar_store.specs.Plans.{slot_read, LacksOnly, LacksOneOf};
 ghost use Rattle.ar_parity.specs.Row.{row_of, data_position, parity_position};
 
@@ -66,13 +69,12 @@ pub fn squeeze_accesses()
     ensures writes { (g : Geometry) → writes_in (copies_kinds g (rows_of g)) ≡ 4 * rows_of g }
 {}
 
-/// A put has one plan, that of the first case that applies; until the array has failed, it carries out this one. A call
-/// has no effect.
-pub fn a_put_has_one_plan()
-    ensures one { (old : StoreState) (k : Key) (plan other : AccessPlan) → IsPutPlan old k plan → IsPutPlan old k other
-        → plan ≡ other }
-    ensures carried { (old new : StoreState) (k : Key) (plan : AccessPlan) → old.disks.health ≢ Broken
-        → CarriesOutPut old k new → IsPutPlan old k plan → CarriesOut plan old.disks new.disks }
+/// The searches that `put_case` is stated by find the first of each kind, or that there is none. A call has no effect.
+pub fn searches_find_the_first()
+    ensures hole { (t : Tables) (c : Class) → has_hole t c ≡ true → IsLowestHole t c (lowest_hole t c) }
+    ensures no_hole { (t : Tables) (c : Class) → has_hole t c ≡ false → HasNoHole t c }
+    ensures free { (t : Tables) (g : ℕ) → IsLowestFree t g → lowest_group t Free ≡ g }
+    ensures mirrored { (t : Tables) (g : ℕ) → IsFullMirrored t g → lowest_group t Mirrored ≡ g }
 {}
 
 /// A put where no disk faults: to a mirrored slot it is two writes; to one with parity two reads and then two writes;
@@ -80,21 +82,22 @@ pub fn a_put_has_one_plan()
 /// slot whose two extents are usable, whichever disk is missing. A call has no effect.
 pub fn put_accesses()
     ensures mirrored { (old new : StoreState) (k : Key) → old.disks.health ≡ Whole → NoneFaults old.disks new.disks
-        → CarriesOutPut old k new → GoesToMirrored old.book k
+        → CarriesOut (put_plan old k) old.disks new.disks → put_level old.book k ≡ MirroredLevel
         → MakesAccesses (Write ∷ Write ∷ []) old.disks new.disks }
     ensures parity { (old new : StoreState) (k : Key) → old.disks.health ≡ Whole → NoneFaults old.disks new.disks
-        → CarriesOutPut old k new → GoesToParity old.book k → NeedsNoSqueeze old.book k
-        → MakesAccesses (Read ∷ Read ∷ Write ∷ Write ∷ []) old.disks new.disks }
+        → CarriesOut (put_plan old k) old.disks new.disks → put_level old.book k ≡ ParityLevel
+        → put_case old.book k ≢ BySqueeze → MakesAccesses (Read ∷ Read ∷ Write ∷ Write ∷ []) old.disks new.disks }
     ensures squeeze { (old new : StoreState) (k : Key) → old.disks.health ≡ Whole → NoneFaults old.disks new.disks
-        → CarriesOutPut old k new → GoesToParity old.book k → (NeedsNoSqueeze old.book k → ⊥)
+        → CarriesOut (put_plan old k) old.disks new.disks → put_case old.book k ≡ BySqueeze
         → MakesAccesses (copies_kinds old.disks.geometry (rows_of old.disks.geometry)
         ++ Read ∷ Read ∷ Write ∷ Write ∷ []) old.disks new.disks }
 
     ensures mirrored_slot { (old new : StoreState) (k : Key) (slot : Slot) → WritesUsableAs Mirrored old slot
-        → NoneFaults old.disks new.disks → CarriesOutPut old k new → IsPutPlan old k (write_as Mirrored old slot)
-        → MakesAccesses (Write ∷ Write ∷ []) old.disks new.disks }
+        → NoneFaults old.disks new.disks → CarriesOut (put_plan old k) old.disks new.disks
+        → put_plan old k ≡ write_as Mirrored old slot → MakesAccesses (Write ∷ Write ∷ []) old.disks new.disks }
     ensures parity_slot { (old new : StoreState) (k : Key) (slot : Slot) → WritesUsableAs Parity old slot
-        → NoneFaults old.disks new.disks → CarriesOutPut old k new → IsPutPlan old k (write_as Parity old slot)
+        → NoneFaults old.disks new.disks → CarriesOut (put_plan old k) old.disks new.disks
+        → put_plan old k ≡ write_as Parity old slot
         → MakesAccesses (Read ∷ Read ∷ Write ∷ Write ∷ []) old.disks new.disks }
 {}
 

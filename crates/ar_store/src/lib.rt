@@ -23,8 +23,9 @@ mod way;
 
 pub use form::{FourDisks, four_fullest};
 pub use laws::{
-    a_put_has_one_plan, degraded_accesses, put_accesses, squeeze_accesses, store_accesses,
+    degraded_accesses, put_accesses, searches_find_the_first, squeeze_accesses, store_accesses,
 };
 pub use open::Opening;
 pub use space::Space;
+pub use start::take_members;
 pub use store::Store;

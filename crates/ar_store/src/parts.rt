@@ -4,7 +4,7 @@
 use crate::Store;
 use crate::space::Space;
 use crate::way::lacks_mirrored_slot;
-use ar_book::{Class, Level, Slot};
+use ar_book::{Level, Slot};
 use ar_disks::{Completion, Disk, Key, zero};
 use ar_extents::Health;
 use ar_index::Steps;
@@ -16,10 +16,10 @@ impl<D: Disk> Store<D> {
     ghost use Rattle.ar_extents.specs.Groups.{outcome_of};
     ghost use Rattle.ar_extents.specs.Plans.{CarriesOut};
     ghost use Rattle.ar_book.specs.Tables.{HasBlock};
-    ghost use Rattle.ar_store.specs.Slots.{stands, AllStand, OthersStand};
-    ghost use Rattle.ar_store.specs.Placing.{Puts, is_put_in_place};
-    ghost use Rattle.ar_store.specs.Plans.{get_plan, CarriesOutPut};
-    ghost use Rattle.ar_store.specs.Calls.{StoreFollows, BreaksPut, LeavesZeros};
+    ghost use Rattle.ar_store.specs.Slots.{stands, KeepsContents, OthersStand};
+    ghost use Rattle.ar_store.specs.Placing.{is_put_in_place};
+    ghost use Rattle.ar_store.specs.Plans.{get_plan};
+    ghost use Rattle.ar_store.specs.Spaces.{PutDone};
 
     /// Whether a put overwrites the block of `key` in place, so that `put_part` can overwrite a part of it. It walks
     /// over no groups and no slots.
@@ -43,8 +43,7 @@ impl<D: Disk> Store<D> {
 
         // Exactly these accesses are made.
         ensures plan { CarriesOut (get_plan self.old key) self.old.disks self.new.disks }
-        ensures stands { AllStand self.old self.new }
-        ensures book { self.new.book ≡ self.old.book }
+        ensures keeps { KeepsContents self.old self.new }
     {
         match self.space.disks.health() {
             Health::Broken => Completion::Broken,
@@ -66,17 +65,10 @@ impl<D: Disk> Store<D> {
         requires in_place { is_put_in_place self.old.book key ≡ true }
         requires within { 512 * first + length from.now ≤ block_len_of self.old.disks.geometry }
 
-        ensures outcome { result ≡ outcome_of self.new.disks.health }
+        ensures done { PutDone self.old key result self.new }
         ensures put { result ≡ Completion.Done
             → stands self.new key ≡ with_sectors (stands self.old key) first from.now }
         ensures others { OthersStand self.old self.new key }
-        ensures tables { result ≡ Completion.Done → Puts self.old.book key self.new.book }
-        ensures zeros { result ≡ Completion.Done → LeavesZeros self.old key self.new }
-        ensures breaks { result ≡ Completion.Broken → BreaksPut self.old key self.new }
-
-        // Exactly these accesses are made.
-        ensures plan { CarriesOutPut self.old key self.new }
-        ensures follows { StoreFollows self.old self.new }
     {
         if let Health::Broken = self.space.disks.health() {
             return Completion::Broken;
@@ -89,69 +81,33 @@ impl<D: Disk> Store<D> {
 }
 
 impl<D: Disk> Space<D> {
-    ghost use Rattle.std.specs.Prelude.{◌≡◌, ◌+◌, ◌*◌, ◌≤◌, ℕ, List, length, Some};
-    ghost use Rattle.ar_disks.specs.Block.{part_at, with_sectors};
-    ghost use Rattle.ar_disks.specs.Endings.{OnDone};
+    ghost use Rattle.std.specs.Prelude.{◌≡◌, ◌+◌, ◌*◌, ◌≤◌, length, Some};
+    ghost use Rattle.ar_disks.specs.Block.{with_sectors};
     ghost use Rattle.ar_disks.specs.Geometry.{block_len_of};
-    ghost use Rattle.ar_extents.specs.Groups.{outcome_of};
-    ghost use Rattle.ar_extents.specs.Plans.{CarriesOut};
-    ghost use Rattle.ar_book.specs.Tables.{home, free_groups, HasBlock, HasSlot};
+    ghost use Rattle.ar_book.specs.Tables.{home, HasBlock};
     ghost use Rattle.ar_book.specs.Changes.{stamped};
     ghost use Rattle.ar_store.specs.Store.{class_in};
-    ghost use Rattle.ar_store.specs.Slots.{SlotHolds, HoldsBlock, OtherSlotsHold, stands, AllStand, OthersStand};
-    ghost use Rattle.ar_store.specs.Plans.{read_of, WritesSlotOf};
-    ghost use Rattle.ar_store.specs.Spaces.{store_in, IsReady, Stays};
+    ghost use Rattle.ar_store.specs.Slots.{stands};
+    ghost use Rattle.ar_store.specs.Plans.{WritesSlotOf};
+    ghost use Rattle.ar_store.specs.Spaces.{store_in, IsReady, PutsAt};
 
-    // Reads a part of the block that a slot holds. No row of any disk changes.
-    fn read_part_at(&mut self, slot: Slot, first: usize, into: &mut [u8]) -> Completion
-        requires ready { IsReady self.old }
-        requires slot { HasSlot self.old.book slot }
-        requires within { 512 * first + length into.old ≤ block_len_of self.old.disks.geometry }
-
-        ensures outcome { result ≡ outcome_of self.new.disks.health }
-        ensures given { OnDone result ((block : List ℕ) → SlotHolds (store_in self.old) slot block
-            → into.new ≡ part_at block first (length into.new)) }
-
-        ensures book { self.new.book ≡ self.old.book }
-        ensures plan { CarriesOut (read_of (store_in self.old) slot) self.old.disks self.new.disks }
-        ensures stand { AllStand (store_in self.old) (store_in self.new) }
-        ensures stays { Stays self.old self.new }
-    {
-        let members = self.book.members(slot.group);
-        match self.book.class(slot.group) {
-            Class::Free => unreachable!(),
-            Class::Mirrored => {
-                ar_mirror::get_part(&mut self.disks, &members, slot.slot, first, into)
-            }
-            Class::Parity => ar_parity::get_part(
-                &mut self.disks,
-                &members,
-                slot.slot,
-                first,
-                into,
-                &mut self.scratch,
-            ),
-        }
-    }
-
-    // Overwrites a part of a block in its home, and gives the block the next write sequence number.
-    fn rewrite_part(&mut self, key: Key, slot: Slot, first: usize, from: &[u8]) -> Completion
+    /// Overwrites a part of a block in its home, and gives the block the next write sequence number.
+    pub(crate) fn rewrite_part(
+        &mut self,
+        key: Key,
+        slot: Slot,
+        first: usize,
+        from: &[u8],
+    ) -> Completion
         requires ready { IsReady self.old }
         requires block { HasBlock self.old.book key }
         requires home { home self.old.book key ≡ Some slot }
         requires within { 512 * first + length from.now ≤ block_len_of self.old.disks.geometry }
 
-        ensures outcome { result ≡ outcome_of self.new.disks.health }
-        ensures tables { result ≡ Completion.Done → self.new.book ≡ stamped self.old.book key }
-        ensures unwritten { result ≡ Completion.Broken → self.new.book ≡ self.old.book }
-        ensures free { free_groups self.old.book ≤ free_groups self.new.book }
-
-        ensures here { result ≡ Completion.Done → stands (store_in self.new) key
-            ≡ with_sectors (stands (store_in self.old) key) first from.now }
-        ensures others { OthersStand (store_in self.old) (store_in self.new) key }
+        ensures puts { PutsAt self.old self.new key (stamped self.old.book key)
+            (with_sectors (stands (store_in self.old) key) first from.now) result }
         ensures writes { WritesSlotOf (class_in (store_in self.old) slot.group) slot
             (store_in self.old) (store_in self.new) }
-        ensures stays { Stays self.old self.new }
     {
         match self.write_part_at(slot, first, from) {
             Completion::Done => {
@@ -159,39 +115,6 @@ impl<D: Disk> Space<D> {
                 Completion::Done
             }
             Completion::Broken => Completion::Broken,
-        }
-    }
-
-    // Overwrites a part of the block that a slot holds.
-    fn write_part_at(&mut self, slot: Slot, first: usize, from: &[u8]) -> Completion
-        requires ready { IsReady self.old }
-        requires slot { HasSlot self.old.book slot }
-        requires held { HoldsBlock (store_in self.old) slot }
-        requires within { 512 * first + length from.now ≤ block_len_of self.old.disks.geometry }
-
-        ensures outcome { result ≡ outcome_of self.new.disks.health }
-        ensures here { (block : List ℕ) → SlotHolds (store_in self.old) slot block
-            → SlotHolds (store_in self.new) slot (with_sectors block first from.now) }
-        ensures others { OtherSlotsHold (store_in self.old) (store_in self.new) slot }
-        ensures book { self.new.book ≡ self.old.book }
-        ensures writes { WritesSlotOf (class_in (store_in self.old) slot.group) slot
-            (store_in self.old) (store_in self.new) }
-        ensures stays { Stays self.old self.new }
-    {
-        let members = self.book.members(slot.group);
-        match self.book.class(slot.group) {
-            Class::Free => unreachable!(),
-            Class::Mirrored => {
-                ar_mirror::put_part(&mut self.disks, &members, slot.slot, first, from)
-            }
-            Class::Parity => ar_parity::put_part(
-                &mut self.disks,
-                &members,
-                slot.slot,
-                first,
-                from,
-                &mut self.scratch,
-            ),
         }
     }
 }

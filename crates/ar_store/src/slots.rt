@@ -1,45 +1,35 @@
-// Reads and writes one slot, by the layout of its group.
+// Reads and writes one slot, or a part of its block, by the layout of its group.
 
 use crate::space::Space;
 use ar_book::{Class, Slot};
 use ar_disks::{Completion, Disk};
 
 impl<D: Disk> Space<D> {
-    ghost use Rattle.std.specs.Prelude.{◌≡◌, ℕ, List, length};
+    ghost use Rattle.std.specs.Prelude.{◌≡◌, ◌+◌, ◌*◌, ◌≤◌, ℕ, List, length};
+    ghost use Rattle.ar_disks.specs.Block.{with_sectors};
     ghost use Rattle.ar_disks.specs.Geometry.{block_len_of};
-    ghost use Rattle.ar_extents.specs.Groups.{outcome_of};
-    ghost use Rattle.ar_extents.specs.Follows.{Keeps, Anywhere};
     ghost use Rattle.ar_book.specs.Tables.{HasSlot};
-    ghost use Rattle.ar_store.specs.Store.{class_in};
-    ghost use Rattle.ar_extents.specs.Plans.{CarriesOut};
-    ghost use Rattle.ar_store.specs.Slots.{SlotHolds, OtherSlotsHold, AllStand};
-    ghost use Rattle.ar_store.specs.Plans.{read_of, WritesSlotOf};
-    ghost use Rattle.ar_disks.specs.Endings.{OnDone};
-    ghost use Rattle.ar_store.specs.Spaces.{store_in, IsReady, Stays};
+    ghost use Rattle.ar_store.specs.Slots.{SlotHolds, HoldsBlock};
+    ghost use Rattle.ar_store.specs.Spaces.{store_in, IsReady, ReadsAt, WritesAt};
 
-    /// Reads a slot. No row of any disk changes.
-    pub(crate) fn read_at(&mut self, slot: Slot, into: &mut [u8]) -> Completion
+    /// Reads a part of the block that a slot holds, from sector `first` on. No row of any disk changes.
+    pub(crate) fn read_part_at(&mut self, slot: Slot, first: usize, into: &mut [u8]) -> Completion
         requires ready { IsReady self.old }
         requires slot { HasSlot self.old.book slot }
-        requires whole { length into.old ≡ block_len_of self.old.disks.geometry }
-
-        ensures outcome { result ≡ outcome_of self.new.disks.health }
-        ensures given { OnDone result ((block : List ℕ) → SlotHolds (store_in self.old) slot block → into.new ≡ block) }
-
-        ensures book { self.new.book ≡ self.old.book }
-        ensures plan { CarriesOut (read_of (store_in self.old) slot) self.old.disks self.new.disks }
-        ensures keeps { Keeps Anywhere self.old.disks self.new.disks }
-        ensures stand { AllStand (store_in self.old) (store_in self.new) }
-        ensures stays { Stays self.old self.new }
+        requires within { 512 * first + length into.old ≤ block_len_of self.old.disks.geometry }
+        ensures { ReadsAt self.old self.new slot first into.new result }
     {
         let members = self.book.members(slot.group);
         match self.book.class(slot.group) {
             Class::Free => unreachable!(),
-            Class::Mirrored => ar_mirror::get(&mut self.disks, &members, slot.slot, into),
-            Class::Parity => ar_parity::get(
+            Class::Mirrored => {
+                ar_mirror::get_part(&mut self.disks, &members, slot.slot, first, into)
+            }
+            Class::Parity => ar_parity::get_part(
                 &mut self.disks,
                 &members,
                 slot.slot,
+                first,
                 into,
                 &mut self.scratch,
             ),
@@ -51,13 +41,8 @@ impl<D: Disk> Space<D> {
         requires ready { IsReady self.old }
         requires slot { HasSlot self.old.book slot }
         requires whole { length from.now ≡ block_len_of self.old.disks.geometry }
-        ensures outcome { result ≡ outcome_of self.new.disks.health }
         ensures here { SlotHolds (store_in self.new) slot from.now }
-        ensures others { OtherSlotsHold (store_in self.old) (store_in self.new) slot }
-        ensures book { self.new.book ≡ self.old.book }
-        ensures writes { WritesSlotOf (class_in (store_in self.old) slot.group) slot
-            (store_in self.old) (store_in self.new) }
-        ensures stays { Stays self.old self.new }
+        ensures rest { WritesAt self.old self.new slot result }
     {
         let members = self.book.members(slot.group);
         match self.book.class(slot.group) {
@@ -67,6 +52,34 @@ impl<D: Disk> Space<D> {
                 &mut self.disks,
                 &members,
                 slot.slot,
+                from,
+                &mut self.scratch,
+            ),
+        }
+    }
+
+    /// Overwrites a part of the block that a slot holds, from sector `first` on.
+    pub(crate) fn write_part_at(&mut self, slot: Slot, first: usize, from: &[u8]) -> Completion
+        requires ready { IsReady self.old }
+        requires slot { HasSlot self.old.book slot }
+        requires held { HoldsBlock (store_in self.old) slot }
+        requires within { 512 * first + length from.now ≤ block_len_of self.old.disks.geometry }
+
+        ensures here { (block : List ℕ) → SlotHolds (store_in self.old) slot block
+            → SlotHolds (store_in self.new) slot (with_sectors block first from.now) }
+        ensures rest { WritesAt self.old self.new slot result }
+    {
+        let members = self.book.members(slot.group);
+        match self.book.class(slot.group) {
+            Class::Free => unreachable!(),
+            Class::Mirrored => {
+                ar_mirror::put_part(&mut self.disks, &members, slot.slot, first, from)
+            }
+            Class::Parity => ar_parity::put_part(
+                &mut self.disks,
+                &members,
+                slot.slot,
+                first,
                 from,
                 &mut self.scratch,
             ),

@@ -20,24 +20,20 @@ impl<D: Disk> Space<D> {
     ghost use Rattle.ar_extents.specs.declared.health.Health.TheVariants.{Broken};
     ghost use Rattle.ar_extents.specs.Groups.{outcome_of};
     ghost use Rattle.ar_extents.specs.Plans.{CarriesOut};
-    ghost use Rattle.ar_book.specs.declared.class.Class.TheVariants.{Mirrored, Parity};
     ghost use Rattle.ar_book.specs.Tables.{home, free_groups};
-    ghost use Rattle.ar_book.specs.Choices.{HasUnplacedBlock, IsFullMirrored, IsLowestFree};
+    ghost use Rattle.ar_book.specs.Choices.{IsFullMirrored, IsLowestFree};
     ghost use Rattle.ar_store.specs.Store.{members_of};
-    ghost use Rattle.ar_store.specs.Slots.{AllStand, HoldsSources, HoldsCopies};
+    ghost use Rattle.ar_store.specs.Slots.{AllStand, KeepsContents, HoldsSources, HoldsCopies};
     ghost use Rattle.ar_store.specs.Calls.{LeavesHole, BreaksSqueeze};
-    ghost use Rattle.ar_store.specs.Plans.{squeeze_plan, CarriesOutSqueeze};
-    ghost use Rattle.ar_store.specs.Placing.{HasNoHole};
+    ghost use Rattle.ar_store.specs.Plans.{squeeze_plan, CarriesOutSearch};
+    ghost use Rattle.ar_store.specs.Placing.{NeedsSqueeze, BySqueeze};
     ghost use Rattle.ar_store.specs.Spaces.{store_in, IsReady, Stays};
 
     /// Copies all blocks of the lowest full mirrored group to the only free group, which becomes a parity group and
     /// their home, and returns the first hole after them. None if the array failed; the tables are unchanged then.
     pub(crate) fn squeeze(&mut self, block: &mut Block) -> Option<Slot>
         requires ready { IsReady self.old }
-        requires waiting { HasUnplacedBlock self.old.book }
-        requires mirrored { HasNoHole self.old.book Mirrored }
-        requires parity { HasNoHole self.old.book Parity }
-        requires free { free_groups self.old.book ≡ 1 }
+        requires needs { NeedsSqueeze self.old.book }
         requires sound { self.old.disks.health ≢ Broken }
         requires whole { length block.old ≡ block_len_of self.old.disks.geometry }
 
@@ -46,7 +42,7 @@ impl<D: Disk> Space<D> {
 
         ensures unplaced { (k : Key) → home self.old.book k ≡ None → home self.new.book k ≡ None }
         ensures stand { AllStand (store_in self.old) (store_in self.new) }
-        ensures steps { CarriesOutSqueeze (store_in self.old) (store_in self.new) }
+        ensures steps { CarriesOutSearch BySqueeze (store_in self.old) (store_in self.new) }
         ensures stays { Stays self.old self.new }
         ensures len { length block.new ≡ length block.old }
     {
@@ -75,10 +71,9 @@ impl<D: Disk> Space<D> {
             (members_of (store_in self.old) to) self.old.disks self.new.disks) }
         ensures copies { OnDone result (HoldsCopies (members_of (store_in self.old) from)
             (members_of (store_in self.old) to) self.new.disks) }
-        ensures book { self.new.book ≡ self.old.book }
         ensures plan { CarriesOut (squeeze_plan self.old.disks.geometry (members_of (store_in self.old) from)
             (members_of (store_in self.old) to)) self.old.disks self.new.disks }
-        ensures stand { AllStand (store_in self.old) (store_in self.new) }
+        ensures keeps { KeepsContents (store_in self.old) (store_in self.new) }
         ensures stays { Stays self.old self.new }
         ensures len { length block.new ≡ length block.old }
     {

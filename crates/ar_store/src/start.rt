@@ -210,8 +210,8 @@ fn take_groups<D: Disk>(set: &mut DiskSet<D>, book: &Book)
     }
 }
 
-// Assigns the lowest unassigned extent of each of four disks.
-fn take_members<D: Disk>(set: &mut DiskSet<D>, members: Members)
+/// Assigns the members of a new group: the lowest unassigned extents of the four disks with the most of them.
+pub fn take_members<D: Disk>(set: &mut DiskSet<D>, members: Members)
     requires { AreFullest set.old members }
     ensures { set.new ≡ without set.old members }
 {

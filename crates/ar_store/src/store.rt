@@ -5,7 +5,7 @@ use crate::Opening;
 use crate::space::Space;
 use crate::way::Way;
 use ar_book::{Book, Class, Slot};
-use ar_disks::{Block, Completion, Disk, Key, zero};
+use ar_disks::{Block, Completion, Disk, Key};
 use ar_extents::{DiskSet, Health};
 use std::marker::Model;
 
@@ -38,15 +38,15 @@ impl<D: Disk> Store<D> {
     ghost use Rattle.ar_disks.specs.declared.address.Key.{Key};
     ghost use Rattle.ar_extents.specs.Groups.{outcome_of};
     ghost use Rattle.ar_book.specs.Tables.{home, free_groups, HasBlock};
-    ghost use Rattle.ar_book.specs.Changes.{Moved};
     ghost use Rattle.ar_book.specs.Choices.{IsLowestFree};
-    ghost use Rattle.ar_store.specs.Slots.{stands, AllStand, OthersStand, BesideHold, SurvivesLossOf};
+    ghost use Rattle.ar_store.specs.Slots.{stands, AllStand, KeepsContents, OthersStand, SurvivesLossOf};
     ghost use Rattle.ar_store.specs.Kept.{IsKept};
     ghost use Rattle.ar_extents.specs.Plans.{CarriesOut};
     ghost use Rattle.ar_store.specs.Store.{members_of};
-    ghost use Rattle.ar_store.specs.Placing.{Puts, SameUnits, IsVacant};
-    ghost use Rattle.ar_store.specs.Plans.{get_plan, move_plan, open_plan, CarriesOutPut};
-    ghost use Rattle.ar_store.specs.Calls.{StoreFollows, BreaksPut, Opens, IfOpened, HoldsZeros, LeavesZeros};
+    ghost use Rattle.ar_store.specs.Placing.{SameUnits, IsVacant};
+    ghost use Rattle.ar_store.specs.Plans.{get_plan, open_plan};
+    ghost use Rattle.ar_store.specs.Calls.{Opens, IfOpened, HoldsZeros};
+    ghost use Rattle.ar_store.specs.Spaces.{PutDone, MoveDone};
 
     /// Returns the health of the array: `Whole` (all disks present), `Out` (one has failed), `Rebuilding` (its
     /// replacement is being rebuilt) or `Broken` (failed: two disks missing at once). Its contract states the store's
@@ -101,23 +101,15 @@ impl<D: Disk> Store<D> {
 
         // Exactly these accesses are made.
         ensures plan { CarriesOut (get_plan self.old key) self.old.disks self.new.disks }
-        ensures stands { AllStand self.old self.new }
-        ensures book { self.new.book ≡ self.old.book }
+        ensures keeps { KeepsContents self.old self.new }
     {
-        match self.space.disks.health() {
-            Health::Broken => Completion::Broken,
-            _ => match self.space.book.home(key) {
-                Some(slot) => self.space.read_at(slot, into),
-                None => {
-                    zero(into);
-                    Completion::Done
-                }
-            },
-        }
+        // Called for its contract: until the array fails, every block has full length.
+        let _health = self.health();
+        self.get_part(key, 0, into)
     }
 
     /// Writes the block of `key` from `from`, a block of the store's length, and gives it the next write sequence
-    /// number (its `stamp`). There is always a slot for it: `Puts` states which, and `CarriesOutPut` which accesses are
+    /// number (its `stamp`). There is always a slot for it: `put_case` states which, and `put_plan` which accesses are
     /// made. Returns `Broken` exactly if the array has failed after the call: the block then keeps its old home, other
     /// homes have changed only if the array failed after all copies of a squeeze (`BreaksPut`, `Squeezes`), and an
     /// array that had failed before is unchanged.
@@ -125,16 +117,11 @@ impl<D: Disk> Store<D> {
         requires block { HasBlock self.old.book key }
         requires whole { length from.now ≡ block_len_of self.old.disks.geometry }
 
-        ensures outcome { result ≡ outcome_of self.new.disks.health }
+        // The result, the tables, and exactly which accesses are made.
+        ensures done { PutDone self.old key result self.new }
+
         ensures put { result ≡ Completion.Done → stands self.new key ≡ from.now }
         ensures others { OthersStand self.old self.new key }
-        ensures tables { result ≡ Completion.Done → Puts self.old.book key self.new.book }
-        ensures zeros { result ≡ Completion.Done → LeavesZeros self.old key self.new }
-        ensures breaks { result ≡ Completion.Broken → BreaksPut self.old key self.new }
-
-        // Exactly these accesses are made.
-        ensures plan { CarriesOutPut self.old key self.new }
-        ensures follows { StoreFollows self.old self.new }
     {
         if let Health::Broken = self.space.disks.health() {
             return Completion::Broken;
@@ -153,17 +140,9 @@ impl<D: Disk> Store<D> {
         requires block { HasBlock self.old.book key }
         requires unplaced { home self.old.book key ≡ None }
 
-        ensures outcome { result ≡ outcome_of self.new.disks.health }
+        ensures done { PutDone self.old key result self.new }
         ensures placed { result ≡ Completion.Done → IsSome (home self.new.book key) }
-        ensures tables { result ≡ Completion.Done → Puts self.old.book key self.new.book }
-        ensures zeros { result ≡ Completion.Done → LeavesZeros self.old key self.new }
-
         ensures stands { AllStand self.old self.new }
-        ensures breaks { result ≡ Completion.Broken → BreaksPut self.old key self.new }
-
-        // Exactly these accesses are made.
-        ensures plan { CarriesOutPut self.old key self.new }
-        ensures follows { StoreFollows self.old self.new }
     {
         if let Health::Broken = self.space.disks.health() {
             return Completion::Broken;
@@ -181,16 +160,8 @@ impl<D: Disk> Store<D> {
         requires placed { IsSome (home self.old.book key) }
         requires hole { IsVacant self.old.book slot }
 
-        ensures outcome { result ≡ outcome_of self.new.disks.health }
-        ensures moved { result ≡ Completion.Done → Moved self.old.book key slot self.new.book }
-        ensures unmoved { result ≡ Completion.Broken → self.new.book ≡ self.old.book }
-
-        ensures stands { AllStand self.old self.new }
-        ensures beside { BesideHold self.old self.new slot }
+        ensures done { MoveDone self.old key slot result self.new }
         ensures units { SameUnits self.old.book self.new.book }
-
-        // Exactly these accesses are made.
-        ensures plan { CarriesOut (move_plan self.old key slot) self.old.disks self.new.disks }
         ensures broken { self.old.disks.health ≡ Health.Broken → self.new ≡ self.old }
     {
         if let Health::Broken = self.space.disks.health() {

@@ -14,6 +14,7 @@ ghost use Rattle.ar_extents.specs.Plans.{CarriesOut};
 ghost use Rattle.ar_parity.specs.Group.{KeepsButRow};
 ghost use Rattle.ar_parity.specs.Row.{row_of};
 ghost use Rattle.ar_store.specs.Calls.{IsAccessed};
+ghost use Rattle.ar_store.specs.Kept.{BuffersFit};
 ghost use Rattle.ar_store.specs.Plans.{source_read, sources_plan, copy_plan, squeeze_plan};
 ghost use Rattle.ar_store.specs.Slots.{IsSource, AreSources, HoldsSource, HoldsSources};
 
@@ -35,8 +36,7 @@ pub(crate) fn copy_group<D: Disk>(
     requires to { IsGroup disks.old to.now }
     requires apart { AreDisjoint from.now to.now }
     requires sound { disks.old.health ≢ Broken }
-    requires scratch { scratch.old.geometry ≡ disks.old.geometry }
-    requires whole { length block.old ≡ block_len_of disks.old.geometry }
+    requires buffers { BuffersFit disks.old block.old scratch.old.geometry }
 
     ensures outcome { result ≡ outcome_of disks.new.health }
     ensures copied { OnDone result (HoldsSources from.now to.now disks.old disks.new) }
@@ -68,8 +68,7 @@ fn copy_stripe<D: Disk>(
     requires to { IsGroup disks.old to.now }
     requires sound { disks.old.health ≢ Broken }
     requires row { row < rows_of disks.old.geometry }
-    requires scratch { scratch.old.geometry ≡ disks.old.geometry }
-    requires whole { length block.old ≡ block_len_of disks.old.geometry }
+    requires buffers { BuffersFit disks.old block.old scratch.old.geometry }
 
     ensures outcome { result ≡ outcome_of disks.new.health }
     ensures copied { OnDone result ((slot : ℕ) → row_of slot ≡ row
@@ -104,8 +103,7 @@ fn read_sources<D: Disk>(
     requires from { IsGroup disks.old from.now }
     requires sound { disks.old.health ≢ Broken }
     requires row { row < rows_of disks.old.geometry }
-    requires scratch { scratch.old.geometry ≡ disks.old.geometry }
-    requires whole { length block.old ≡ block_len_of disks.old.geometry }
+    requires buffers { BuffersFit disks.old block.old scratch.old.geometry }
 
     ensures outcome { result ≡ outcome_of disks.new.health }
     ensures sources { OnDone result (AreSources from.now row disks.old block.new scratch.new.first scratch.new.second) }

@@ -1,17 +1,13 @@
 // Finds the slot of a block that is put, the first of these: its home, if mirrored; a mirrored hole, in a group opened
 // for it if need be; its home, if parity; a parity hole; the first hole of the group that a squeeze opens.
-ghost use Rattle.std.specs.Prelude.{◌≡◌, ◌≢◌, ◌⊎◌, ◌<◌, length, IfSome, IfNone};
+ghost use Rattle.std.specs.Prelude.{◌≡◌, ◌≢◌, ◌<◌, length, IfSome, IfNone};
 ghost use Rattle.ar_disks.specs.Geometry.{block_len_of};
 ghost use Rattle.ar_extents.specs.declared.health.Health.TheVariants.{Broken};
 ghost use Rattle.ar_book.specs.Book.{TablesAgree};
-ghost use Rattle.ar_book.specs.declared.class.Class.TheVariants.{Mirrored};
-ghost use Rattle.ar_book.specs.Tables.{home, free_groups, HasBlock};
-ghost use Rattle.ar_store.specs.Slots.{AllStand};
-ghost use Rattle.ar_store.specs.Plans.{CarriesOutSearch};
-ghost use Rattle.ar_store.specs.Calls.{IsZerosOnWay};
-ghost use Rattle.ar_store.specs.Placing.{Leads, IsReadyFor, MayOpen, WantsGroup, MayHavePrepared, IsMirroredHole};
-ghost use Rattle.ar_store.specs.Placing.{HasNoMirroredHole, HasNoHole, IsWayIn, HasNoWay, lacks_mirrored_slot};
-ghost use Rattle.ar_store.specs.Spaces.{store_in, IsReady, Stays};
+ghost use Rattle.ar_book.specs.Tables.{free_groups, HasBlock};
+ghost use Rattle.ar_store.specs.Placing.{MayOpen, IsMirroredHole, HasNoMirroredHole, IsWayIn, HasNoWay};
+ghost use Rattle.ar_store.specs.Placing.{lacks_mirrored_slot};
+ghost use Rattle.ar_store.specs.Spaces.{IsReady, FindsSlot};
 
 use crate::space::Space;
 use ar_book::{Book, Class, Level, Slot};
@@ -38,16 +34,7 @@ impl<D: Disk> Space<D> {
         requires sound { self.old.disks.health ≢ Broken }
         requires whole { length block.old ≡ block_len_of self.old.disks.geometry }
 
-        ensures leads { Leads self.old.book key self.new.book result }
-        ensures way { IsReadyFor (store_in self.new) key result }
-        ensures prepared { MayHavePrepared self.old.book key self.new.book }
-        ensures zeros { IsZerosOnWay self.old.book key (store_in self.new) result }
-
-        ensures home { home self.new.book key ≡ home self.old.book key }
-        ensures free { self.new.disks.health ≢ Broken → 0 < free_groups self.new.book }
-        ensures stand { AllStand (store_in self.old) (store_in self.new) }
-        ensures search { CarriesOutSearch (store_in self.old) key (store_in self.new) }
-        ensures stays { Stays self.old self.new }
+        ensures found { FindsSlot self.old self.new key result }
         ensures len { length block.new ≡ length block.old }
     {
         match way_in(&mut self.book, key) {
@@ -66,7 +53,6 @@ fn way_in(book: &mut Book, key: Key) -> Option<Way>
     ensures way { IfSome result (IsWayIn book.old key book.new) }
     ensures none { IfNone result (HasNoWay book.old key book.new) }
     ensures opens { MayOpen book.old book.new }
-    ensures wanted { (book.new ≡ book.old) ⊎ WantsGroup book.old key }
 {
     let Some(home) = book.home(key) else {
         if let Some(slot) = mirrored_hole(book) {
@@ -89,7 +75,6 @@ fn mirrored_hole(book: &mut Book) -> Option<Slot>
     ensures found { IfSome result (IsMirroredHole book.old book.new) }
     ensures none { IfNone result (HasNoMirroredHole book.old book.new) }
     ensures opens { MayOpen book.old book.new }
-    ensures wanted { (book.new ≡ book.old) ⊎ HasNoHole book.old Mirrored }
 {
     if let Some(slot) = book.hole(Class::Mirrored, &mut Steps::new()) {
         return Some(slot);

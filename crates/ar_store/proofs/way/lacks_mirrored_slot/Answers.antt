@@ -1,10 +1,14 @@
 use Rattle.std.proofs.Common.{◌<◌, sym, arith}
+use Rattle.ar_book.specs.declared.class.Class.TheVariants.{Mirrored}
 use Rattle.ar_book.specs.Tables.{free_groups}
-use Rattle.ar_store.proofs.Gaps.{lacks_of, hole_offers}
+use Rattle.ar_store.proofs.Gaps.{lacks_of, hole_offers, found}
 use Rattle.ar_store.proofs.way.lacks_mirrored_slot.Goals as goal
 
 pub returns-in-Some : goal.returns-in-Some
-returns-in-Some c = sym (hole_offers c.args.book.now c.in-Some.field-0 c.in-Some.ensures.found)
+returns-in-Some c =
+    let t = c.args.book.now in
+    let hole = c.in-Some.ensures in
+    sym (hole_offers t (found t Mirrored c.in-Some.field-0 (record { hole = hole.found; least = hole.least })).0)
 
 pub returns-in-None : goal.returns-in-None
 returns-in-None c =

@@ -1,5 +1,6 @@
-use Rattle.std.proofs.Common.{sym, ◌∙◌, inl, refl}
-use Rattle.ar_store.proofs.Ways.{wanted_unplaced, wanted_low, way_to_mirrored, way_to_parity, way_up, way_low, way_high}
+use Rattle.std.proofs.Common.{sym, ◌∙◌, inl, refl, subst, IfNone}
+use Rattle.ar_store.specs.Placing.{HasNoWay}
+use Rattle.ar_store.proofs.Ways.{way_to_mirrored, way_to_parity, no_way, way_up, way_low, way_high}
 use Rattle.ar_store.proofs.way.way_in.Goals as goal
 
 pub returns-in-Some-mirrored_hole : goal.returns-in-Some-mirrored_hole
@@ -7,11 +8,9 @@ returns-in-Some-mirrored_hole c =
     let found = c.in-Some-mirrored_hole.ensures in
     record {
       way = way_to_mirrored c.args.book.now c.args.key c.mirrored_hole.new.book c.in-Some-mirrored_hole.slot
-          (sym c.home.ensures ∙ c.in_default.is) found.found found.opens;
+          (sym c.home.ensures ∙ c.in_default.is) found.found;
       none = tt;
       opens = found.opens;
-      wanted = wanted_unplaced c.args.book.now c.mirrored_hole.new.book c.args.key (sym c.home.ensures
-          ∙ c.in_default.is) found.wanted;
     }
 
 pub returns-in_default : goal.returns-in_default
@@ -23,19 +22,24 @@ returns-in_default c =
           ∙ c.in_default.is) without.none found.found found.least;
       none = tt;
       opens = without.opens;
-      wanted = inl without.none.same;
     }
+
+pub returns-in_err-slot-clause-none : goal.returns-in_err-slot-clause-none
+returns-in_err-slot-clause-none c =
+    let t = c.args.book.now in
+    let u = c.mirrored_hole.new.book in
+    subst (λ o. IfNone o (HasNoWay t c.args.key u)) (sym c.from_residual.ensures)
+    (no_way t c.args.key u (sym c.home.ensures ∙ c.in_default.is) c.in_default-mirrored_hole.ensures.none
+    (record { none = c.in_err-slot.ensures.none }))
 
 pub returns-in-Some-mirrored_hole-2 : goal.returns-in-Some-mirrored_hole-2
 returns-in-Some-mirrored_hole-2 c =
     let found = c.in-Some-mirrored_hole-2.ensures in
     record {
       way = way_up c.args.book.now c.args.key c.mirrored_hole-in-Parity.new.book c.in-Some-mirrored_hole-2.slot
-          (sym c.level.ensures ∙ c.in-Parity.is) found.found found.opens;
+          (sym c.level.ensures ∙ c.in-Parity.is) found.found;
       none = tt;
       opens = found.opens;
-      wanted = wanted_low c.args.book.now c.mirrored_hole-in-Parity.new.book c.args.key (sym c.level.ensures
-          ∙ c.in-Parity.is) found.wanted;
     }
 
 pub returns-in-None : goal.returns-in-None
@@ -47,7 +51,6 @@ returns-in-None c =
           (sym c.home.ensures ∙ c.in-Some.is) without.none;
       none = tt;
       opens = without.opens;
-      wanted = inl without.none.same;
     }
 
 pub returns-in-Mirrored : goal.returns-in-Mirrored
@@ -56,5 +59,4 @@ returns-in-Mirrored c = record {
       c.level.ensures c.in-Mirrored.is;
   none = tt;
   opens = inl refl;
-  wanted = inl refl;
 }

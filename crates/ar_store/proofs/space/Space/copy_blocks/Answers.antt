@@ -1,4 +1,4 @@
-use Rattle.std.proofs.Common.{sym, subst, ◌∙◌}
+use Rattle.std.proofs.Common.{refl, sym, subst, ◌∙◌}
 use Rattle.ar_disks.specs.declared.address.Members.{Members}
 use Rattle.ar_extents.specs.Follows.{Keeps}
 use Rattle.ar_extents.specs.Groups.{IsOutside}
@@ -14,13 +14,16 @@ returns-clause-copies g c =
     c.members-source.result c.members-target.result c.requires.ready.space c.requires.full c.requires.free
     c.members-source.ensures c.members-target.ensures copied.accessed copied.keeps copied.copied
 
-pub returns-clause-stand : goal.returns-clause-stand
-returns-clause-stand g c =
+pub returns-clause-keeps : goal.returns-clause-keeps
+returns-clause-keeps g c =
     let s = c.args.self.now in
     let b = c.copy_group.new.disks in
     let copied = c.copy_group.ensures in
-    (free_leaves s.disks b s.book c.args.to c.requires.ready.space c.requires.free copied.accessed
-    (subst (λ (m : Members). Keeps (IsOutside m) s.disks b) c.members-target.ensures copied.keeps)).stand
+    record {
+      book = refl;
+      stands = (free_leaves s.disks b s.book c.args.to c.requires.ready.space c.requires.free copied.accessed
+          (subst (λ (m : Members). Keeps (IsOutside m) s.disks b) c.members-target.ensures copied.keeps)).stand;
+    }
 
 pub returns-clause-stays : goal.returns-clause-stays
 returns-clause-stays g c =

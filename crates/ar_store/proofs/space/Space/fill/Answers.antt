@@ -1,13 +1,13 @@
 use Rattle.std.proofs.Common.{sym, ap, subst, ◌∙◌}
 use Rattle.ar_book.specs.Tables.{Tables, HasBlock}
 use Rattle.ar_book.specs.Changes.{assigned}
-use Rattle.ar_extents.proofs.Outcomes.{done_sound, broken_is}
+use Rattle.ar_extents.proofs.Outcomes.{done_sound}
 use Rattle.ar_store.specs.Store.{StoreState, store_of}
 use Rattle.ar_store.specs.Slots.{OtherSlotsHold, SlotHolds}
 use Rattle.ar_store.specs.Placing.{IsVacant}
 use Rattle.ar_store.specs.Kept.{IsSpace}
 use Rattle.ar_store.specs.Spaces.{store_in}
-use Rattle.ar_store.proofs.Fills.{filled, beside_filled, beside_same, none_stands, done_not_broken, same_free}
+use Rattle.ar_store.proofs.Fills.{filled, beside_filled, beside_same, puts_done, puts_none, IsWrittenAs}
 use Rattle.ar_store.proofs.space.Space.fill.Goals as goal
 
 pub write_at-requires : goal.write_at-requires
@@ -15,7 +15,7 @@ write_at-requires g c = record { ready = c.requires.ready; slot = c.requires.hol
 
 pub assign-requires : goal.assign-requires
 assign-requires g c =
-    let same = sym c.write_at.ensures.book in
+    let same = sym c.write_at.ensures.rest.book in
     let vacant = subst (λ (x : Tables). IsVacant x c.args.to) same c.requires.hole in
     record {
       block = subst (λ (x : Tables). HasBlock x c.args.key) same c.requires.block;
@@ -26,49 +26,37 @@ assign-requires g c =
 pub returns-in-Done : goal.returns-in-Done
 returns-in-Done g c =
     let s = c.args.self.now in
-    let new = c.write_at.new.self in
-    let b = new.disks in
-    let wrote = c.write_at.ensures in
+    let b = c.write_at.new.self.disks in
+    let wrote = c.write_at.ensures.rest in
     let answer = sym c.in-Done.is ∙ wrote.outcome in
     let now = ap (λ (x : Tables). store_of b x) wrote.book in
     let tables = c.assign.ensures.assigned ∙ ap (λ (x : Tables). assigned x c.args.key c.args.to) wrote.book in
+    let slots = subst (λ (x : StoreState). OtherSlotsHold (store_in s) x c.args.to) now wrote.others in
     let fills = filled s.disks b s.book c.assign.new.self c.args.key c.args.to c.args.from.now c.requires.ready.space
     (subst (λ (x : StoreState). IsSpace x) now wrote.stays.ready.space) c.requires.block c.requires.hole
-    c.requires.whole wrote.stays.accessed
-    (subst (λ (x : StoreState). OtherSlotsHold (store_in s) x c.args.to) now wrote.others)
-    (subst (λ (x : StoreState). SlotHolds x c.args.to c.args.from.now) now wrote.here) tables in
-    record {
-      outcome = answer;
-      filled = λ _. tables;
-      unfilled = λ broke. absurd (done_not_broken broke);
-      free = fills.free;
-      here = λ _. fills.here (done_sound b.health answer);
+    c.requires.whole wrote.stays.accessed slots
+    (subst (λ (x : StoreState). SlotHolds x c.args.to c.args.from.now) now c.write_at.ensures.here) tables in
+    let written : IsWrittenAs (store_in s) b s.book c.assign.new.self c.args.key c.args.from.now = record {
+      space = fills.space;
+      units = fills.units;
+      here = fills.here (done_sound b.health answer);
       others = fills.others;
+    } in
+    record {
+      puts = puts_done s _ c.args.key _ c.args.from.now answer tables fills.free written wrote.stays.ready.scratch
+          wrote.stays.accessed;
       beside = beside_filled s.disks b s.book c.assign.new.self c.args.key c.args.to c.requires.ready.space
-          c.requires.block c.requires.hole
-          (subst (λ (x : StoreState). OtherSlotsHold (store_in s) x c.args.to) now wrote.others) tables;
+          c.requires.block c.requires.hole slots tables;
       writes = wrote.writes;
-      stays = record {
-        ready = record { space = fills.space; scratch = wrote.stays.ready.scratch };
-        units = fills.units;
-        accessed = wrote.stays.accessed;
-      };
     }
 
 pub returns-in-Broken : goal.returns-in-Broken
 returns-in-Broken g c =
     let s = c.args.self.now in
     let new = c.write_at.new.self in
-    let wrote = c.write_at.ensures in
-    let answer = sym c.in-Broken.is ∙ wrote.outcome in
+    let wrote = c.write_at.ensures.rest in
     record {
-      outcome = answer;
-      filled = λ done. absurd (done_not_broken (sym done));
-      unfilled = λ _. wrote.book;
-      free = same_free s.book new.book wrote.book;
-      here = λ done. absurd (done_not_broken (sym done));
-      others = none_stands (store_in s) (store_in new) c.args.key (broken_is new.disks.health answer);
+      puts = puts_none s new c.args.key c.args.to _ c.args.from.now c.write_at.result c.in-Broken.is wrote;
       beside = beside_same (store_in s) (store_in new) c.args.to wrote.others;
       writes = wrote.writes;
-      stays = wrote.stays;
     }

@@ -1,9 +1,9 @@
-use Rattle.std.proofs.Common.{◌<◌, ◌*◌, sym, subst, ◌∙◌}
+use Rattle.std.proofs.Common.{◌<◌, ◌*◌, refl, sym, subst, ◌∙◌}
 use Rattle.ar_store.specs.Store.{members_of}
 use Rattle.ar_store.specs.Spaces.{store_in}
 use Rattle.ar_store.proofs.Copied.{opened_can, has_moved, copies_zeros, moved_members}
 use Rattle.ar_store.proofs.Fills.{accessed_refl}
-use Rattle.ar_store.proofs.Squeezing.{slots_end, squeezed_is, squeezed_tables, free_counted}
+use Rattle.ar_store.proofs.Squeezing.{slots_end, squeezed_tables, squeezed_slot, squeezed_empty, free_counted}
 use Rattle.ar_store.proofs.space.Space.move_homes.Goals as goal
 
 pub move_group-requires : goal.move_group-requires
@@ -14,8 +14,8 @@ move_group-requires g c =
           opening.lowest opening.opened opening.empty;
     }
 
-pub returns-clause-hole : goal.returns-clause-hole
-returns-clause-hole g c =
+pub returns : goal.returns
+returns g c =
     let s = c.args.self.now in
     let t = s.book in
     let mid = c.open_last-to.new.self in
@@ -28,43 +28,26 @@ returns-clause-hole g c =
     let copies = c.requires.copies to opening.lowest in
     let has = has_moved s.disks t mid new from to c.requires.ready.space c.requires.sound full opening.lowest
     opening.opened opening.empty copies moved in
+    let slots = slots_end c.rows.result c.geometry.result t.geometry c.rows.ensures
+    (c.geometry.ensures ∙ sym c.requires.ready.space.geometry) in
     record {
-      squeezed = squeezed_is t mid new from to (2 * c.rows.result) full opening.lowest opening.opened moved
-          (slots_end c.rows.result c.geometry.result t.geometry c.rows.ensures
-          (c.geometry.ensures ∙ sym c.requires.ready.space.geometry)) has.hole;
-      made = squeezed_tables t mid new from to full opening.lowest opening.opened moved;
-      free = free_counted new from has.after.space.tables
-          (subst (λ n. from < n) (sym has.after.units.groups) full.there) has.emptied;
-      zeros = copies_zeros s.disks new (members_of (store_in s) from) (members_of (store_in s) to) to
-          (2 * c.rows.result) (moved_members t mid new from to opening.opened moved) has.opened
-          (slots_end c.rows.result c.geometry.result s.disks.geometry c.rows.ensures c.geometry.ensures) copies;
-    }
-
-pub returns-clause-unplaced : goal.returns-clause-unplaced
-returns-clause-unplaced g c =
-    let s = c.args.self.now in
-    let opening = c.open_last-to.ensures in
-    (has_moved s.disks s.book c.open_last-to.new.self c.move_group.new.self c.args.from c.open_last-to.result
-    c.requires.ready.space c.requires.sound c.requires.full opening.lowest opening.opened opening.empty
-    (c.requires.copies c.open_last-to.result opening.lowest) c.move_group.ensures.moved).unplaced
-
-pub returns-clause-stand : goal.returns-clause-stand
-returns-clause-stand g c =
-    let s = c.args.self.now in
-    let opening = c.open_last-to.ensures in
-    (has_moved s.disks s.book c.open_last-to.new.self c.move_group.new.self c.args.from c.open_last-to.result
-    c.requires.ready.space c.requires.sound c.requires.full opening.lowest opening.opened opening.empty
-    (c.requires.copies c.open_last-to.result opening.lowest) c.move_group.ensures.moved).after.stand
-
-pub returns-clause-stays : goal.returns-clause-stays
-returns-clause-stays g c =
-    let s = c.args.self.now in
-    let opening = c.open_last-to.ensures in
-    let after = (has_moved s.disks s.book c.open_last-to.new.self c.move_group.new.self c.args.from
-    c.open_last-to.result c.requires.ready.space c.requires.sound c.requires.full opening.lowest opening.opened
-    opening.empty (c.requires.copies c.open_last-to.result opening.lowest) c.move_group.ensures.moved).after in
-    record {
-      ready = record { space = after.space; scratch = c.requires.ready.scratch };
-      units = after.units;
-      accessed = accessed_refl s.disks;
+      hole = record {
+        slot = squeezed_slot t mid new from to full opening.lowest opening.opened moved (2 * c.rows.result) slots;
+        tables = squeezed_tables t mid new from to full opening.lowest opening.opened moved;
+        empty = squeezed_empty t mid new from to full opening.lowest opening.opened moved (2 * c.rows.result) slots
+            has.hole;
+        free = free_counted new from has.after.space.tables
+            (subst (λ n. from < n) (sym has.after.units.groups) full.there) has.emptied;
+        zeros = copies_zeros s.disks new (members_of (store_in s) from) (members_of (store_in s) to) to
+            (2 * c.rows.result) (moved_members t mid new from to opening.opened moved) has.opened
+            (slots_end c.rows.result c.geometry.result s.disks.geometry c.rows.ensures c.geometry.ensures) copies;
+      };
+      disks = refl;
+      unplaced = has.unplaced;
+      stand = has.after.stand;
+      stays = record {
+        ready = record { space = has.after.space; scratch = c.requires.ready.scratch };
+        units = has.after.units;
+        accessed = accessed_refl s.disks;
+      };
     }

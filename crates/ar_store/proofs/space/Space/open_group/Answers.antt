@@ -46,12 +46,12 @@ returns-in-Mirrored g c =
     let class = class_mirrored c.args.class c.in-Mirrored.is c.requires.class in
     let after = after_opening s.disks s.book u c.requires.ready.space (inr (record {
       group = c.in-Some.group;
-      lowest = opening.lowest;
+      lowest = opening.opens.lowest;
       many = opening.when.0 refl;
-      tables = opening.opened ∙ ap (λ x. opened s.book c.in-Some.group x) class;
+      tables = opening.opens.opened ∙ ap (λ x. opened s.book c.in-Some.group x) class;
     })) in
     record {
-      opens = record { many = opening.when.0 refl; lowest = opening.lowest; tables = opening.opened };
+      opens = record { many = opening.when.0 refl; lowest = opening.opens.lowest; tables = opening.opens.opened };
       answer = (λ broke. absurd (opened_not_broken c.in-Some.group broke), λ broken. absurd (c.requires.sound broken));
       parity = λ is. absurd (mirrored_not_parity (sym class ∙ is));
       free = after.free;
@@ -70,7 +70,7 @@ returns-in-Mirrored g c =
 pub members-members-requires : goal.members-members-requires
 members-members-requires g c =
     let opening = c.in-Some.ensures in
-    opened_there c.args.self.now.book c.open_group.new.self c.in-Some.group c.args.class opening.lowest opening.opened
+    opened_there c.args.self.now.book c.open_group.new.self c.in-Some.group c.args.class opening.opens.lowest opening.opens.opened
 
 pub open_zero-requires : goal.open_zero-requires
 open_zero-requires g c =
@@ -78,7 +78,7 @@ open_zero-requires g c =
     record {
       group = opened_group c.args.self.now.disks c.args.self.now.book c.open_group.new.self c.in-Some.group c.args.class
           c.members-members.result
-          c.requires.ready.space opening.lowest opening.opened c.members-members.ensures;
+          c.requires.ready.space opening.opens.lowest opening.opens.opened c.members-members.ensures;
       scratch = c.requires.ready.scratch;
     }
 
@@ -91,24 +91,24 @@ returns-in-Done g c =
     let zero = c.open_zero.ensures in
     let reported = stripes_reported c.members-members.result 0 (rows_of s.disks.geometry) s.disks b zero.plan in
     let answer = sym c.in-Done.is ∙ zero.outcome in
-    let tables = opening.opened ∙ ap (λ x. opened s.book c.in-Some.group x) c.in-Parity.is in
+    let tables = opening.opens.opened ∙ ap (λ x. opened s.book c.in-Some.group x) c.in-Parity.is in
     let access : IsAccessed s.disks b = accessed_work (IsMember c.members-members.result) s.disks b reported.works in
-    let zeros = zeroed s.disks b s.book u c.in-Some.group c.members-members.result c.requires.ready.space opening.lowest
+    let zeros = zeroed s.disks b s.book u c.in-Some.group c.members-members.result c.requires.ready.space opening.opens.lowest
     tables c.members-members.ensures
     access reported.keeps zero.slots in
     record {
-      opens = record { many = opening.when.0 refl; lowest = opening.lowest; tables = opening.opened };
+      opens = record { many = opening.when.0 refl; lowest = opening.opens.lowest; tables = opening.opens.opened };
       answer = (
         λ broke. absurd (opened_not_broken c.in-Some.group broke),
         λ broken. absurd (done_sound b.health answer broken),
       );
       parity = λ _. zeros.zeros_in;
-      free = λ _. opened_free s.book u c.in-Some.group c.args.class c.requires.ready.space.tables opening.lowest
-          (opening.when.0 refl) c.requires.class opening.opened;
+      free = λ _. opened_free s.book u c.in-Some.group c.args.class c.requires.ready.space.tables opening.opens.lowest
+          (opening.when.0 refl) c.requires.class opening.opens.opened;
       stand = zeros.stand;
       plan = λ group many lowest.
-          only_opened (store_in s) b c.args.class c.in-Some.group c.in-Parity.is opening.lowest
-          (opened_plan s.disks b s.book u c.in-Some.group c.args.class c.members-members.result opening.opened
+          only_opened (store_in s) b c.args.class c.in-Some.group c.in-Parity.is opening.opens.lowest
+          (opened_plan s.disks b s.book u c.in-Some.group c.args.class c.members-members.result opening.opens.opened
           c.members-members.ensures zero.plan) group lowest;
       stays = record {
         ready = record {
@@ -130,25 +130,25 @@ returns-in-Broken g c =
     let zero = c.open_zero.ensures in
     let reported = stripes_reported c.members-members.result 0 (rows_of s.disks.geometry) s.disks b zero.plan in
     let broken = broken_is b.health (sym c.in-Broken.is ∙ zero.outcome) in
-    let tables = opening.opened ∙ ap (λ x. opened s.book c.in-Some.group x) c.in-Parity.is in
+    let tables = opening.opens.opened ∙ ap (λ x. opened s.book c.in-Some.group x) c.in-Parity.is in
     let access : IsAccessed s.disks b = accessed_work (IsMember c.members-members.result) s.disks b reported.works in
-    let zeros = zeroed s.disks b s.book u c.in-Some.group c.members-members.result c.requires.ready.space opening.lowest
+    let zeros = zeroed s.disks b s.book u c.in-Some.group c.members-members.result c.requires.ready.space opening.opens.lowest
     tables c.members-members.ensures
     access reported.keeps zero.slots in
     record {
       opens = record {
         broken = broken;
         tables = inr
-            (c.in-Some.group, record { many = opening.when.0 refl; lowest = opening.lowest; tables = opening.opened });
+            (c.in-Some.group, record { many = opening.when.0 refl; lowest = opening.opens.lowest; tables = opening.opens.opened });
       };
       answer = (λ _. broken, λ _. refl);
       parity = λ _. tt;
-      free = λ _. opened_free s.book u c.in-Some.group c.args.class c.requires.ready.space.tables opening.lowest
-          (opening.when.0 refl) c.requires.class opening.opened;
+      free = λ _. opened_free s.book u c.in-Some.group c.args.class c.requires.ready.space.tables opening.opens.lowest
+          (opening.when.0 refl) c.requires.class opening.opens.opened;
       stand = zeros.stand;
       plan = λ group many lowest.
-          only_opened (store_in s) b c.args.class c.in-Some.group c.in-Parity.is opening.lowest
-          (opened_plan s.disks b s.book u c.in-Some.group c.args.class c.members-members.result opening.opened
+          only_opened (store_in s) b c.args.class c.in-Some.group c.in-Parity.is opening.opens.lowest
+          (opened_plan s.disks b s.book u c.in-Some.group c.args.class c.members-members.result opening.opens.opened
           c.members-members.ensures zero.plan) group lowest;
       stays = record {
         ready = record {

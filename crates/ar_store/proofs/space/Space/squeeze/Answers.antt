@@ -7,7 +7,7 @@ use Rattle.ar_store.proofs.space.Space.squeeze.Goals as goal
 pub move_homes-hole-requires-clause-copies : goal.move_homes-hole-requires-clause-copies
 move_homes-hole-requires-clause-copies g c =
     copies_for c.copy_blocks.new.self.disks c.args.self.now.book c.copy_blocks.new.self.book
-    c.full_mirrored-from.result c.lowest_free-to.result c.copy_blocks.ensures.book c.lowest_free-to.ensures
+    c.full_mirrored-from.result c.lowest_free-to.result c.copy_blocks.ensures.keeps.book c.lowest_free-to.ensures
     c.in-Done.ensures.copies
 
 pub returns-in-Done-clause-steps : goal.returns-in-Done-clause-steps
@@ -16,10 +16,10 @@ returns-in-Done-clause-steps g c =
     let new = c.move_homes-hole.new.self in
     let copied = c.copy_blocks.ensures in
     let moved = c.move_homes-hole.ensures in
-    squeezed_by (store_in c.args.self.now) (store_in new) b.disks b.book c.full_mirrored-from.result
-    c.lowest_free-to.result c.move_homes-hole.result c.full_mirrored-from.ensures.full c.lowest_free-to.ensures
-    copied.plan c.in-Done.ensures.copied (done_sound b.disks.health (sym c.in-Done.is ∙ copied.outcome)) copied.book
-    moved.disks moved.hole.squeezed
+    squeezed_by (store_in c.args.self.now) (store_in new) c.full_mirrored-from.result c.lowest_free-to.result
+    c.full_mirrored-from.ensures.full c.lowest_free-to.ensures b.disks b.book
+    copied.plan c.in-Done.ensures.copied (done_sound b.disks.health (sym c.in-Done.is ∙ copied.outcome)) copied.keeps.book
+    moved.disks moved.hole.tables
 
 pub returns-in-Broken-clause-steps : goal.returns-in-Broken-clause-steps
 returns-in-Broken-clause-steps g c =
@@ -27,4 +27,4 @@ returns-in-Broken-clause-steps g c =
     let copied = c.copy_blocks.ensures in
     squeeze_failed (store_in c.args.self.now) (store_in b) c.full_mirrored-from.result c.lowest_free-to.result
     c.full_mirrored-from.ensures.full c.lowest_free-to.ensures copied.plan
-    (broken_is b.disks.health (sym c.in-Broken.is ∙ copied.outcome)) copied.book
+    (broken_is b.disks.health (sym c.in-Broken.is ∙ copied.outcome)) copied.keeps.book

@@ -1,40 +1,35 @@
-use Rattle.std.proofs.Common.{sym, refl, ap, subst, ◌∙◌}
-use Rattle.ar_book.specs.Changes.{stamped}
+use Rattle.std.proofs.Common.{sym, refl, ap, subst}
+use Rattle.ar_disks.specs.Geometry.{block_len_of}
+use Rattle.ar_disks.specs.declared.completion.Completion.TheVariants.{Broken as BrokenOff}
 use Rattle.ar_extents.specs.Groups.{outcome_of}
 use Rattle.ar_store.specs.declared.way.Way.{Way}
-use Rattle.ar_store.specs.Placing.{IsReadyFor, placed_by}
-use Rattle.ar_store.specs.Plans.{WritesWay}
-use Rattle.ar_store.specs.Calls.{BesideWay}
-use Rattle.ar_store.specs.Spaces.{store_in}
-use Rattle.ar_store.proofs.Fills.{none_stands, done_not_broken, same_free}
+use Rattle.ar_store.specs.Placing.{IsReadyFor}
+use Rattle.ar_store.specs.Spaces.{store_in, PutsOn}
+use Rattle.ar_store.proofs.Fills.{none_stands, done_not_broken, same_free, puts_whole}
+use Rattle.ar_store.proofs.Overwriting.{all_within}
 use Rattle.ar_store.proofs.Stays.{stays_refl}
 use Rattle.ar_store.proofs.space.Space.write.Goals as goal
 
-pub rewrite-requires : goal.rewrite-requires
-rewrite-requires g c = record {
+pub rewrite_part-requires : goal.rewrite_part-requires
+rewrite_part-requires g c = record {
   ready = c.requires.ready;
   block = c.requires.block;
   home = subst (λ (w : Way). IsReadyFor (store_in c.args.self.now) c.args.key w) c.in-Home.is c.requires.way;
-  whole = c.requires.whole;
+  within = all_within _ (block_len_of c.args.self.now.disks.geometry) c.requires.whole;
 }
 
 pub returns-in-Home : goal.returns-in-Home
 returns-in-Home g c =
-    let wrote = c.rewrite.ensures in
-    record {
-      outcome = wrote.outcome;
-      tables = λ done. wrote.tables done
-          ∙ ap (λ (w : Way). stamped (placed_by c.args.self.now.book c.args.key w) c.args.key) (sym c.in-Home.is);
-      unwritten = wrote.unwritten;
-      free = wrote.free;
-      here = wrote.here;
-      others = wrote.others;
-      beside = subst (λ (w : Way). BesideWay w (store_in c.args.self.now) (store_in c.rewrite.new.self))
-          (sym c.in-Home.is) tt;
-      writes = subst (λ (w : Way). WritesWay w (store_in c.args.self.now) (store_in c.rewrite.new.self))
-          (sym c.in-Home.is) wrote.writes;
-      stays = wrote.stays;
-    }
+    let s = c.args.self.now in
+    let new = c.rewrite_part.new.self in
+    let wrote = c.rewrite_part.ensures in
+    let bytes = c.args.from.now in
+    subst (λ (w : Way). PutsOn s new c.args.key w bytes c.rewrite_part.result) (sym c.in-Home.is) (record {
+      puts = puts_whole s new c.args.key _ bytes c.rewrite_part.result c.requires.ready.space c.requires.whole
+          wrote.puts;
+      beside = tt;
+      writes = wrote.writes;
+    })
 
 pub put_in-requires : goal.put_in-requires
 put_in-requires g c = record {
@@ -47,33 +42,23 @@ put_in-requires g c = record {
 pub returns-in-Hole : goal.returns-in-Hole
 returns-in-Hole g c =
     let wrote = c.put_in.ensures in
-    record {
-      outcome = wrote.outcome;
-      tables = λ done. wrote.tables done
-          ∙ ap (λ (w : Way). stamped (placed_by c.args.self.now.book c.args.key w) c.args.key) (sym c.in-Hole.is);
-      unwritten = wrote.unwritten;
-      free = wrote.free;
-      here = wrote.here;
-      others = wrote.others;
-      beside = subst (λ (w : Way). BesideWay w (store_in c.args.self.now) (store_in c.put_in.new.self))
-          (sym c.in-Hole.is) wrote.beside;
-      writes = subst (λ (w : Way). WritesWay w (store_in c.args.self.now) (store_in c.put_in.new.self))
-          (sym c.in-Hole.is) wrote.writes;
-      stays = wrote.stays;
-    }
+    subst (λ (w : Way). PutsOn c.args.self.now c.put_in.new.self c.args.key w c.args.from.now c.put_in.result)
+    (sym c.in-Hole.is) (record { puts = wrote.puts; beside = wrote.beside; writes = wrote.writes })
 
 pub returns-in-Broken : goal.returns-in-Broken
 returns-in-Broken g c =
     let s = c.args.self.now in
     let broken = subst (λ (w : Way). IsReadyFor (store_in s) c.args.key w) c.in-Broken.is c.requires.way in
-    record {
-      outcome = sym (ap outcome_of broken);
-      tables = λ done. absurd (done_not_broken (sym done));
-      unwritten = λ _. refl;
-      free = same_free s.book s.book refl;
-      here = λ done. absurd (done_not_broken (sym done));
-      others = none_stands (store_in s) (store_in s) c.args.key broken;
-      beside = subst (λ (w : Way). BesideWay w (store_in s) (store_in s)) (sym c.in-Broken.is) tt;
-      writes = subst (λ (w : Way). WritesWay w (store_in s) (store_in s)) (sym c.in-Broken.is) refl;
-      stays = stays_refl s c.requires.ready;
-    }
+    subst (λ (w : Way). PutsOn s s c.args.key w c.args.from.now BrokenOff) (sym c.in-Broken.is) (record {
+      puts = record {
+        outcome = sym (ap outcome_of broken);
+        tables = λ done. absurd (done_not_broken (sym done));
+        unwritten = λ _. refl;
+        free = same_free s.book s.book refl;
+        here = λ done. absurd (done_not_broken (sym done));
+        others = none_stands (store_in s) (store_in s) c.args.key broken;
+        stays = stays_refl s c.requires.ready;
+      };
+      beside = tt;
+      writes = refl;
+    })

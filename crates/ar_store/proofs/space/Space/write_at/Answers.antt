@@ -1,15 +1,9 @@
 use Rattle.std.proofs.Common.{sym, refl, ◌∙◌}
-use Rattle.ar_extents.specs.Groups.{IsMember}
-use Rattle.ar_mirror.specs.Calls.{IsInPair}
 use Rattle.ar_book.specs.declared.class.Class.TheVariants.{Mirrored, Parity}
 use Rattle.ar_mirror.proofs.Reported.{write_reported}
 use Rattle.ar_parity.proofs.Reported.{slot_reported, slot_keeps}
-use Rattle.ar_store.specs.Calls.{IsAccessed}
 use Rattle.ar_store.specs.Spaces.{store_in}
-use Rattle.ar_store.proofs.Changes.{units_refl}
-use Rattle.ar_store.proofs.Fills.{accessed_work}
-use Rattle.ar_store.proofs.Spaces.{slots_written, space_written}
-use Rattle.ar_store.proofs.SlotCalls.{asked_group, asked_slot, never_free, written_mirrored, written_parity, wrote_in}
+use Rattle.ar_store.proofs.SlotCalls.{asked, never_free, written_mirrored, written_parity, write_done}
 use Rattle.ar_store.proofs.space.Space.write_at.Goals as goal
 
 pub unreachable-requires : goal.unreachable-requires
@@ -20,90 +14,52 @@ unreachable-requires g c =
 
 pub put-requires : goal.put-requires
 put-requires g c =
-    let s = store_in c.args.self.now in
-    let m = c.members-members.result in
-    let is = sym c.in-Mirrored.is ∙ c.class.ensures in
-    record {
-      group = asked_group s c.args.slot m c.requires.ready.space c.requires.slot c.members-members.ensures;
-      slot = asked_slot s c.args.slot m c.requires.ready.space c.requires.slot c.members-members.ensures Mirrored is;
-      whole = c.requires.whole;
-    }
+    let ready = asked (store_in c.args.self.now) c.args.slot c.members-members.result c.requires.ready.space
+    c.requires.slot c.members-members.ensures Mirrored
+    (sym c.in-Mirrored.is ∙ c.class.ensures) in
+    record { group = ready.0; slot = ready.1; whole = c.requires.whole }
 
 pub returns-in-Mirrored : goal.returns-in-Mirrored
 returns-in-Mirrored g c =
-    let s = store_in c.args.self.now in
+    let a = c.args.self.now in
+    let slot = c.args.slot in
+    let m = c.members-members.result in
+    let there = c.members-members.ensures in
+    let is = sym c.in-Mirrored.is ∙ c.class.ensures in
     let b = c.put.new.set in
     let put = c.put.ensures in
-    let reported = write_reported c.members-members.result c.args.slot.slot s.disks b put.plan in
-    let access : IsAccessed s.disks b =
-    accessed_work (IsInPair s.disks.geometry c.members-members.result c.args.slot.slot) s.disks b reported.works in
     let written =
-    written_mirrored s c.args.slot c.members-members.result c.requires.ready.space c.requires.slot
-    c.members-members.ensures b c.args.from.now
-    (sym c.in-Mirrored.is ∙ c.class.ensures) put.holds put.slots reported.keeps in
+    written_mirrored (store_in a) slot m c.requires.ready.space c.requires.slot there b c.args.from.now is put.holds
+    put.slots (write_reported m slot.slot a.disks b put.plan).keeps in
     record {
-      outcome = put.outcome;
       here = written.here;
-      others = slots_written s.disks b s.book c.args.slot c.args.from.now c.requires.ready.space c.requires.slot
-          reported.works.follows written;
-      book = refl;
-      writes = wrote_in s c.args.slot c.members-members.result c.requires.ready.space c.requires.slot
-          c.members-members.ensures Mirrored b
-          (sym c.in-Mirrored.is ∙ c.class.ensures)
+      rest = write_done a _ slot m c.requires.ready c.requires.slot there Mirrored is refl refl c.put.result put.outcome
+          c.args.from.now c.requires.whole written
           (record { plan = put.plan; beside = λ k block inside ne has. put.slots.slots k inside ne block has });
-      stays = record {
-        ready = record {
-          space = space_written s.disks b s.book c.args.slot c.args.from.now c.requires.ready.space c.requires.slot
-              access c.requires.whole written;
-          scratch = c.requires.ready.scratch ∙ sym reported.works.follows.geometry;
-        };
-        units = units_refl s.book;
-        accessed = access;
-      };
     }
 
 pub put-requires-in-Parity : goal.put-requires-in-Parity
 put-requires-in-Parity g c =
-    let s = store_in c.args.self.now in
-    let m = c.members-members.result in
-    let is = sym c.in-Parity.is ∙ c.class.ensures in
-    record {
-      group = asked_group s c.args.slot m c.requires.ready.space c.requires.slot c.members-members.ensures;
-      slot = asked_slot s c.args.slot m c.requires.ready.space c.requires.slot c.members-members.ensures Parity is;
-      whole = c.requires.whole;
-      scratch = c.requires.ready.scratch;
-    }
+    let ready = asked (store_in c.args.self.now) c.args.slot c.members-members.result c.requires.ready.space
+    c.requires.slot c.members-members.ensures Parity
+    (sym c.in-Parity.is ∙ c.class.ensures) in
+    record { group = ready.0; slot = ready.1; whole = c.requires.whole; scratch = c.requires.ready.scratch }
 
 pub returns-in-Parity : goal.returns-in-Parity
 returns-in-Parity g c =
-    let s = store_in c.args.self.now in
+    let a = c.args.self.now in
+    let slot = c.args.slot in
+    let m = c.members-members.result in
+    let there = c.members-members.ensures in
+    let is = sym c.in-Parity.is ∙ c.class.ensures in
     let b = c.put-in-Parity.new.set in
     let put = c.put-in-Parity.ensures in
-    let m = c.members-members.result in
-    let reported = slot_reported m c.args.slot.slot s.disks b put.plan in
-    let keeps = slot_keeps m c.args.slot.slot s.disks b reported in
-    let access : IsAccessed s.disks b = accessed_work (IsMember c.members-members.result) s.disks b reported.works in
     let written =
-    written_parity s c.args.slot c.members-members.result c.requires.ready.space c.requires.slot
-    c.members-members.ensures b c.args.from.now
-    (sym c.in-Parity.is ∙ c.class.ensures) put.holds put.slots keeps in
+    written_parity (store_in a) slot m c.requires.ready.space c.requires.slot there b c.args.from.now is put.holds
+    put.writes.slots (slot_keeps m slot.slot a.disks b (slot_reported m slot.slot a.disks b put.writes.plan)) in
     record {
-      outcome = put.outcome;
       here = written.here;
-      others = slots_written s.disks b s.book c.args.slot c.args.from.now c.requires.ready.space c.requires.slot
-          reported.works.follows written;
-      book = refl;
-      writes = wrote_in s c.args.slot c.members-members.result c.requires.ready.space c.requires.slot
-          c.members-members.ensures Parity b
-          (sym c.in-Parity.is ∙ c.class.ensures)
-          (record { plan = put.plan; beside = λ k block inside ne has. put.slots k ne block has });
-      stays = record {
-        ready = record {
-          space = space_written s.disks b s.book c.args.slot c.args.from.now c.requires.ready.space c.requires.slot
-              access c.requires.whole written;
-          scratch = put.scratch ∙ c.requires.ready.scratch ∙ sym reported.works.follows.geometry;
-        };
-        units = units_refl s.book;
-        accessed = access;
-      };
+      rest = write_done a _ slot m c.requires.ready c.requires.slot there Parity is refl put.scratch
+          c.put-in-Parity.result put.writes.outcome c.args.from.now c.requires.whole written
+          (record { plan = put.writes.plan; beside = λ k block inside ne has. put.writes.slots k ne block has });
     }

@@ -6,7 +6,8 @@ use Rattle.ar_disks.specs.Geometry.{block_len_of}
 use Rattle.ar_store.specs.Store.{StoreState, store_of}
 use Rattle.ar_store.specs.Slots.{stands}
 use Rattle.ar_store.specs.Kept.{FieldsAgree}
-use Rattle.ar_store.proofs.UnitChanges.{fields_same, space_dropped, free_dropped, others_dropped, own_after, after_call}
+use Rattle.ar_store.proofs.UnitChanges.{fields_same, space_dropped, free_dropped, others_dropped, own_after}
+use Rattle.ar_store.proofs.Options.{after_call}
 use Rattle.ar_store.proofs.UnitChanges.{on_ok}
 use Rattle.ar_store.proofs.store.Store.drop_unit.Goals as goal
 

@@ -1,89 +1,26 @@
-use Rattle.std.proofs.Common.{◌≡◌, Option, None, refl, sym, ap, subst, ◌∙◌}
-use Rattle.ar_extents.specs.Plans.{CarriesOut, stops}
-use Rattle.ar_extents.proofs.Plans.{carries_broken}
-use Rattle.ar_disks.specs.Block.{zeros}
+use Rattle.std.proofs.Common.{sym, ap, ◌∙◌}
+use Rattle.ar_disks.specs.Block.{part_at}
 use Rattle.ar_disks.specs.Geometry.{block_len_of}
-use Rattle.ar_extents.specs.declared.health.Health.TheVariants.{Broken}
-use Rattle.ar_extents.specs.Groups.{outcome_of}
-use Rattle.ar_extents.proofs.Outcomes.{done_sound, sound_done}
-use Rattle.ar_book.specs.Tables.{home}
-use Rattle.ar_book.proofs.Homes.{home_slot}
-use Rattle.ar_book.specs.declared.class.Slot.{Slot}
-use Rattle.ar_store.specs.Store.{StoreState}
-use Rattle.ar_store.specs.Slots.{AllStand}
-use Rattle.ar_store.specs.Plans.{home_read, get_plan}
-use Rattle.ar_store.specs.Spaces.{store_in}
-use Rattle.ar_store.proofs.Standing.{stands_nowhere}
-use Rattle.ar_store.proofs.Planned.{home_plan}
-use Rattle.ar_store.proofs.Fields.{ready_in, fields_stay, free_then, given_stands, given_done}
-use Rattle.ar_store.proofs.Fills.{same_free, done_not_broken}
+use Rattle.ar_extents.proofs.Outcomes.{done_sound}
+use Rattle.ar_parity.proofs.PartSums.{part_at-whole}
+use Rattle.ar_store.specs.Slots.{stands}
+use Rattle.ar_store.proofs.Accesses.{get_accessed}
+use Rattle.ar_store.proofs.Overwriting.{all_within}
+use Rattle.ar_store.proofs.Standing.{was_sound}
 use Rattle.ar_store.proofs.store.Store.get.Goals as goal
 
-pub read_at-requires : goal.read_at-requires
-read_at-requires g c =
-    let a = c.self.inside.space in
-    record {
-      ready = ready_in a c.self.inside.block c.self.invariant;
-      slot = home_slot a.book c.self.invariant.kept.space.tables c.args.key c.in-Some.slot (sym c.home.ensures
-          ∙ c.in-Some.is);
-      whole = c.requires.whole ∙ ap (λ (s : StoreState). block_len_of s.disks.geometry) (sym c.self.view_is);
-    }
+pub get_part-requires : goal.get_part-requires
+get_part-requires g c = record {
+  within = all_within _ (block_len_of c.args.self.now.disks.geometry) c.requires.whole;
+}
 
-pub invariant_of-self : goal.invariant_of-self
-invariant_of-self g c =
-    let a = c.self.inside.space in
-    let b = c.read_at.new.self in
-    let read = c.read_at.ensures in
-    fields_stay a b c.self.inside.block c.self.inside.block c.self.invariant read.stays
-    (free_then a b c.self.invariant.kept.free read.stays (same_free a.book b.book read.book)) refl
-
-pub returns-in-Some : goal.returns-in-Some
-returns-in-Some g c =
-    let a = c.self.inside.space in
-    let b = c.read_at.new.self in
-    let view = c.self.view_is in
-    let read = c.read_at.ensures in
-    let is = sym c.home.ensures ∙ c.in-Some.is in
-    record {
-      outcome = read.outcome;
-      given = λ done.
-          given_stands c.args.self.now a.disks b.disks a.book c.args.key c.in-Some.slot (λ block. block)
-          c.read_at.new.into view
-          c.self.invariant.kept.space is
-          read.stays.accessed.follows (done_sound b.disks.health (sym done ∙ read.outcome))
-          (given_done c.read_at.result _ done read.given);
-      plan = subst (λ (s : StoreState). CarriesOut (get_plan s c.args.key) s.disks b.disks) view
-          (home_plan (store_in a) c.args.key c.in-Some.slot b.disks is read.plan);
-      stands = subst (λ (s : StoreState). AllStand s (store_in b)) view read.stand;
-      book = read.book ∙ ap (λ (s : StoreState). s.book) view;
-    }
-
-pub returns-in-None : goal.returns-in-None
-returns-in-None g c =
+pub returns-clause-given : goal.returns-clause-given
+returns-clause-given g c = λ done.
     let s = c.args.self.now in
-    let view = c.self.view_is in
-    let none : home s.book c.args.key ≡ None =
-    ap (λ (x : StoreState). home x.book c.args.key) (sym view) ∙ sym c.home.ensures ∙ c.in-None.is in
-    let sound = λ (broken : s.disks.health ≡ Broken). c.in_default.not-Broken (c.health.ensures.same
-    ∙ ap (λ (x : StoreState). x.disks.health) view ∙ broken) in
-    record {
-      outcome = sym (sound_done s.disks.health sound);
-      given = λ _. c.zero.ensures ∙ ap zeros c.requires.whole ∙ sym (stands_nowhere s c.args.key none);
-      plan = (let P : Option Slot → Type 0 = λ h. CarriesOut (home_read s h) s.disks s.disks in
-          subst P (sym none) (stops s.disks));
-      stands = record { blocks = λ _ k. refl };
-      book = refl;
-    }
-
-pub returns-in-Broken : goal.returns-in-Broken
-returns-in-Broken g c =
-    let s = c.args.self.now in
-    let broken =
-    ap (λ (x : StoreState). x.disks.health) (sym c.self.view_is) ∙ sym c.health.ensures.same ∙ c.in-Broken.is in
-    record {
-      outcome = sym (ap outcome_of broken);
-      given = λ done. absurd (done_not_broken (sym done));
-      plan = carries_broken (get_plan s c.args.key) s.disks broken;
-      stands = record { blocks = λ _ k. refl };
-      book = refl;
-    }
+    let k = c.args.key in
+    let new = c.get_part.new.self.disks in
+    let got = c.get_part.ensures in
+    let sound = was_sound s.disks new (get_accessed s k new got.plan).follows
+    (done_sound new.health (sym done ∙ got.outcome)) in
+    let len = c.health-health.ensures.whole (λ broken. sound (sym c.health-health.ensures.health ∙ broken)) k in
+    got.given done ∙ ap (λ n. part_at (stands s k) 0 n) (c.requires.whole ∙ sym len) ∙ part_at-whole (stands s k)

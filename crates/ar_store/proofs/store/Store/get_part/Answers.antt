@@ -10,7 +10,7 @@ use Rattle.ar_book.specs.Tables.{home}
 use Rattle.ar_book.proofs.Homes.{home_slot}
 use Rattle.ar_book.specs.declared.class.Slot.{Slot}
 use Rattle.ar_store.specs.Store.{StoreState}
-use Rattle.ar_store.specs.Slots.{stands, AllStand}
+use Rattle.ar_store.specs.Slots.{stands, KeepsContents}
 use Rattle.ar_store.specs.Plans.{home_read, get_plan}
 use Rattle.ar_store.specs.Spaces.{store_in}
 use Rattle.ar_store.proofs.Overwriting.{part_at_zeros}
@@ -57,8 +57,8 @@ returns-in-Some g c =
           ∙ ap (λ n. part_at (stands c.args.self.now c.args.key) c.args.first n) c.read_part_at.auto.into;
       plan = subst (λ (s : StoreState). CarriesOut (get_plan s c.args.key) s.disks b.disks) view
           (home_plan (store_in a) c.args.key c.in-Some.slot b.disks is read.plan);
-      stands = subst (λ (s : StoreState). AllStand s (store_in b)) view read.stand;
-      book = read.book ∙ ap (λ (s : StoreState). s.book) view;
+      keeps = subst (λ (s : StoreState). KeepsContents s (store_in b)) view
+          (record { book = read.book; stands = read.stand });
     }
 
 pub returns-in-None : goal.returns-in-None
@@ -76,8 +76,7 @@ returns-in-None g c =
           ∙ ap (λ block. part_at block c.args.first (length c.args.into.now)) (sym (stands_nowhere s c.args.key none));
       plan = (let P : Option Slot → Type 0 = λ h. CarriesOut (home_read s h) s.disks s.disks in
           subst P (sym none) (stops s.disks));
-      stands = record { blocks = λ _ k. refl };
-      book = refl;
+      keeps = record { book = refl; stands = record { blocks = λ _ k. refl } };
     }
 
 pub returns-in-Broken : goal.returns-in-Broken
@@ -89,6 +88,5 @@ returns-in-Broken g c =
       outcome = sym (ap outcome_of broken);
       given = λ done. absurd (done_not_broken (sym done));
       plan = carries_broken (get_plan s c.args.key) s.disks broken;
-      stands = record { blocks = λ _ k. refl };
-      book = refl;
+      keeps = record { book = refl; stands = record { blocks = λ _ k. refl } };
     }

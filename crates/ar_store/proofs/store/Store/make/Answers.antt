@@ -5,7 +5,8 @@ use Rattle.ar_book.specs.Refusals.{unit_make_refusal}
 use Rattle.ar_store.specs.Store.{StoreState, store_of}
 use Rattle.ar_store.specs.Slots.{stands}
 use Rattle.ar_store.specs.Kept.{FieldsAgree}
-use Rattle.ar_store.proofs.UnitChanges.{fields_same, space_made, all_made, after_call}
+use Rattle.ar_store.proofs.UnitChanges.{fields_same, space_made, all_made}
+use Rattle.ar_store.proofs.Options.{after_call}
 use Rattle.ar_store.proofs.store.Store.make.Goals as goal
 
 pub invariant_of-self : goal.invariant_of-self

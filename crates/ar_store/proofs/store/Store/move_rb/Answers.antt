@@ -1,11 +1,11 @@
 use Rattle.std.proofs.Common.{refl, sym, ap, subst, ◌∙◌}
 use Rattle.ar_extents.specs.Groups.{outcome_of}
-use Rattle.ar_extents.specs.Plans.{CarriesOut}
 use Rattle.ar_extents.proofs.Plans.{carries_broken}
 use Rattle.ar_book.specs.Tables.{home}
 use Rattle.ar_store.specs.Store.{StoreState}
 use Rattle.ar_store.specs.Placing.{IsVacant}
 use Rattle.ar_store.specs.Plans.{move_plan}
+use Rattle.ar_store.specs.Spaces.{store_in, MoveDone}
 use Rattle.ar_store.proofs.Changes.{units_refl}
 use Rattle.ar_store.proofs.Fills.{done_not_broken}
 use Rattle.ar_store.proofs.Options.{none_not_some}
@@ -28,11 +28,10 @@ invariant_of-self g c =
     fields_stay a b c.self.inside.block c.move_block.new.block c.self.invariant moved.stays
     (free_then a b c.self.invariant.kept.free moved.stays moved.free) moved.len
 
-pub returns-clause-plan : goal.returns-clause-plan
-returns-clause-plan g c =
-    subst (λ (s : StoreState). CarriesOut (move_plan s c.args.key c.args.slot) s.disks c.move_block.new.self.disks)
-    c.self.view_is
-    c.move_block.ensures.plan
+pub returns-clause-done : goal.returns-clause-done
+returns-clause-done g c =
+    subst (λ (s : StoreState). MoveDone s c.args.key c.args.slot c.move_block.result (store_in c.move_block.new.self))
+    c.self.view_is c.move_block.ensures.done
 
 pub returns-in-Broken : goal.returns-in-Broken
 returns-in-Broken g c =
@@ -40,13 +39,15 @@ returns-in-Broken g c =
     let broken =
     ap (λ (x : StoreState). x.disks.health) (sym c.self.view_is) ∙ sym c.health.ensures.same ∙ c.in-Broken.is in
     record {
-      outcome = sym (ap outcome_of broken);
-      moved = λ done. absurd (done_not_broken (sym done));
-      unmoved = λ _. refl;
-      stands = record { blocks = λ _ k. refl };
-      beside = record { slots = λ slot block there same ne holds. holds };
+      done = record {
+        outcome = sym (ap outcome_of broken);
+        moved = λ done. absurd (done_not_broken (sym done));
+        unmoved = λ _. refl;
+        stands = record { blocks = λ _ k. refl };
+        beside = record { slots = λ slot block there same ne holds. holds };
+        plan = carries_broken (move_plan s c.args.key c.args.slot) s.disks broken;
+      };
       units = units_refl s.book;
-      plan = carries_broken (move_plan s c.args.key c.args.slot) s.disks broken;
       broken = λ _. refl;
     }
 
