@@ -1,5 +1,5 @@
 -- What balancing returns, and what it leaves as it was.
-use Rattle.std.specs.Prelude.{◌≡◌, ◌≢◌, ℕ, ◌*◌, length, Some}
+use Rattle.std.specs.Prelude.{◌≡◌, ◌≢◌, ℕ, ◌*◌, ◌<◌, length, Some}
 use Rattle.ar_disks.specs.declared.address.Members.{Members}
 use Rattle.ar_disks.specs.declared.address.Place.{Place}
 use Rattle.ar_disks.specs.declared.geometry.Geometry.{Geometry}
@@ -18,6 +18,7 @@ use Rattle.ar_balance.specs.declared.step.Balance.{Balance}
 use Rattle.ar_balance.specs.declared.step.Balance.TheVariants.{Formed, Shifted, GivenUp, NoMemory, Idle, Broken}
 use Rattle.ar_balance.specs.Rule.{NamesForming, NamesShift, NothingToBalance}
 use Rattle.ar_balance.specs.Copies.{IsCutShort, IsStopped, IsFilled}
+use Rattle.ar_balance.specs.Measure.{balance_left}
 
 -- the group that the rule chooses was formed, with the next number
 pub record IsGroupFormed (old new : StoreState) (group : ℕ) : Type 0 where
@@ -113,3 +114,9 @@ IfChanged GivenUp P = Unit {0}
 IfChanged NoMemory P = Unit {0}
 IfChanged Idle P = Unit {0}
 IfChanged Broken P = Unit {0}
+
+-- A step returned: what it did, that a change of a table left less to balance, and that no block has changed.
+pub record BalanceDone (old new : StoreState) (result : Balance) : Type 0 where
+  pub does : Balances old new result
+  pub less : IfChanged result (balance_left new.disks < balance_left old.disks)
+  pub leaves : LeavesAll old new

@@ -4,14 +4,12 @@ ghost use Rattle.ar_extents.specs.declared.health.Health.TheVariants.{Whole, Bro
 ghost use Rattle.ar_book.specs.Tables.{room, free_groups};
 ghost use Rattle.ar_store.specs.Kept.{IsSpace};
 ghost use Rattle.ar_store.specs.Spaces.{store_in};
-ghost use Rattle.ar_store.specs.Forming.{AreFullest, without};
-ghost use Rattle.ar_balance.specs.Balance.{Balances, LeavesAll, IfChanged, gained};
-ghost use Rattle.ar_balance.specs.Measure.{balance_left};
+ghost use Rattle.ar_store.specs.Forming.{AreFullest};
+ghost use Rattle.ar_balance.specs.Balance.{BalanceDone, gained};
 
 use crate::Balance;
 use ar_disks::{Disk, Members};
-use ar_extents::DiskSet;
-use ar_store::Space;
+use ar_store::{Space, take_members};
 
 // Forms the group that the rule chooses.
 pub(crate) fn form<D: Disk>(space: &mut Space<D>, members: Members) -> Balance
@@ -20,12 +18,10 @@ pub(crate) fn form<D: Disk>(space: &mut Space<D>, members: Members) -> Balance
     requires free { 0 < free_groups space.old.book }
     requires fullest { AreFullest space.old.disks members }
 
-    ensures does { Balances (store_in space.old) (store_in space.new) result }
+    ensures done { BalanceDone (store_in space.old) (store_in space.new) result }
     ensures sound { space.new.disks.health ≢ Broken }
     ensures tried { result ≢ Balance.Broken }
     ensures room { room space.new.book ≡ room space.old.book + gained space.old.book.geometry result }
-    ensures less { IfChanged result (balance_left space.new.disks < balance_left space.old.disks) }
-    ensures leaves { LeavesAll (store_in space.old) (store_in space.new) }
 
     ensures space { IsSpace (store_in space.new) }
     ensures free { free_groups space.old.book ≤ free_groups space.new.book }
@@ -40,15 +36,4 @@ pub(crate) fn form<D: Disk>(space: &mut Space<D>, members: Members) -> Balance
         }
         Err(_) => Balance::NoMemory,
     }
-}
-
-// Assigns the lowest unassigned extents of four disks.
-fn take_members<D: Disk>(set: &mut DiskSet<D>, members: Members)
-    requires { AreFullest set.old members }
-    ensures { set.new ≡ without set.old members }
-{
-    set.take(members.first.disk);
-    set.take(members.second.disk);
-    set.take(members.third.disk);
-    set.take(members.fourth.disk);
 }

@@ -14,8 +14,7 @@ ghost use Rattle.ar_store.specs.Kept.{IsSpace};
 ghost use Rattle.ar_store.specs.Spaces.{store_in};
 ghost use Rattle.ar_balance.specs.Rule.{NamesShift};
 ghost use Rattle.ar_balance.specs.Copies.{IsFilled, IsCutShort, IsStopped};
-ghost use Rattle.ar_balance.specs.Balance.{Balances, LeavesAll, IfChanged, gained, switched};
-ghost use Rattle.ar_balance.specs.Measure.{balance_left};
+ghost use Rattle.ar_balance.specs.Balance.{BalanceDone, gained, switched};
 
 use crate::Balance;
 use crate::choose::Shift;
@@ -34,12 +33,10 @@ pub(crate) fn shift_extent<D: Disk>(
     requires names { NamesShift (store_in space.old) shift.group shift.position shift.from shift.to }
     requires len { length block.old ≡ block_len_of space.old.disks.geometry }
 
-    ensures does { Balances (store_in space.old) (store_in space.new) result }
+    ensures done { BalanceDone (store_in space.old) (store_in space.new) result }
     ensures sound { space.new.disks.health ≢ Broken }
     ensures tried { result ≢ Balance.Broken }
     ensures room { room space.new.book ≡ room space.old.book + gained space.old.book.geometry result }
-    ensures less { IfChanged result (balance_left space.new.disks < balance_left space.old.disks) }
-    ensures leaves { LeavesAll (store_in space.old) (store_in space.new) }
 
     ensures space { IsSpace (store_in space.new) }
     ensures free { free_groups space.old.book ≤ free_groups space.new.book }

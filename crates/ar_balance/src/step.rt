@@ -4,8 +4,7 @@ ghost use Rattle.ar_disks.specs.Geometry.{block_len_of};
 ghost use Rattle.ar_book.specs.Tables.{room, free_groups};
 ghost use Rattle.ar_store.specs.Kept.{IsSpace};
 ghost use Rattle.ar_store.specs.Spaces.{store_in};
-ghost use Rattle.ar_balance.specs.Balance.{Balances, LeavesAll, IfChanged, gained};
-ghost use Rattle.ar_balance.specs.Measure.{balance_left};
+ghost use Rattle.ar_balance.specs.Balance.{BalanceDone, gained};
 
 use crate::choose::{loose_counts, next_members, next_shift};
 use crate::form::form;
@@ -40,11 +39,9 @@ pub enum Balance {
 /// in that: health has changed but no table, and no row past the one that faulted is written. Only the two disks are
 /// accessed, none for a free group. No block changes. Only a group that is formed needs memory.
 pub fn balance_one<D: Disk>(store: &mut Store<D>) -> Balance
-    ensures does { Balances store.old store.new result }
+    ensures done { BalanceDone store.old store.new result }
     ensures broken { (result ≡ Balance.Broken) ↔ (store.new.disks.health ≡ Health.Broken) }
     ensures room { room store.new.book ≡ room store.old.book + gained store.old.book.geometry result }
-    ensures less { IfChanged result (balance_left store.new.disks < balance_left store.old.disks) }
-    ensures leaves { LeavesAll store.old store.new }
 {
     match store.health() {
         Health::Whole => balance_whole(&mut store.space, &mut store.block),
@@ -60,12 +57,10 @@ fn balance_whole<D: Disk>(space: &mut Space<D>, block: &mut Block) -> Balance
     requires free { 0 < free_groups space.old.book }
     requires len { length block.old ≡ block_len_of space.old.disks.geometry }
 
-    ensures does { Balances (store_in space.old) (store_in space.new) result }
+    ensures done { BalanceDone (store_in space.old) (store_in space.new) result }
     ensures sound { space.new.disks.health ≢ Health.Broken }
     ensures tried { result ≢ Balance.Broken }
     ensures room { room space.new.book ≡ room space.old.book + gained space.old.book.geometry result }
-    ensures less { IfChanged result (balance_left space.new.disks < balance_left space.old.disks) }
-    ensures leaves { LeavesAll (store_in space.old) (store_in space.new) }
 
     ensures space { IsSpace (store_in space.new) }
     ensures free { free_groups space.old.book ≤ free_groups space.new.book }

@@ -16,8 +16,14 @@ use Rattle.ar_store.proofs.Fills.{accessed_then, stand_then}
 use Rattle.ar_moves.specs.declared.step.Move.{Move}
 use Rattle.ar_moves.specs.declared.step.Move.TheVariants.{Moved, Idle, Broken}
 use Rattle.ar_moves.specs.Moves.{IfMoved, IsMovedTo, LeavesBlocks}
-use Rattle.ar_moves.specs.Demotion.{IsOldestMirrored, IsSlotFor, NamesNoSlot, Demotes, DemotesTo, MayHaveOpened}
+use Rattle.ar_moves.specs.Demotion.{IsOldestMirrored, NamesNoSlot, DemotesBlock, DemotesTo, HoldsZerosBeside}
+use Rattle.ar_moves.specs.Demotion.{MayHaveOpened}
 use Rattle.ar_moves.specs.Cleaning.{Cleans, NamesCleaning}
+use Rattle.ar_moves.proofs.Readiness.{free_beside}
+
+-- a call that did nothing hasn't found that the array failed
+pub idle_not_broken : Idle ≢ Broken
+idle_not_broken e = cc
 
 -- what follows of each block that moved follows of the one that did
 pub if_moved_then : (m : Move) (P Q : Key → Slot → Type 0) → IfMoved m P → ((k : Key) (s : Slot) → P k s → Q k s)
@@ -27,12 +33,19 @@ if_moved_then Idle P Q has then = tt
 if_moved_then Broken P Q has then = tt
 
 -- the oldest block was demoted
-pub oldest_demoted : (t new : Tables) (key : Key) → IsOldestMirrored t key → (k : Key) (s : Slot)
-    → DemotesTo t key new k s → Demotes t k s new
-oldest_demoted t new key oldest k s demotes = record {
-  ready = demotes.ready;
-  names = record { oldest = subst (λ x. IsOldestMirrored t x) (sym demotes.key_is) oldest; slot = demotes.slot };
-  moved = subst (λ x. TablesMoved demotes.ready x s new) (sym demotes.key_is) demotes.moved;
+pub oldest_demoted : (old new : StoreState) (key : Key) → IsOldestMirrored old.book key → (k : Key) (s : Slot)
+    → DemotesTo old key new k s → DemotesBlock old new k s
+oldest_demoted old new key oldest k s demotes = record {
+  tables = record {
+    ready = demotes.ready;
+    names = record {
+      oldest = subst (λ x. IsOldestMirrored old.book x) (sym demotes.key_is) oldest;
+      slot = demotes.slot;
+    };
+    moved = subst (λ x. TablesMoved demotes.ready x s new.book) (sym demotes.key_is) demotes.moved;
+  };
+  zeros = demotes.zeros;
+  beside = demotes.beside;
 }
 
 -- the block that cleaning names was moved
@@ -63,25 +76,31 @@ leaves_then a b c stand units access same rest = record {
 }
 
 -- the block was moved to the hole that was there
-pub hole_there : (t new : Tables) (key : Key) (to : Slot) → IsLowestHole t Parity to → (k : Key) (s : Slot)
-    → IsMovedTo t key to new k s → DemotesTo t key new k s
-hole_there t new key to lowest k s moved = record {
-  key_is = moved.key_is;
-  ready = t;
-  slot = subst (λ x. IsSlotFor t x t) (sym moved.slot_is) (inl (record { lowest = lowest; same = refl }));
-  moved = subst (λ x. TablesMoved t key x new) (sym moved.slot_is) moved.tables;
-}
+pub hole_there : (old new : StoreState) (key : Key) (to : Slot) → IsLowestHole old.book Parity to
+    → BesideHold old new to → (k : Key) (s : Slot) → IsMovedTo old.book key to new.book k s → DemotesTo old key new k s
+hole_there old new key to lowest beside k s moved =
+    subst (λ x. DemotesTo old key new k x) (sym moved.slot_is) (record {
+      key_is = moved.key_is;
+      ready = old.book;
+      slot = inl (record { lowest = lowest; same = refl });
+      moved = moved.tables;
+      zeros = λ none. absurd (none.none to lowest.hole);
+      beside = beside;
+    })
 
 -- the block was moved to the hole that was made for it
-pub hole_made : (t mid new : Tables) (key : Key) (g : ℕ) → HasNoHole t Parity → IsOpened t mid Parity g
-    → (k : Key) (s : Slot) → IsMovedTo mid key (slot_at g 0) new k s → DemotesTo t key new k s
-hole_made t mid new key g none opening k s moved = record {
-  key_is = moved.key_is;
-  ready = mid;
-  slot = subst (λ x. IsSlotFor t x mid) (sym moved.slot_is)
-      (inr (record { none = none; group = g; opened = opening; first = refl }));
-  moved = subst (λ x. TablesMoved mid key x new) (sym moved.slot_is) moved.tables;
-}
+pub hole_made : (old mid new : StoreState) (key : Key) (g : ℕ) → HasNoHole old.book Parity
+    → IsOpened old.book mid.book Parity g → HoldsZerosBeside new (slot_at g 0) → (k : Key) (s : Slot)
+    → IsMovedTo mid.book key (slot_at g 0) new.book k s → DemotesTo old key new k s
+hole_made old mid new key g none opening zeros k s moved =
+    subst (λ x. DemotesTo old key new k x) (sym moved.slot_is) (record {
+      key_is = moved.key_is;
+      ready = mid.book;
+      slot = inr (record { none = none; group = g; opened = opening; first = refl });
+      moved = moved.tables;
+      zeros = λ _. zeros;
+      beside = free_beside old new g opening.lowest.free;
+    })
 
 -- a group that was opened is ready for the oldest block
 pub ready_for : (t new : Tables) (key : Key) → IsOldestMirrored t key → HasNoHole t Parity
@@ -116,18 +135,3 @@ cut_nothing old new none cut named =
       | inr opening ↦
           absurd (opens_slot old.book new.book opening.0 none opening.1 named)
     ]
-
--- the other slots of the group that the block went to hold what they held
-pub moved_beside : (old new : StoreState) (m : Move) (t u : Tables) (key : Key) (to : Slot)
-    → IfMoved m (IsMovedTo t key to u) → BesideHold old new to
-    → IfMoved m (λ k s. BesideHold old new s)
-moved_beside old new m t u key to moved beside =
-    if_moved_then m (IsMovedTo t key to u) (λ k s. BesideHold old new s) moved
-    (λ k s has. subst (λ x. BesideHold old new x) (sym has.slot_is) beside)
-
--- all that follows of the block that moved, in one record
-pub if_moved_all : (m : Move) (P Q R T : Key → Slot → Type 0) → IfMoved m P → IfMoved m Q → IfMoved m R
-    → ((k : Key) (s : Slot) → P k s → Q k s → R k s → T k s) → IfMoved m T
-if_moved_all (Moved key to) P Q R T one two three then = then key to one two three
-if_moved_all Idle P Q R T one two three then = tt
-if_moved_all Broken P Q R T one two three then = tt

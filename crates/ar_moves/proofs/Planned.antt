@@ -25,7 +25,9 @@ use Rattle.ar_store.proofs.Zeros.{zeros_broken}
 use Rattle.ar_moves.specs.Moves.{OpensThenMoves}
 use Rattle.ar_moves.specs.Demotion.{IsOldestMirrored, CarriesOutDemotion}
 use Rattle.ar_moves.specs.Cleaning.{NamesCleaning, NothingToClean}
-use Rattle.ar_moves.proofs.Single.{oldest_single, slot_single, free_single}
+use Rattle.ar_store.proofs.Gaps.{first_is}
+use Rattle.ar_store.proofs.Squeezing.{same_free}
+use Rattle.ar_moves.proofs.Single.{oldest_single}
 
 -- what cleaning names isn't there where there is nothing to clean
 pub cleans_nothing : (t : Tables) (key : Key) (to : Slot) → NothingToClean t → NamesCleaning t key to → ⊥
@@ -87,7 +89,7 @@ moved_there a c key to ok oldest lowest plan = record {
       let P : Key → Type 0 = λ k. CarriesOut (move_plan a k slot) a.disks c.disks in
       let Q : Slot → Type 0 = λ s. CarriesOut (move_plan a key s) a.disks c.disks in
       subst P (oldest_single a.book key other ok oldest other_oldest)
-      (subst Q (slot_single to slot (lowest.least slot other_lowest.hole) (other_lowest.least to lowest.hole)) plan);
+      (subst Q (first_is to slot (lowest.least slot other_lowest.hole) (other_lowest.least to lowest.hole)) plan);
   made = λ other group other_oldest none many free. absurd (none.none to lowest.hole);
 }
 
@@ -104,7 +106,7 @@ moved_to_new a b c key g ok oldest none opening filled holds plan = record {
       let Q : Key → Type 0 = λ k. OpensThenMoves k group a c in
       let R : ℕ → Type 0 = λ n. OpensThenMoves key n a c in
       subst Q (oldest_single a.book key other ok oldest other_oldest)
-      (subst R (free_single a.book g group opening.lowest free) (record {
+      (subst R (same_free a.book g group opening.lowest free) (record {
         filled = b.disks;
         fills = filled_zeros a b g opening.tables opening.lowest.there filled holds;
         moves = subst P opening.tables plan;

@@ -1,7 +1,6 @@
 -- Each rule names one block and one slot at most.
 use Rattle.std.proofs.Common.{◌≡◌, ◌≢◌, ◌⊎◌, ℕ, ◌<◌, ◌≤◌, Option, Some, IsSome, slice_get, refl, sym, ap, subst, ◌∙◌}
 use Rattle.std.proofs.Common.{inl, inr, arith}
-use Rattle.std.proofs.lemmas.Bool.{cases_lt}
 use Rattle.std.proofs.lemmas.Option.{same_Some}
 use Rattle.ar_disks.specs.declared.address.Addr.{Addr}
 use Rattle.ar_disks.specs.declared.address.Key.{Key}
@@ -10,27 +9,22 @@ use Rattle.ar_book.specs.declared.class.Class.TheVariants.{Mirrored, Parity}
 use Rattle.ar_book.specs.declared.class.Slot.{Slot}
 use Rattle.ar_book.specs.Tables.{Tables, UnitTableState, key_at, HasBlock}
 use Rattle.ar_book.specs.Changes.{opened, slot_at}
-use Rattle.ar_book.specs.Choices.{IsUpTo, IsNoNewer, IsLowestFree, place_of}
+use Rattle.ar_book.specs.Choices.{IsNoNewer, place_of}
 use Rattle.ar_book.specs.Book.{TablesAgree}
 use Rattle.ar_book.specs.Cleaning.{IsNoFuller, IsFirstBlock, IsLowestHoleBeside}
 use Rattle.ar_disks.proofs.Addresses.{make_key}
-use Rattle.ar_book.proofs.Keys.{make_slot}
 use Rattle.ar_book.proofs.UnitLemmas.{has_by_block}
 use Rattle.ar_book.proofs.UnitPlaces.{some_place}
 use Rattle.ar_extents.specs.declared.health.Health.TheVariants.{Broken as AllBroken}
 use Rattle.ar_store.specs.Store.{StoreState}
 use Rattle.ar_store.specs.Placing.{HasNoHole}
 use Rattle.ar_store.specs.Calls.{BreaksOpening}
+use Rattle.ar_store.proofs.Gaps.{first_is}
+use Rattle.ar_store.proofs.Squeezing.{same_free}
 use Rattle.ar_moves.specs.Demotion.{IsOldestMirrored, IsSlotFor, LeavesReady}
 use Rattle.ar_moves.specs.Cleaning.{NamesCleaningOf, NamesCleaning}
 
--- the orders of slots, groups and stamps leave no two that are equal
-pub slot_single : (s r : Slot) → IsUpTo s r → IsUpTo r s → s ≡ r
-slot_single s r (inl a) (inl b) = absurd (omega arith)
-slot_single s r (inl a) (inr b) = absurd (omega (arith, b.0))
-slot_single s r (inr a) (inl b) = absurd (omega (arith, a.0))
-slot_single s r (inr a) (inr b) = make_slot s r a.0 (omega (arith, a.1, b.1))
-
+-- the orders of groups and stamps leave no two that are equal
 group_single : (t : Tables) (g h : ℕ) → IsNoFuller t g h → IsNoFuller t h g → g ≡ h
 group_single t g h (inl a) (inl b) = absurd (omega arith)
 group_single t g h (inl a) (inr b) = absurd (omega (arith, b.0))
@@ -64,13 +58,6 @@ pub oldest_single : (t : Tables) (k j : Key) → TablesAgree t → IsOldestMirro
 oldest_single t k j ok a b =
     block_single t k j ok a.mirrored.block b.mirrored.block (a.oldest j b.mirrored) (b.oldest k a.mirrored)
 
--- two lowest free groups are one
-pub free_single : (t : Tables) (g h : ℕ) → IsLowestFree t g → IsLowestFree t h → g ≡ h
-free_single t g h a b = elim (cases_lt g h) [
-  | inl lower ↦ absurd (b.least g lower a.free)
-  | inr more ↦ elim (cases_lt h g) [ inl lower ↦ absurd (a.least h lower b.free) | inr fewer ↦ omega arith ]
-]
-
 -- a slot and the tables in which it is ready
 pub record AreOne (s r : Slot) (t u : Tables) : Type 0 where
   pub slots : s ≡ r
@@ -80,14 +67,14 @@ pub demoted_single : (t ready tables : Tables) (s r : Slot) → IsSlotFor t s re
     → AreOne s r ready tables
 demoted_single t ready tables s r (inl a) (inl b) =
     record {
-      slots = slot_single s r (a.lowest.least r b.lowest.hole) (b.lowest.least s a.lowest.hole);
+      slots = first_is s r (a.lowest.least r b.lowest.hole) (b.lowest.least s a.lowest.hole);
       tables = a.same
           ∙ sym b.same;
     }
 demoted_single t ready tables s r (inl a) (inr b) = absurd (b.none.none s a.lowest.hole)
 demoted_single t ready tables s r (inr a) (inl b) = absurd (a.none.none r b.lowest.hole)
 demoted_single t ready tables s r (inr a) (inr b) =
-    let group = free_single t a.group b.group a.opened.lowest b.opened.lowest in
+    let group = same_free t a.group b.group a.opened.lowest b.opened.lowest in
     record {
       slots = a.first ∙ ap (λ n. slot_at n 0) group ∙ sym b.first;
       tables = a.opened.tables ∙ ap (λ n. opened t n Parity) group ∙ sym b.opened.tables;
@@ -132,7 +119,7 @@ class_single t c k j s r a b =
     let hole = subst (λ n. IsLowestHoleBeside t c n r) (sym group) b.hole in
     record {
       keys = first_single t a.group k j a.first first;
-      slots = slot_single s r (a.hole.least r hole.found) (hole.least s a.hole.found);
+      slots = first_is s r (a.hole.least r hole.found) (hole.least s a.hole.found);
     }
 
 pub cleaned_single : (t : Tables) (k j : Key) (s r : Slot) → NamesCleaning t k s → NamesCleaning t j r → AreSame k j s r

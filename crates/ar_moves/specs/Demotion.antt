@@ -1,8 +1,9 @@
 -- The rule of demotion: which block moves to which slot, and what it leaves if the array fails.
-use Rattle.std.specs.Prelude.{◌≡◌, ◌≢◌, ◌⊎◌, ℕ, ◌*◌, ◌<◌, ◌≤◌}
+use Rattle.std.specs.Prelude.{◌≡◌, ◌≢◌, ◌⊎◌, ◌↔◌, ℕ, ◌*◌, ◌<◌, ◌≤◌}
 use Rattle.ar_disks.specs.Block.{zeros}
 use Rattle.ar_disks.specs.Geometry.{rows_of, block_len_of}
 use Rattle.ar_disks.specs.declared.address.Key.{Key}
+use Rattle.ar_extents.specs.declared.health.Health.TheVariants.{Broken as AllBroken}
 use Rattle.ar_book.specs.declared.class.Class.TheVariants.{Parity}
 use Rattle.ar_book.specs.declared.class.Slot.{Slot}
 use Rattle.ar_book.specs.Tables.{Tables, free_groups}
@@ -14,7 +15,9 @@ use Rattle.ar_store.specs.Placing.{IsLowestHole, HasNoHole}
 use Rattle.ar_store.specs.Calls.{IsOpened}
 use Rattle.ar_extents.specs.Plans.{CarriesOut}
 use Rattle.ar_store.specs.Plans.{move_plan}
-use Rattle.ar_moves.specs.Moves.{OpensThenMoves}
+use Rattle.ar_moves.specs.declared.step.Move.{Move}
+use Rattle.ar_moves.specs.declared.step.Move.TheVariants.{Broken}
+use Rattle.ar_moves.specs.Moves.{LeavesBlocks, OpensThenMoves}
 
 -- the least recently written mirrored block
 pub record IsOldestMirrored (t : Tables) (key : Key) : Type 0 where
@@ -69,11 +72,13 @@ pub record DemotesBlock (old new : StoreState) (key : Key) (to : Slot) : Type 0 
   pub beside : BesideHold old new to
 
 -- the same of a block that is already known to be the oldest
-pub record DemotesTo (t : Tables) (key : Key) (new : Tables) (moved_key : Key) (to : Slot) : Type 0 where
+pub record DemotesTo (old : StoreState) (key : Key) (new : StoreState) (moved_key : Key) (to : Slot) : Type 0 where
   pub key_is : moved_key ≡ key
   pub ready : Tables
-  pub slot : IsSlotFor t to ready
-  pub moved : Moved ready key to new
+  pub slot : IsSlotFor old.book to ready
+  pub moved : Moved ready key to new.book
+  pub zeros : HasNoHole old.book Parity → HoldsZerosBeside new to
+  pub beside : BesideHold old new to
 
 -- the tables are as they were, or ready for the rule's move
 abbrev pub MayHaveOpened : Tables → Tables → Type 0
@@ -91,3 +96,12 @@ pub record CarriesOutDemotion (old new : StoreState) : Type 0 where
       → CarriesOut (move_plan old key to) old.disks new.disks
   pub made : (key : Key) (group : ℕ) → IsOldestMirrored old.book key → HasNoHole old.book Parity
       → 2 ≤ free_groups old.book → IsLowestFree old.book group → OpensThenMoves key group old new
+
+-- A demotion returned, whatever the rule chose. Exactly the rule's move was carried out, and no block has changed; where
+-- it returns `Broken`, the group that the rule opens is open.
+pub record DemotionDone (old : StoreState) (result : Move) (new : StoreState) : Type 0 where
+  pub broken : (result ≡ Broken) ↔ (new.disks.health ≡ AllBroken)
+  pub opened : result ≡ Broken → MayHaveOpened old.book new.book
+  pub ready : result ≡ Broken → old.disks.health ≢ AllBroken → LeavesReady old.book new.book
+  pub plan : CarriesOutDemotion old new
+  pub leaves : LeavesBlocks old new

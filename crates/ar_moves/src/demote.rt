@@ -1,13 +1,12 @@
 // Demotion: the least recently written mirrored block moves to the parity level. AutoRAID's choice of it is
 // approximate; this one is exact.
-ghost use Rattle.std.specs.Prelude.{◌≡◌, ◌≢◌, ◌↔◌};
+ghost use Rattle.std.specs.Prelude.{◌≡◌};
 ghost use Rattle.ar_book.specs.declared.class.Class.TheVariants.{Parity};
 ghost use Rattle.ar_store.specs.Kept.{IsKept};
-ghost use Rattle.ar_store.specs.Slots.{BesideHold};
 ghost use Rattle.ar_store.specs.Placing.{HasNoHole};
-ghost use Rattle.ar_moves.specs.Moves.{IfMoved, LeavesBlocks, IsLeft};
+ghost use Rattle.ar_moves.specs.Moves.{IfMoved, IsLeft};
 ghost use Rattle.ar_moves.specs.Demotion.{IsOldestMirrored, DemotesBlock, DemotesTo, NamesNoSlot, NamesNoDemotion};
-ghost use Rattle.ar_moves.specs.Demotion.{MayHaveOpened, LeavesReady, HoldsZerosBeside, CarriesOutDemotion};
+ghost use Rattle.ar_moves.specs.Demotion.{DemotionDone};
 
 use crate::Move;
 use crate::step::move_to;
@@ -31,12 +30,7 @@ pub fn demote_one<D: Disk>(store: &mut Store<D>) -> Move
     ensures moved { IfMoved result (DemotesBlock store.old store.new) }
     ensures idle { result ≡ Move.Idle → IsLeft store.old store.new (NamesNoDemotion store.old.book) }
     ensures nothing { NamesNoDemotion store.old.book → store.new ≡ store.old }
-    ensures broken { (result ≡ Move.Broken) ↔ (store.new.disks.health ≡ Health.Broken) }
-    ensures opened { result ≡ Move.Broken → MayHaveOpened store.old.book store.new.book }
-    ensures ready { result ≡ Move.Broken → store.old.disks.health ≢ Health.Broken
-        → LeavesReady store.old.book store.new.book }
-    ensures plan { CarriesOutDemotion store.old store.new }
-    ensures leaves { LeavesBlocks store.old store.new }
+    ensures done { DemotionDone store.old result store.new }
 {
     if let Health::Broken = store.health() {
         return Move::Broken;
@@ -51,17 +45,10 @@ pub fn demote_one<D: Disk>(store: &mut Store<D>) -> Move
 fn demote<D: Disk>(store: &mut Store<D>, key: Key) -> Move
     requires kept { IsKept store.old }
     requires oldest { IsOldestMirrored store.old.book key }
-    ensures moved { IfMoved result (DemotesTo store.old.book key store.new.book) }
+    ensures moved { IfMoved result (DemotesTo store.old key store.new) }
     ensures idle { result ≡ Move.Idle → IsLeft store.old store.new (NamesNoSlot store.old.book) }
     ensures nothing { NamesNoSlot store.old.book → store.new ≡ store.old }
-    ensures broken { (result ≡ Move.Broken) ↔ (store.new.disks.health ≡ Health.Broken) }
-    ensures opened { result ≡ Move.Broken → MayHaveOpened store.old.book store.new.book }
-    ensures ready { result ≡ Move.Broken → store.old.disks.health ≢ Health.Broken
-        → LeavesReady store.old.book store.new.book }
-    ensures zeros { IfMoved result (λ key to. HasNoHole store.old.book Parity → HoldsZerosBeside store.new to) }
-    ensures beside { IfMoved result (λ key to. BesideHold store.old store.new to) }
-    ensures plan { CarriesOutDemotion store.old store.new }
-    ensures leaves { LeavesBlocks store.old store.new }
+    ensures done { DemotionDone store.old result store.new }
 {
     match store.book().hole(Class::Parity, &mut Steps::new()) {
         Some(to) => move_to(store, key, to),
@@ -75,18 +62,10 @@ fn demote_to_new<D: Disk>(store: &mut Store<D>, key: Key) -> Move
     requires oldest { IsOldestMirrored store.old.book key }
     requires none { HasNoHole store.old.book Parity }
 
-    ensures moved { IfMoved result (DemotesTo store.old.book key store.new.book) }
+    ensures moved { IfMoved result (DemotesTo store.old key store.new) }
     ensures idle { result ≡ Move.Idle → IsLeft store.old store.new (NamesNoSlot store.old.book) }
     ensures nothing { NamesNoSlot store.old.book → store.new ≡ store.old }
-    ensures broken { (result ≡ Move.Broken) ↔ (store.new.disks.health ≡ Health.Broken) }
-
-    ensures opened { result ≡ Move.Broken → MayHaveOpened store.old.book store.new.book }
-    ensures ready { result ≡ Move.Broken → store.old.disks.health ≢ Health.Broken
-        → LeavesReady store.old.book store.new.book }
-    ensures zeros { IfMoved result (λ key to. HoldsZerosBeside store.new to) }
-    ensures beside { IfMoved result (λ key to. BesideHold store.old store.new to) }
-    ensures plan { CarriesOutDemotion store.old store.new }
-    ensures leaves { LeavesBlocks store.old store.new }
+    ensures done { DemotionDone store.old result store.new }
 {
     match store.open_group(Class::Parity) {
         Opening::Opened(group) => move_to(store, key, Slot { group, slot: 0 }),

@@ -215,12 +215,6 @@ used_next c a t place m g position is inside c_is used m_is below at nothing =
     nothing.unused g inside (λ free. used (c_is ∙ free)) position below
     (sym (next_is a place is) ∙ sym at ∙ ap (λ (x : Members). member x position) m_is)
 
-pub mirrored_used : Mirrored ≢ Free
-mirrored_used e = cc
-
-pub parity_used : Parity ≢ Free
-parity_used e = cc
-
 -- of a free group no row is rebuilt
 free_rows : (m : Members) (i n : ℕ) (s : SetState) → AttemptsAll (rows_attempts Free m i n) true s s
 free_rows m i zero s = all_done s

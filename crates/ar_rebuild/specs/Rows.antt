@@ -14,8 +14,10 @@ use Rattle.ar_extents.specs.Changes.{with_done}
 use Rattle.ar_extents.specs.Plans.{AttemptsAll}
 use Rattle.ar_disks.specs.Geometry.{rows_of}
 use Rattle.ar_mirror.specs.Slots.{partner_of}
+use Rattle.ar_mirror.specs.Calls.{IsCopied}
 use Rattle.ar_parity.specs.Row.{Blocks, block}
 use Rattle.ar_parity.specs.Group.{RowAgrees}
+use Rattle.ar_parity.specs.Call.{IsRebuilt}
 use Rattle.ar_book.specs.declared.class.Class.{Class}
 use Rattle.ar_book.specs.declared.class.Class.TheVariants.{Free, Mirrored, Parity}
 use Rattle.ar_book.specs.Tables.{slots_of}
@@ -41,6 +43,20 @@ HasNotFaulted old new = faults_of new (rebuilt_disk old.health) ≡ faults_of ol
 pub record FailsByOthers (old new : SetState) : Type 0 where
   pub broken : new.health ≡ AllBroken
   pub spared : HasNotFaulted old new
+
+-- A row of a group's member is written, and health stayed: it is the partner's, or with parity the sum of the others;
+-- and the stripes agree as they did.
+abbrev pub RowIsWritten : Class → SetState → SetState → Members → ℕ → ℕ → Type 0
+RowIsWritten Free old new m i row = new.health ≡ old.health
+RowIsWritten Mirrored old new m i row = IsCopied old new (member m (partner_of i)) row
+RowIsWritten Parity old new m i row =
+    IsRebuilt old new m i row × ((r : ℕ) (blocks : Blocks) → RowAgrees old m r blocks → RowAgrees new m r blocks)
+
+-- what the writing of a row returns
+abbrev pub WritesRow : Class → SetState → SetState → Members → ℕ → ℕ → RowOutcome → Type 0
+WritesRow class old new m i row Done = RowIsWritten class old new m i row
+WritesRow class old new m i row GivenUp = IsGivenUp old new
+WritesRow class old new m i row Broken = new.health ≡ AllBroken
 
 -- Every row of the extent is written: once it counts as done, each slot of its group holds what it held.
 pub record GroupIsWhole (class : Class) (old new : SetState) (m : Members) : Type 0 where

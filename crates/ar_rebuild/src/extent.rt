@@ -8,7 +8,7 @@ ghost use Rattle.ar_rebuild.specs.Rows.{WritesNext, WritesExtent, StopsWriting};
 ghost use Rattle.ar_rebuild.specs.Rebuild.{RebuildsExtent, StopsRebuild, MarksDone, Advances};
 
 use crate::Rebuild;
-use crate::rows::{copy_rows, position_of, sum_rows};
+use crate::rows::{position_of, write_rows};
 use ar_book::Class;
 use ar_disks::{Disk, Place};
 use ar_extents::{DiskSet, Health, RowOutcome};
@@ -55,8 +55,13 @@ fn write_extent<D: Disk>(space: &mut Space<D>, place: Place) -> RowOutcome
     let position = position_of(&members, place);
     match space.book.class(group) {
         Class::Free => RowOutcome::Done,
-        Class::Mirrored => { copy_rows(&mut space.disks, &members, position, &mut space.scratch) }
-        Class::Parity => sum_rows(&mut space.disks, &members, position, &mut space.scratch),
+        class => write_rows(
+            &mut space.disks,
+            class,
+            &members,
+            position,
+            &mut space.scratch,
+        ),
     }
 }
 

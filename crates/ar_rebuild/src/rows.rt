@@ -6,11 +6,11 @@ ghost use Rattle.ar_disks.specs.Members.{member, stands_on};
 ghost use Rattle.ar_extents.specs.Health.{IsRebuilding};
 ghost use Rattle.ar_extents.specs.Access.{next_place};
 ghost use Rattle.ar_extents.specs.Groups.{IsGroup};
-ghost use Rattle.ar_extents.specs.Plans.{CarriesOut};
-ghost use Rattle.ar_book.specs.declared.class.Class.TheVariants.{Mirrored, Parity};
-ghost use Rattle.ar_rebuild.specs.Plans.{member_plan};
-ghost use Rattle.ar_rebuild.specs.Rows.{WritesNext, WritesRows, StopsAtRow};
+ghost use Rattle.ar_extents.specs.Plans.{all_of, Stop, CarriesOut};
+ghost use Rattle.ar_rebuild.specs.Plans.{row_attempts, member_plan};
+ghost use Rattle.ar_rebuild.specs.Rows.{WritesNext, WritesRow, WritesRows, StopsAtRow};
 
+use ar_book::Class;
 use ar_disks::{Disk, Members, Place, Scratch};
 use ar_extents::{DiskSet, RowOutcome};
 
@@ -31,29 +31,31 @@ pub(crate) fn position_of(members: &Members, place: Place) -> u8
     }
 }
 
-// Copies every row of a mirrored group's member that is rebuilt next, from the other member of its pair.
-pub(crate) fn copy_rows<D: Disk>(
+// Writes every row of the member of a used group that is rebuilt next.
+pub(crate) fn write_rows<D: Disk>(
     set: &mut DiskSet<D>,
+    class: Class,
     members: &Members,
     position: u8,
     scratch: &mut Scratch,
 ) -> RowOutcome
+    requires used { class ≢ Class.Free }
     requires group { IsGroup set.old members.now }
     requires position { position < 4 }
     requires rebuilding { IsRebuilding set.old.health }
     requires next { member members.now position ≡ next_place set.old }
     requires scratch { scratch.old.geometry ≡ set.old.geometry }
 
-    ensures answer { WritesRows Mirrored set.old set.new members.now result }
+    ensures answer { WritesRows class set.old set.new members.now result }
     ensures writes { WritesNext set.old set.new }
     // Exactly these accesses are made, the rows in ascending order.
-    ensures plan { CarriesOut (member_plan Mirrored members.now position (rows_of set.old.geometry)) set.old set.new }
-    ensures stopped { result ≢ RowOutcome.Done → StopsAtRow Mirrored set.old set.new members.now position }
+    ensures plan { CarriesOut (member_plan class members.now position (rows_of set.old.geometry)) set.old set.new }
+    ensures stopped { result ≢ RowOutcome.Done → StopsAtRow class set.old set.new members.now position }
 
     ensures scratch { scratch.new.geometry ≡ scratch.old.geometry }
 {
     for row in 0..set.geometry().rows() {
-        match ar_mirror::rebuild_row(set, members, position, row, scratch) {
+        match write_row(set, class, members, position, row, scratch) {
             RowOutcome::Done => {}
             RowOutcome::GivenUp => return RowOutcome::GivenUp,
             RowOutcome::Broken => return RowOutcome::Broken,
@@ -62,33 +64,30 @@ pub(crate) fn copy_rows<D: Disk>(
     RowOutcome::Done
 }
 
-// Writes every row of the member that is rebuilt next of a group with parity: the sum of the row's three others.
-pub(crate) fn sum_rows<D: Disk>(
+// Writes a row of it: a mirrored member's from the other member of its pair, one with parity as the sum of the others.
+fn write_row<D: Disk>(
     set: &mut DiskSet<D>,
+    class: Class,
     members: &Members,
     position: u8,
+    row: u16,
     scratch: &mut Scratch,
 ) -> RowOutcome
+    requires used { class ≢ Class.Free }
     requires group { IsGroup set.old members.now }
     requires position { position < 4 }
+    requires row { row < rows_of set.old.geometry }
     requires rebuilding { IsRebuilding set.old.health }
     requires next { member members.now position ≡ next_place set.old }
     requires scratch { scratch.old.geometry ≡ set.old.geometry }
 
-    ensures answer { WritesRows Parity set.old set.new members.now result }
-    ensures writes { WritesNext set.old set.new }
-    // Exactly these accesses are made, the rows in ascending order.
-    ensures plan { CarriesOut (member_plan Parity members.now position (rows_of set.old.geometry)) set.old set.new }
-    ensures stopped { result ≢ RowOutcome.Done → StopsAtRow Parity set.old set.new members.now position }
-
+    ensures answer { WritesRow class set.old set.new members.now position row result }
+    ensures plan { CarriesOut (all_of (row_attempts class members.now position row) Stop) set.old set.new }
     ensures scratch { scratch.new.geometry ≡ scratch.old.geometry }
 {
-    for row in 0..set.geometry().rows() {
-        match ar_parity::rebuild_row(set, members, position, row, scratch) {
-            RowOutcome::Done => {}
-            RowOutcome::GivenUp => return RowOutcome::GivenUp,
-            RowOutcome::Broken => return RowOutcome::Broken,
-        }
+    match class {
+        Class::Free => unreachable!(),
+        Class::Mirrored => ar_mirror::rebuild_row(set, members, position, row, scratch),
+        Class::Parity => ar_parity::rebuild_row(set, members, position, row, scratch),
     }
-    RowOutcome::Done
 }

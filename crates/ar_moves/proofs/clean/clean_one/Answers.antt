@@ -5,7 +5,7 @@ use Rattle.ar_book.specs.Tables.{Tables}
 use Rattle.ar_moves.specs.Moves.{IsMovedTo}
 use Rattle.ar_store.specs.Slots.{BesideHold}
 use Rattle.ar_moves.specs.Cleaning.{NamesCleaning, NothingToClean, CleansBlock}
-use Rattle.ar_moves.proofs.Answers.{if_moved_all, named_cleaned, moved_free, moved_beside}
+use Rattle.ar_moves.proofs.Answers.{if_moved_then, named_cleaned, moved_free}
 use Rattle.ar_moves.proofs.Readiness.{cleaning_ready}
 use Rattle.ar_moves.proofs.Ending.{cleans_fall}
 use Rattle.ar_moves.proofs.Single.{cleaned_single}
@@ -31,18 +31,14 @@ returns-in-Some g c =
     c.in-Some.ensures.names in
     let moves = c.move_to.ensures in
     record {
-      moved = if_moved_all c.move_to.result (IsMovedTo t c.in-Some.key c.in-Some.to new)
-          (IsMovedTo t c.in-Some.key c.in-Some.to new)
-          (λ k s. BesideHold c.args.store.now c.move_to.new.store s) (CleansBlock c.args.store.now c.move_to.new.store)
-          moves.moved moves.moved
-          (moved_beside c.args.store.now c.move_to.new.store c.move_to.result t new c.in-Some.key c.in-Some.to
-          moves.moved moves.beside)
-          (λ k s moved same beside.
+      moved = if_moved_then c.move_to.result (IsMovedTo t c.in-Some.key c.in-Some.to new)
+          (CleansBlock c.args.store.now c.move_to.new.store) moves.moved
+          (λ k s moved.
           let cleans = named_cleaned t new c.in-Some.key c.in-Some.to names k s moved in
           record {
             tables = cleans;
             less = cleans_fall t new k s c.health.ensures.kept.space.tables cleans;
-            beside = beside;
+            beside = subst (λ x. BesideHold c.args.store.now c.move_to.new.store x) (sym moved.slot_is) moves.beside;
           });
       idle = λ idle. absurd (moves.idle idle);
       nothing = λ none. absurd (cleans_nothing t c.in-Some.key c.in-Some.to none names);

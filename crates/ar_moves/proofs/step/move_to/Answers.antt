@@ -5,9 +5,9 @@ pub returns-in-Done-clause-leaves : goal.returns-in-Done-clause-leaves
 returns-in-Done-clause-leaves g c =
     let moved = c.move_rb.ensures in
     record {
-      stands = moved.stands;
+      stands = moved.done.stands;
       units = moved.units;
-      accessed = move_accessed c.args.store.now c.args.key c.args.to c.move_rb.new.self.disks moved.plan;
+      accessed = move_accessed c.args.store.now c.args.key c.args.to c.move_rb.new.self.disks moved.done.plan;
       broken = moved.broken;
     }
 
@@ -15,8 +15,8 @@ pub returns-in-Broken-clause-leaves : goal.returns-in-Broken-clause-leaves
 returns-in-Broken-clause-leaves g c =
     let moved = c.move_rb.ensures in
     record {
-      stands = moved.stands;
+      stands = moved.done.stands;
       units = moved.units;
-      accessed = move_accessed c.args.store.now c.args.key c.args.to c.move_rb.new.self.disks moved.plan;
+      accessed = move_accessed c.args.store.now c.args.key c.args.to c.move_rb.new.self.disks moved.done.plan;
       broken = moved.broken;
     }
