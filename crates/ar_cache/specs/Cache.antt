@@ -11,7 +11,8 @@ use Rattle.ar_disks.specs.declared.address.Addr.{Addr}
 use Rattle.ar_disks.specs.declared.address.Key.{Key}
 use Rattle.ar_disks.specs.declared.geometry.Geometry.{Geometry}
 use Rattle.ar_disks.specs.Geometry.{block_len_of}
-use Rattle.ar_cache.specs.Backing.{InTurn, StopsInTurn, IsHonest, WritesKey, stored as stored_by}
+use Rattle.ar_cache.specs.Backing.{InTurn, StopsInTurn, IsHonest, KeepsBacking, SameBlocks, WritesKey}
+use Rattle.ar_cache.specs.Backing.{stored as stored_by}
 use Rattle.ar_cache.specs.declared.answers.Flush.{Flush}
 use Rattle.ar_cache.specs.declared.answers.Flush.TheVariants.{Flushed, Idle, Broken}
 use Rattle.ar_disks.specs.declared.completion.Completion.{Completion}
@@ -41,6 +42,15 @@ cached cache key = lookup (same_key key) cache.entries
 -- what a read of a key returns: its cached block if there is one, else the backing's
 abbrev pub seen : CacheState → (Key → List ℕ) → Key → List ℕ
 seen cache block_at key = unwrap_or (cached cache key) (block_at key)
+
+-- what a read of a key does behind the cache, with its outcome: nothing if the key is cached, else the backing's read
+pub record GetsBehind {S : Type 0} (block_at : S → Key → List ℕ) (is_broken : S → Bool) (gets : S → Key → S → Type 0)
+    (cache : CacheState) (key : Key) (outcome : Completion) (from to : S) : Type 0 where
+  pub blocks : outcome ≡ stored.Done → SameBlocks (block_at from) (block_at to)
+  pub hit : IsSome (cached cache key) → (outcome ≡ stored.Done) × (to ≡ from)
+  pub miss : cached cache key ≡ None → gets from key to
+  pub answer : IsHonest outcome (is_broken from) (is_broken to)
+  pub asked : cached cache key ≡ None → outcome ≡ stored_by (is_broken to)
 
 -- every key reads as before
 pub record SameReads (old : CacheState) (old_block_at : Key → List ℕ)
@@ -151,6 +161,15 @@ pub record PutAnswers (old : CacheState) (key : Key) (outcome : Completion) (new
   pub asked : cached old key ≡ None → old.capacity ≤ length old.entries → outcome ≡ stored_by is
   pub through : cached new key ≡ None → outcome ≡ stored_by is
 
+-- a put of a block: what is read afterwards, the entries, what the backing was given, and the outcome
+pub record PutsInCache {S : Type 0} (block_at : S → Key → List ℕ) (is_broken : S → Bool)
+    (puts breaks : S → Key → S → Type 0) (old : CacheState) (key : Key) (block : List ℕ) (outcome : Completion)
+    (new : CacheState) (from to : S) : Type 0 where
+  pub seen : outcome ≡ stored.Done → PutIsSeen old (block_at from) new (block_at to) key block
+  pub entries : PutsEntry old key block outcome new
+  pub behind : PutsBehind puts breaks old key outcome new from to
+  pub answer : PutAnswers old key outcome new (is_broken from) (is_broken to)
+
 -- the entry of a key was removed
 pub record RemovesEntry (old : CacheState) (key : Key) (new : CacheState) : Type 0 where
   pub entries : new ≡ with_entries old (without_key old.entries key)
@@ -166,6 +185,17 @@ pub record DestagesKey {S : Type 0} (block_at : S → Key → List ℕ) (puts br
   pub put : outcome ≡ stored.Done → IsSome (cached old key) → puts from key to
   pub broke : outcome ≡ stored.Broken → breaks from key to
   pub absent : cached old key ≡ None → (outcome ≡ stored.Done) × (to ≡ from)
+
+-- What each flush keeps, and its outcome, which is the backing's if there is `some` entry to destage: if it is done,
+-- every key reads as before; the backing knows every cached key.
+pub record KeepsReads {S : Type 0} (block_at : S → Key → List ℕ) (geometry : S → Geometry) (knows : S → Key → Bool)
+    (is_broken : S → Bool) (follows : S → S → Type 0) (old : CacheState) (some : Type 0) (outcome : Completion)
+    (new : CacheState) (from to : S) : Type 0 where
+  pub seen : outcome ≡ stored.Done → SameReads old (block_at from) new (block_at to)
+  pub answer : IsHonest outcome (is_broken from) (is_broken to)
+  pub asked : some → outcome ≡ stored_by (is_broken to)
+  pub all_known : KnowsAll (knows to) new
+  pub keeps : KeepsBacking geometry knows is_broken follows from to
 
 -- how one flush changes a cache, by its result
 abbrev pub Flushes : Flush → CacheState → CacheState → Type 0

@@ -7,7 +7,7 @@ ghost use Rattle.std.specs.Bool.{OnTrue, OnFalse};
 ghost use Rattle.ar_disks.specs.Block.{part_at, with_sectors};
 ghost use Rattle.ar_disks.specs.Geometry.{block_len_of};
 ghost use Rattle.ar_disks.specs.declared.address.Key.{Key};
-ghost use Rattle.ar_cache.specs.Backing.{IsHonest, stored, KeepsBacking, SameBlocks};
+ghost use Rattle.ar_cache.specs.Backing.{IsHonest, stored, KeepsBacking};
 
 use crate::answers::Flush;
 use crate::backing::Backing;
@@ -51,12 +51,11 @@ impl Model for Cache {
 }
 
 impl Cache {
-    ghost use Rattle.ar_cache.specs.Cache.{CacheState, IsValidCache, KnowsAll, SameReads, PutIsSeen, PutsEntry};
-    ghost use Rattle.ar_cache.specs.Cache.{PutsBehind, PutAnswers};
+    ghost use Rattle.ar_cache.specs.Cache.{CacheState, IsValidCache, KnowsAll, GetsBehind, PutsInCache, KeepsReads};
     ghost use Rattle.ar_cache.specs.Cache.{Flushes, DestagesKey, DestagesLast, RemovesEntry, Empties, StopsAt};
+    ghost use Rattle.ar_cache.specs.Cache.{answer_of, cached, cached_of, seen, turned, with_entries, with_room};
+    ghost use Rattle.ar_cache.specs.Cache.{without_addr, without_key, without_last};
     ghost use Rattle.ar_disks.specs.Addresses.{same_addr};
-    ghost use Rattle.ar_cache.specs.Cache.{answer_of, cached, cached_of, seen, with_entries, with_room, without_addr, without_key};
-    ghost use Rattle.ar_cache.specs.Cache.{without_last, turned};
 
     /// Creates an empty cache for `capacity` blocks (at most 65,536; 0 writes through). Fails if out of memory.
     pub fn new(alloc: Global, geometry: Geometry, capacity: u32) -> Result<Cache, AllocError>
@@ -128,15 +127,7 @@ impl Cache {
         requires whole { length into.old ≡ block_len_of self.now.geometry }
 
         ensures content { result ≡ Completion.Done → into.new ≡ seen self.now (B.block_at backing.old) key }
-
-        ensures blocks { result ≡ Completion.Done
-            → SameBlocks (B.block_at backing.old) (B.block_at backing.new) }
-        ensures hit { IsSome (cached self.now key)
-            → (result ≡ Completion.Done) × (backing.new ≡ backing.old) }
-        ensures miss { cached self.now key ≡ None → B.gets backing.old key backing.new }
-
-        ensures answer { IsHonest result (B.is_broken backing.old) (B.is_broken backing.new) }
-        ensures asked { cached self.now key ≡ None → result ≡ stored (B.is_broken backing.new) }
+        ensures behind { GetsBehind B.block_at B.is_broken B.gets self.now key result backing.old backing.new }
         ensures keeps { KeepsBacking B.geometry B.knows B.is_broken B.follows backing.old backing.new }
     {
         match peek(&self.entries, key) {
@@ -163,15 +154,7 @@ impl Cache {
 
         ensures content { result ≡ Completion.Done
             → into.new ≡ part_at (seen self.now (B.block_at backing.old) key) first (length into.old) }
-
-        ensures blocks { result ≡ Completion.Done
-            → SameBlocks (B.block_at backing.old) (B.block_at backing.new) }
-        ensures hit { IsSome (cached self.now key)
-            → (result ≡ Completion.Done) × (backing.new ≡ backing.old) }
-        ensures miss { cached self.now key ≡ None → B.gets backing.old key backing.new }
-
-        ensures answer { IsHonest result (B.is_broken backing.old) (B.is_broken backing.new) }
-        ensures asked { cached self.now key ≡ None → result ≡ stored (B.is_broken backing.new) }
+        ensures behind { GetsBehind B.block_at B.is_broken B.gets self.now key result backing.old backing.new }
         ensures keeps { KeepsBacking B.geometry B.knows B.is_broken B.follows backing.old backing.new }
     {
         match peek(&self.entries, key) {
@@ -194,12 +177,8 @@ impl Cache {
         requires all_known { KnowsAll (B.knows backing.old) self.old }
         requires whole { length block.now ≡ block_len_of self.old.geometry }
 
-        ensures seen { result ≡ Completion.Done
-            → PutIsSeen self.old (B.block_at backing.old) self.new (B.block_at backing.new) key block.now }
-        ensures entries { PutsEntry self.old key block.now result self.new }
-        ensures behind { PutsBehind B.puts B.breaks self.old key result self.new backing.old backing.new }
-
-        ensures answer { PutAnswers self.old key result self.new (B.is_broken backing.old) (B.is_broken backing.new) }
+        ensures puts { PutsInCache B.block_at B.is_broken B.puts B.breaks self.old key block.now result self.new
+            backing.old backing.new }
         ensures all_known { KnowsAll (B.knows backing.new) self.new }
         ensures keeps { KeepsBacking B.geometry B.knows B.is_broken B.follows backing.old backing.new }
     {
@@ -224,14 +203,9 @@ impl Cache {
         requires in_place { IsTrue (B.in_place backing.old key) }
         requires within { 512 * first + length from.now ≤ block_len_of self.now.geometry }
 
-        ensures seen { result ≡ Completion.Done
-            → PutIsSeen self.now (B.block_at backing.old) self.now (B.block_at backing.new) key
-            (with_sectors (seen self.now (B.block_at backing.old) key) first from.now) }
-        ensures entries { PutsEntry self.now key
-            (with_sectors (seen self.now (B.block_at backing.old) key) first from.now) result self.now }
-        ensures behind { PutsBehind B.puts B.breaks self.now key result self.now backing.old backing.new }
-
-        ensures answer { PutAnswers self.now key result self.now (B.is_broken backing.old) (B.is_broken backing.new) }
+        ensures puts { PutsInCache B.block_at B.is_broken B.puts B.breaks self.now key
+            (with_sectors (seen self.now (B.block_at backing.old) key) first from.now) result self.now
+            backing.old backing.new }
         ensures keeps { KeepsBacking B.geometry B.knows B.is_broken B.follows backing.old backing.new }
     {
         // The entries are read for the invariant alone: there are none.
@@ -248,13 +222,8 @@ impl Cache {
         ensures entries { Flushes result self.old self.new }
         ensures idle { (result ≡ Flush.Idle) ↔ (self.old.entries ≡ []) }
         ensures behind { DestagesLast B.block_at B.puts B.breaks self.old.entries result backing.old backing.new }
-        ensures seen { answer_of result ≡ Completion.Done
-            → SameReads self.old (B.block_at backing.old) self.new (B.block_at backing.new) }
-
-        ensures answer { IsHonest (answer_of result) (B.is_broken backing.old) (B.is_broken backing.new) }
-        ensures asked { 0 < length self.old.entries → answer_of result ≡ stored (B.is_broken backing.new) }
-        ensures all_known { KnowsAll (B.knows backing.new) self.new }
-        ensures keeps { KeepsBacking B.geometry B.knows B.is_broken B.follows backing.old backing.new }
+        ensures rest { KeepsReads B.block_at B.geometry B.knows B.is_broken B.follows self.old
+            (0 < length self.old.entries) (answer_of result) self.new backing.old backing.new }
     {
         let answer = self.destage_last(backing);
         if let Flush::Flushed(_) = answer {
@@ -271,13 +240,8 @@ impl Cache {
         ensures removed { result ≡ Completion.Done → RemovesEntry self.old key self.new }
         ensures broken { result ≡ Completion.Broken → self.new ≡ self.old }
         ensures behind { DestagesKey B.block_at B.puts B.breaks self.old key result backing.old backing.new }
-        ensures seen { result ≡ Completion.Done
-            → SameReads self.old (B.block_at backing.old) self.new (B.block_at backing.new) }
-
-        ensures answer { IsHonest result (B.is_broken backing.old) (B.is_broken backing.new) }
-        ensures asked { IsSome (cached self.old key) → result ≡ stored (B.is_broken backing.new) }
-        ensures all_known { KnowsAll (B.knows backing.new) self.new }
-        ensures keeps { KeepsBacking B.geometry B.knows B.is_broken B.follows backing.old backing.new }
+        ensures rest { KeepsReads B.block_at B.geometry B.knows B.is_broken B.follows self.old
+            (IsSome (cached self.old key)) result self.new backing.old backing.new }
     {
         let Some(block) = peek(&self.entries, key) else {
             return Completion::Done;
@@ -300,13 +264,8 @@ impl Cache {
         ensures emptied { Empties B.puts self.old result self.new backing.old backing.new }
         ensures broken { result ≡ Completion.Broken
             → StopsAt B.block_at B.is_broken B.follows B.puts B.breaks self.old self.new backing.old backing.new }
-        ensures seen { result ≡ Completion.Done
-            → SameReads self.old (B.block_at backing.old) self.new (B.block_at backing.new) }
-
-        ensures answer { IsHonest result (B.is_broken backing.old) (B.is_broken backing.new) }
-        ensures asked { 0 < length self.old.entries → result ≡ stored (B.is_broken backing.new) }
-        ensures all_known { KnowsAll (B.knows backing.new) self.new }
-        ensures keeps { KeepsBacking B.geometry B.knows B.is_broken B.follows backing.old backing.new }
+        ensures rest { KeepsReads B.block_at B.geometry B.knows B.is_broken B.follows self.old
+            (0 < length self.old.entries) result self.new backing.old backing.new }
     {
         while self.len() > 0 {
             if let Flush::Broken = self.flush_one(backing) {
@@ -358,12 +317,8 @@ impl Cache {
         requires whole { length block.now ≡ block_len_of self.old.geometry }
         requires absent { cached self.old key ≡ None }
 
-        ensures seen { result ≡ Completion.Done
-            → PutIsSeen self.old (B.block_at backing.old) self.new (B.block_at backing.new) key block.now }
-        ensures entries { PutsEntry self.old key block.now result self.new }
-        ensures behind { PutsBehind B.puts B.breaks self.old key result self.new backing.old backing.new }
-
-        ensures answer { PutAnswers self.old key result self.new (B.is_broken backing.old) (B.is_broken backing.new) }
+        ensures puts { PutsInCache B.block_at B.is_broken B.puts B.breaks self.old key block.now result self.new
+            backing.old backing.new }
         ensures all_known { KnowsAll (B.knows backing.new) self.new }
         ensures keeps { KeepsBacking B.geometry B.knows B.is_broken B.follows backing.old backing.new }
     {
@@ -386,12 +341,8 @@ impl Cache {
         requires absent { cached self.old key ≡ None }
         requires room { length self.old.entries < self.old.capacity }
 
-        ensures seen { result ≡ Completion.Done
-            → PutIsSeen self.old (B.block_at backing.old) self.new (B.block_at backing.new) key block.now }
-        ensures entries { PutsEntry self.old key block.now result self.new }
-        ensures behind { PutsBehind B.puts B.breaks self.old key result self.new backing.old backing.new }
-
-        ensures answer { PutAnswers self.old key result self.new (B.is_broken backing.old) (B.is_broken backing.new) }
+        ensures puts { PutsInCache B.block_at B.is_broken B.puts B.breaks self.old key block.now result self.new
+            backing.old backing.new }
         ensures all_known { KnowsAll (B.knows backing.new) self.new }
         ensures keeps { KeepsBacking B.geometry B.knows B.is_broken B.follows backing.old backing.new }
     {
@@ -411,12 +362,8 @@ impl Cache {
         requires full { self.old.capacity ≤ length self.old.entries }
         requires some { 0 < self.old.capacity }
 
-        ensures seen { result ≡ Completion.Done
-            → PutIsSeen self.old (B.block_at backing.old) self.new (B.block_at backing.new) key block.now }
-        ensures entries { PutsEntry self.old key block.now result self.new }
-        ensures behind { PutsBehind B.puts B.breaks self.old key result self.new backing.old backing.new }
-
-        ensures answer { PutAnswers self.old key result self.new (B.is_broken backing.old) (B.is_broken backing.new) }
+        ensures puts { PutsInCache B.block_at B.is_broken B.puts B.breaks self.old key block.now result self.new
+            backing.old backing.new }
         ensures all_known { KnowsAll (B.knows backing.new) self.new }
         ensures keeps { KeepsBacking B.geometry B.knows B.is_broken B.follows backing.old backing.new }
     {

@@ -1,4 +1,4 @@
-use Rattle.std.proofs.Common.{◌≡◌, ℕ, List, IsSome, Some, None, length, refl, sym, ap, ◌∙◌, subst}
+use Rattle.std.proofs.Common.{◌≡◌, ℕ, List, IsSome, Some, None, length, refl, sym, ap, ◌∙◌, subst, rules}
 use Rattle.std.proofs.lemmas.Bool.{false≢true}
 use Rattle.ar_disks.specs.Geometry.{block_len_of}
 use Rattle.ar_cache.specs.Backing.{WritesKey}
@@ -19,10 +19,16 @@ returns-in_default-clause-removed g c done =
       others = λ other apart. refl;
     }
 
-pub returns-in_default-clause-asked : goal.returns-in_default-clause-asked
-returns-in_default-clause-asked g c is =
+pub returns-in_default-clause-rest : goal.returns-in_default-clause-rest
+returns-in_default-clause-rest g c =
     let miss = subst (λ s. cached s c.args.key ≡ None) c.self.view_is (sym c.in_default.ensures) in
-    absurd (false≢true (rw miss at is))
+    record {
+      seen = search rules;
+      answer = refl;
+      asked = λ is. absurd (false≢true (rw miss at is));
+      all_known = c.requires.all_known;
+      keeps = search rules;
+    }
 
 pub returns-in_default-clause-behind : goal.returns-in_default-clause-behind
 returns-in_default-clause-behind g c =
@@ -84,22 +90,25 @@ returns-in-Broken-clause-behind g c =
       absent = λ miss. cc;
     }
 
-pub returns-in-Done-clause-seen : goal.returns-in-Done-clause-seen
-returns-in-Done-clause-seen g c done =
+pub returns-in-Done-clause-rest : goal.returns-in-Done-clause-rest
+returns-in-Done-clause-rest g c =
     let sound : IsValidCache c.args.self.now = subst IsValidCache c.self.view_is c.self.invariant.0 in
     let hit = subst (λ s. cached s c.args.key ≡ Some c.in-Some.block.now) c.self.view_is (sym c.in-Some.ensures) in
     let f = g.B.Backing.block_at c.args.backing.now in
     let h = g.B.Backing.block_at c.put.new.self in
     let P : List ℕ → Type 0 = λ bytes. WritesKey f h c.args.key bytes in
     let written = subst P c.bytes.ensures (c.in-Done.ensures.written refl) in
-    subst (λ s. SameReads c.args.self.now f s h) (sym c.take_out.ensures)
-    (seen_moved c.args.self.now f h c.args.key c.in-Some.block.now sound.distinct hit written)
-
-pub returns-in-Done-clause-all_known : goal.returns-in-Done-clause-all_known
-returns-in-Done-clause-all_known g c =
-    let sound : IsValidCache c.args.self.now = subst IsValidCache c.self.view_is c.self.invariant.0 in
     let knows = g.B.Backing.knows in
     let kept = known_kept (knows c.args.backing.now) (knows c.put.new.self) c.args.self.now
     c.in-Done.ensures.keeps.same_keys c.requires.all_known in
-    subst (KnowsAll (knows c.put.new.self)) (sym c.take_out.ensures)
-    (known_without_key (knows c.put.new.self) c.args.self.now c.args.key sound.distinct kept)
+    record {
+      seen = λ done.
+          subst (λ s. SameReads c.args.self.now f s h) (sym c.take_out.ensures)
+          (seen_moved c.args.self.now f h c.args.key c.in-Some.block.now sound.distinct hit written);
+      answer = search rules;
+      asked = search rules;
+      all_known =
+          subst (KnowsAll (knows c.put.new.self)) (sym c.take_out.ensures)
+          (known_without_key (knows c.put.new.self) c.args.self.now c.args.key sound.distinct kept);
+      keeps = c.in-Done.ensures.keeps;
+    }

@@ -1,5 +1,4 @@
-use Rattle.std.proofs.Common.{◌≡◌, length, Some, None, ap, sym, ◌∙◌, subst}
-use Rattle.std.proofs.lemmas.Bool.{false≢true}
+use Rattle.std.proofs.Common.{◌≡◌, length, Some, ap, sym, ◌∙◌, subst}
 use Rattle.ar_cache.specs.Cache.{IsValidCache, cached}
 use Rattle.ar_cache.proofs.Sound.{cached_whole}
 use Rattle.ar_cache.proofs.cache.Cache.get.Goals as goal
@@ -10,18 +9,3 @@ copy_from_slice-requires g c =
     let hit = subst (λ s. cached s c.args.key ≡ Some c.in-Some.block.now) c.self.view_is (sym c.in-Some.ensures) in
     c.requires.whole ∙ sym (cached_whole c.args.self.now c.args.key c.in-Some.block.now sound hit)
     ∙ ap length (sym c.bytes.ensures)
-
-pub returns-in-Some-clause-miss : goal.returns-in-Some-clause-miss
-returns-in-Some-clause-miss g c miss =
-    let hit = subst (λ s. cached s c.args.key ≡ Some c.in-Some.block.now) c.self.view_is (sym c.in-Some.ensures) in
-    cc
-
-pub returns-in-Some-clause-asked : goal.returns-in-Some-clause-asked
-returns-in-Some-clause-asked g c miss =
-    let hit = subst (λ s. cached s c.args.key ≡ Some c.in-Some.block.now) c.self.view_is (sym c.in-Some.ensures) in
-    cc
-
-pub returns-in-None-clause-hit : goal.returns-in-None-clause-hit
-returns-in-None-clause-hit g c hit =
-    let miss = subst (λ s. cached s c.args.key ≡ None) c.self.view_is (sym c.in-None.ensures) in
-    absurd (false≢true (rw miss at hit))

@@ -1,4 +1,4 @@
-use Rattle.std.proofs.Common.{◌≡◌, ◌∷◌, Some, refl, sym, ap, ◌∙◌, subst}
+use Rattle.std.proofs.Common.{◌≡◌, ◌∷◌, Some, refl, sym, ap, ◌∙◌, subst, rules}
 use Rattle.std.specs.Map.{lookup}
 use Rattle.ar_disks.specs.Geometry.{block_len_of}
 use Rattle.ar_cache.specs.Cache.{cached, IsValidCache, Sees, KnowsAll, same_key, with_entries, without_key}
@@ -16,8 +16,8 @@ invariant_of-self g c =
     (c.self.invariant.0, c.self.invariant.1) found.1 whole c.if-replace.ensures.put in
     (kept.0, kept.1, c.self.invariant.2)
 
-pub returns-then-replace-clause-seen : goal.returns-then-replace-clause-seen
-returns-then-replace-clause-seen g c done =
+pub returns-then-replace-clause-puts : goal.returns-then-replace-clause-puts
+returns-then-replace-clause-puts g c =
     let i = c.self.inside in
     let old = c.args.self.now in
     let at = g.B.Backing.block_at c.args.backing.now in
@@ -25,28 +25,21 @@ returns-then-replace-clause-seen g c done =
     let new = seen_as i.geometry i.capacity i.entries c.replace.new.entries old
     (λ t. (c.args.key, c.args.block.now) ∷ without_key t.entries c.args.key) c.self.view_is
     (ap (λ m. m.entries) c.if-replace.ensures.put) in
-    record {
-      sees = subst (λ s. Sees old at s at c.args.key c.args.block.now) (sym new)
-          (seen_replaced old at c.args.key c.args.block.now sound.distinct);
-      behind = record { others = λ q ne apart. refl; held = λ is. refl };
-    }
-
-pub returns-then-replace-clause-entries : goal.returns-then-replace-clause-entries
-returns-then-replace-clause-entries g c =
-    let i = c.self.inside in
-    let old = c.args.self.now in
     let found = some_is (lookup (same_key c.args.key) i.entries.entries) (c.if-replace.ensures.found.0 refl) in
     let hit = subst (λ s. cached s c.args.key ≡ Some found.0) c.self.view_is found.1 in
     let whole = c.requires.whole ∙ sym (ap (λ s. block_len_of s.geometry) c.self.view_is) in
     let kept = kept_replaced i.geometry i.capacity i.entries c.replace.new.entries c.args.key c.args.block.now found.0
     (c.self.invariant.0, c.self.invariant.1) found.1 whole c.if-replace.ensures.put in
     record {
-      present = λ is. seen_as i.geometry i.capacity i.entries c.replace.new.entries old
-          (λ t. (c.args.key, c.args.block.now) ∷ without_key t.entries c.args.key) c.self.view_is
-          (ap (λ m. m.entries) c.if-replace.ensures.put);
-      absent = λ miss done. cc;
-      broken = λ lost. cc;
-      fits = kept.0.fits;
+      seen = λ done. record {
+        sees = subst (λ s. Sees old at s at c.args.key c.args.block.now) (sym new)
+            (seen_replaced old at c.args.key c.args.block.now sound.distinct);
+        behind = record { others = λ q ne apart. refl; held = λ is. refl };
+      };
+      entries =
+          record { present = λ is. new; absent = λ miss done. cc; broken = λ lost. cc; fits = kept.0.fits };
+      behind = search rules;
+      answer = search rules;
     }
 
 pub returns-then-replace-clause-all_known : goal.returns-then-replace-clause-all_known

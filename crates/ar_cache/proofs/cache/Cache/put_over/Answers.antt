@@ -1,5 +1,5 @@
 use Rattle.std.proofs.Common.{◌≡◌, ◌≢◌, ◌≤◌, [], ◌∷◌, ◌++◌, length, IsTrue, Some, None, inl, inr, refl, sym, ap, ◌∙◌}
-use Rattle.std.proofs.Common.{subst}
+use Rattle.std.proofs.Common.{subst, rules}
 use Rattle.std.proofs.lemmas.Bool.{false≢true}
 use Rattle.ar_disks.specs.declared.address.Key.{Key}
 use Rattle.ar_cache.specs.Backing.{InTurn, StopsInTurn}
@@ -12,70 +12,55 @@ use Rattle.ar_cache.proofs.Turns.{in_turn_then, in_turn_one, in_turn_last, stops
 use Rattle.ar_cache.proofs.Uses.{pushed_full, with_room_full, fits_put, fits_without_last, ≤_antisym}
 use Rattle.ar_cache.proofs.cache.Cache.put_over.Goals as goal
 
-pub returns-then-insert-clause-seen : goal.returns-then-insert-clause-seen
-returns-then-insert-clause-seen g c done =
+pub returns-then-insert-clause-puts : goal.returns-then-insert-clause-puts
+returns-then-insert-clause-puts g c =
+    let old = c.args.self.now in
+    let from = c.args.backing.now in
+    let mid = c.destage_last.new.backing in
+    let f = g.B.Backing.block_at from in
+    let h = g.B.Backing.block_at mid in
+    let step = g.B.Backing.puts in
+    let d = c.destage_last.ensures in
+    let left = with_entries old (without_last old.entries) in
+    let full = ≤_antisym d.sound.fits c.requires.full in
+    let new = c.if-insert.ensures.put
+    ∙ ap (λ es. with_entries old ((c.args.key, c.args.block.now) ∷ es)) (with_room_full old full) in
+    let given : SameReads old f left h =
+    seen_given c.destage_last.result old f h c.in_default.not-Broken d.sound.distinct d.behind.given
+    (λ e. ap g.B.Backing.block_at (d.behind.quiet e)) in
+    let same = λ (q : Key) (apart : last_key old.entries ≢ Some q). others_given c.destage_last.result old.entries
+    f h q c.in_default.not-Broken d.behind.given (λ e. ap g.B.Backing.block_at (d.behind.quiet e)) apart in
+    let held : put_through c.insert.new.self c.args.key ≡ [] =
+    ap (λ s. put_through s c.args.key) c.if-insert.ensures.put ∙ rw (same_key_refl c.args.key) in
     record {
-      sees =
-          let old = c.args.self.now in
-          let f = g.B.Backing.block_at c.args.backing.now in
-          let h = g.B.Backing.block_at c.destage_last.new.backing in
-          let d = c.destage_last.ensures in
-          let left = with_entries old (without_last old.entries) in
-          let full = ≤_antisym d.sound.fits c.requires.full in
-          let new = c.if-insert.ensures.put
-          ∙ ap (λ es. with_entries old ((c.args.key, c.args.block.now) ∷ es)) (with_room_full old full) in
-          let given : SameReads old f left h =
-          seen_given c.destage_last.result old f h c.in_default.not-Broken d.sound.distinct d.behind.given
-          (λ e. ap g.B.Backing.block_at (d.behind.quiet e)) in
-          subst (λ s. Sees old f s h c.args.key c.args.block.now) (sym new)
-          (sees_after old left (with_entries left ((c.args.key, c.args.block.now) ∷ left.entries)) f h h c.args.key
-          c.args.block.now given (seen_front left h c.args.key c.args.block.now));
-      behind =
-          let old = c.args.self.now in
-          let f = g.B.Backing.block_at c.args.backing.now in
-          let h = g.B.Backing.block_at c.destage_last.new.backing in
-          let d = c.destage_last.ensures in
-          let same = λ (q : Key) (apart : last_key old.entries ≢ Some q). others_given c.destage_last.result old.entries
-          f h q c.in_default.not-Broken d.behind.given (λ e. ap g.B.Backing.block_at (d.behind.quiet e)) apart in
-          record {
-            others = λ q ne apart. same q (apart c.requires.full);
-            held = λ is. same c.args.key (absent_apart old.entries c.args.key d.sound.distinct c.requires.absent);
-          };
-    }
-
-pub returns-then-insert-clause-entries : goal.returns-then-insert-clause-entries
-returns-then-insert-clause-entries g c =
-    record {
-      present = λ is. absurd (false≢true (rw c.requires.absent at is));
-      absent = λ miss done. inl c.if-insert.ensures.put;
-      broken = λ lost. cc;
-      fits =
-          let old = c.args.self.now in
-          subst (λ s. length s.entries ≤ s.capacity) (sym c.if-insert.ensures.put)
-          (fits_put old c.args.key c.args.block.now c.requires.some);
-    }
-
-pub returns-then-insert-clause-behind : goal.returns-then-insert-clause-behind
-returns-then-insert-clause-behind g c =
-    let keys = pushed_full c.args.self.now c.args.key c.requires.absent c.requires.full in
-    record {
-      present = λ is. absurd (false≢true (rw c.requires.absent at is));
-      put = λ done.
-          subst (λ ks. InTurn g.B.Backing.puts (ks ++ put_through c.insert.new.self c.args.key) c.args.backing.now
-          c.destage_last.new.backing) (sym keys) (
-          let old = c.args.self.now in
-          let d = c.destage_last.ensures in
-          let step = g.B.Backing.puts in
-          let f = g.B.Backing.block_at c.args.backing.now in
-          let h = g.B.Backing.block_at c.destage_last.new.backing in
-          let held : put_through c.insert.new.self c.args.key ≡ [] =
-          ap (λ s. put_through s c.args.key) c.if-insert.ensures.put ∙ rw (same_key_refl c.args.key) in
-          in_turn_then step (last_keys old.entries) (put_through c.insert.new.self c.args.key) c.args.backing.now
-          c.destage_last.new.backing c.destage_last.new.backing
-          (in_turn_last step c.destage_last.result old.entries f h c.args.backing.now c.destage_last.new.backing
-          c.in_default.not-Broken d.behind.given d.behind.put d.behind.quiet)
-          (subst (λ ks. InTurn step ks c.destage_last.new.backing c.destage_last.new.backing) (sym held) refl));
-      stopped = λ lost. cc;
+      seen = λ done. record {
+        sees = subst (λ s. Sees old f s h c.args.key c.args.block.now) (sym new)
+            (sees_after old left (with_entries left ((c.args.key, c.args.block.now) ∷ left.entries)) f h h c.args.key
+            c.args.block.now given (seen_front left h c.args.key c.args.block.now));
+        behind = record {
+          others = λ q ne apart. same q (apart c.requires.full);
+          held = λ is. same c.args.key (absent_apart old.entries c.args.key d.sound.distinct c.requires.absent);
+        };
+      };
+      entries = record {
+        present = λ is. absurd (false≢true (rw c.requires.absent at is));
+        absent = λ miss done. inl c.if-insert.ensures.put;
+        broken = λ lost. cc;
+        fits = subst (λ s. length s.entries ≤ s.capacity) (sym c.if-insert.ensures.put)
+            (fits_put old c.args.key c.args.block.now c.requires.some);
+      };
+      behind = record {
+        present = λ is. absurd (false≢true (rw c.requires.absent at is));
+        put = λ done.
+            subst (λ ks. InTurn step (ks ++ put_through c.insert.new.self c.args.key) from mid)
+            (sym (pushed_full old c.args.key c.requires.absent c.requires.full))
+            (in_turn_then step (last_keys old.entries) (put_through c.insert.new.self c.args.key) from mid mid
+            (in_turn_last step c.destage_last.result old.entries f h from mid
+            c.in_default.not-Broken d.behind.given d.behind.put d.behind.quiet)
+            (subst (λ ks. InTurn step ks mid mid) (sym held) refl));
+        stopped = λ lost. cc;
+      };
+      answer = search rules;
     }
 
 pub returns-then-insert-clause-all_known : goal.returns-then-insert-clause-all_known
@@ -94,89 +79,59 @@ returns-then-insert-clause-all_known g c =
     (known_front (knows c.destage_last.new.backing) left c.args.key c.args.block.now this
     (known_without_last (knows c.destage_last.new.backing) old d.sound.distinct kept))
 
-pub returns-in-Done-clause-seen : goal.returns-in-Done-clause-seen
-returns-in-Done-clause-seen g c done =
+pub returns-in-Done-clause-puts : goal.returns-in-Done-clause-puts
+returns-in-Done-clause-puts g c =
+    let old = c.args.self.now in
+    let from = c.args.backing.now in
+    let mid = c.destage_last.new.backing in
+    let f = g.B.Backing.block_at from in
+    let h = g.B.Backing.block_at mid in
+    let j = g.B.Backing.block_at c.put.new.self in
+    let step = g.B.Backing.puts in
+    let d = c.destage_last.ensures in
+    let left = with_entries old (without_last old.entries) in
+    let new = c.drop_destaged.ensures ∙ ap (λ s. with_entries s (without_last s.entries)) c.if-insert.ensures.refused in
+    let given : SameReads old f left h =
+    seen_given c.destage_last.result old f h c.in_default.not-Broken d.sound.distinct d.behind.given
+    (λ e. ap g.B.Backing.block_at (d.behind.quiet e)) in
+    let absent = absent_without_last old.entries c.args.key d.sound.distinct c.requires.absent in
+    let gone : cached c.drop_destaged.new.self c.args.key ≡ None =
+    subst (λ s. cached s c.args.key ≡ None) (sym new) absent in
+    let through : put_through c.drop_destaged.new.self c.args.key ≡ c.args.key ∷ [] = rw gone in
     record {
-      sees =
-          let old = c.args.self.now in
-          let f = g.B.Backing.block_at c.args.backing.now in
-          let h = g.B.Backing.block_at c.destage_last.new.backing in
-          let j = g.B.Backing.block_at c.put.new.self in
-          let d = c.destage_last.ensures in
-          let left = with_entries old (without_last old.entries) in
-          let new = c.drop_destaged.ensures
-          ∙ ap (λ s. with_entries s (without_last s.entries)) c.if-insert.ensures.refused in
-          let given : SameReads old f left h =
-          seen_given c.destage_last.result old f h c.in_default.not-Broken d.sound.distinct d.behind.given
-          (λ e. ap g.B.Backing.block_at (d.behind.quiet e)) in
-          let absent = absent_without_last old.entries c.args.key d.sound.distinct c.requires.absent in
-          subst (λ s. Sees old f s j c.args.key c.args.block.now) (sym new)
-          (sees_after old left left f h j c.args.key c.args.block.now given
-          (seen_through left h j c.args.key c.args.block.now absent (c.in-Done.ensures.written refl)));
-      behind =
-          let old = c.args.self.now in
-          let f = g.B.Backing.block_at c.args.backing.now in
-          let h = g.B.Backing.block_at c.destage_last.new.backing in
-          let d = c.destage_last.ensures in
-          let new = c.drop_destaged.ensures
-          ∙ ap (λ s. with_entries s (without_last s.entries)) c.if-insert.ensures.refused in
-          let gone : cached c.drop_destaged.new.self c.args.key ≡ None =
-          subst (λ s. cached s c.args.key ≡ None) (sym new)
-          (absent_without_last old.entries c.args.key d.sound.distinct c.requires.absent) in
-          record {
-            others = λ q ne apart.
-                (c.in-Done.ensures.written refl).others q ne
-                ∙ others_given c.destage_last.result old.entries f h q c.in_default.not-Broken d.behind.given
-                (λ e. ap g.B.Backing.block_at (d.behind.quiet e)) (apart c.requires.full);
-            held = λ is. absurd (false≢true (rw gone at is));
-          };
-    }
-
-pub returns-in-Done-clause-entries : goal.returns-in-Done-clause-entries
-returns-in-Done-clause-entries g c =
-    record {
-      present = λ is. absurd (false≢true (rw c.requires.absent at is));
-      absent = λ miss done.
-          let old = c.args.self.now in
-          let full = ≤_antisym c.destage_last.ensures.sound.fits c.requires.full in
-          let new = c.drop_destaged.ensures
-          ∙ ap (λ s. with_entries s (without_last s.entries)) c.if-insert.ensures.refused in
-          inr (new ∙ ap (with_entries old) (sym (with_room_full old full)));
-      broken = λ lost. cc;
-      fits =
-          let old = c.args.self.now in
-          let new = c.drop_destaged.ensures
-          ∙ ap (λ s. with_entries s (without_last s.entries)) c.if-insert.ensures.refused in
-          subst (λ s. length s.entries ≤ s.capacity) (sym new)
-          (fits_without_last old c.destage_last.ensures.sound.fits);
-    }
-
-pub returns-in-Done-clause-behind : goal.returns-in-Done-clause-behind
-returns-in-Done-clause-behind g c =
-    let keys = pushed_full c.args.self.now c.args.key c.requires.absent c.requires.full in
-    record {
-      present = λ is. absurd (false≢true (rw c.requires.absent at is));
-      put = λ done.
-          subst (λ ks. InTurn g.B.Backing.puts (ks ++ put_through c.drop_destaged.new.self c.args.key)
-          c.args.backing.now c.put.new.self) (sym keys) (
-          let old = c.args.self.now in
-          let d = c.destage_last.ensures in
-          let step = g.B.Backing.puts in
-          let f = g.B.Backing.block_at c.args.backing.now in
-          let h = g.B.Backing.block_at c.destage_last.new.backing in
-          let new = c.drop_destaged.ensures
-          ∙ ap (λ s. with_entries s (without_last s.entries)) c.if-insert.ensures.refused in
-          let gone : cached c.drop_destaged.new.self c.args.key ≡ None =
-          subst (λ s. cached s c.args.key ≡ None) (sym new)
-          (absent_without_last old.entries c.args.key d.sound.distinct c.requires.absent) in
-          let through : put_through c.drop_destaged.new.self c.args.key ≡ c.args.key ∷ [] = rw gone in
-          in_turn_then step (last_keys old.entries) (put_through c.drop_destaged.new.self c.args.key) c.args.backing.now
-          c.destage_last.new.backing c.put.new.self
-          (in_turn_last step c.destage_last.result old.entries f h c.args.backing.now c.destage_last.new.backing
-          c.in_default.not-Broken d.behind.given d.behind.put d.behind.quiet)
-          (subst (λ ks. InTurn step ks c.destage_last.new.backing c.put.new.self) (sym through)
-          (in_turn_one step c.args.key c.destage_last.new.backing c.put.new.self (c.in-Done.ensures.puts refl))));
-      stopped = λ lost. cc;
+      seen = λ done. record {
+        sees = subst (λ s. Sees old f s j c.args.key c.args.block.now) (sym new)
+            (sees_after old left left f h j c.args.key c.args.block.now given
+            (seen_through left h j c.args.key c.args.block.now absent (c.in-Done.ensures.written refl)));
+        behind = record {
+          others = λ q ne apart.
+              (c.in-Done.ensures.written refl).others q ne
+              ∙ others_given c.destage_last.result old.entries f h q c.in_default.not-Broken d.behind.given
+              (λ e. ap g.B.Backing.block_at (d.behind.quiet e)) (apart c.requires.full);
+          held = λ is. absurd (false≢true (rw gone at is));
+        };
+      };
+      entries = record {
+        present = λ is. absurd (false≢true (rw c.requires.absent at is));
+        absent = λ miss done.
+            inr (new ∙ ap (with_entries old) (sym (with_room_full old (≤_antisym d.sound.fits c.requires.full))));
+        broken = λ lost. cc;
+        fits = subst (λ s. length s.entries ≤ s.capacity) (sym new) (fits_without_last old d.sound.fits);
+      };
+      behind = record {
+        present = λ is. absurd (false≢true (rw c.requires.absent at is));
+        put = λ done.
+            subst (λ ks. InTurn step (ks ++ put_through c.drop_destaged.new.self c.args.key) from c.put.new.self)
+            (sym (pushed_full old c.args.key c.requires.absent c.requires.full))
+            (in_turn_then step (last_keys old.entries) (put_through c.drop_destaged.new.self c.args.key) from mid
+            c.put.new.self
+            (in_turn_last step c.destage_last.result old.entries f h from mid
+            c.in_default.not-Broken d.behind.given d.behind.put d.behind.quiet)
+            (subst (λ ks. InTurn step ks mid c.put.new.self) (sym through)
+            (in_turn_one step c.args.key mid c.put.new.self (c.in-Done.ensures.puts refl))));
+        stopped = λ lost. cc;
+      };
+      answer = search rules;
     }
 
 pub returns-in-Done-clause-all_known : goal.returns-in-Done-clause-all_known
@@ -192,36 +147,49 @@ returns-in-Done-clause-all_known g c =
     subst (KnowsAll (knows c.put.new.self)) (sym new)
     (known_without_last (knows c.put.new.self) old d.sound.distinct then)
 
-pub returns-in-Broken-clause-behind : goal.returns-in-Broken-clause-behind
-returns-in-Broken-clause-behind g c =
-    let keys = pushed_full c.args.self.now c.args.key c.requires.absent c.requires.full in
+pub returns-in-Broken-clause-puts : goal.returns-in-Broken-clause-puts
+returns-in-Broken-clause-puts g c =
+    let old = c.args.self.now in
+    let step = g.B.Backing.puts in
+    let stop = g.B.Backing.breaks in
+    let from = c.args.backing.now in
+    let mid = c.destage_last.new.backing in
     record {
-      present = λ is. absurd (false≢true (rw c.requires.absent at is));
-      put = λ done. cc;
-      stopped = λ lost.
-          subst (λ ks. StopsInTurn g.B.Backing.puts g.B.Backing.breaks (ks ++ c.args.key ∷ []) c.args.backing.now
-          c.destage_last.new.backing) (sym keys) (
-          stops_among g.B.Backing.puts g.B.Backing.breaks (last_keys c.args.self.now.entries) (c.args.key ∷ [])
-          c.args.backing.now c.destage_last.new.backing (c.in-Broken.ensures.behind.stopped refl));
+      seen = search rules;
+      entries = search rules;
+      behind = record {
+        present = λ is. absurd (false≢true (rw c.requires.absent at is));
+        put = λ done. cc;
+        stopped = λ lost.
+            subst (λ ks. StopsInTurn step stop (ks ++ c.args.key ∷ []) from mid)
+            (sym (pushed_full old c.args.key c.requires.absent c.requires.full))
+            (stops_among step stop (last_keys old.entries) (c.args.key ∷ []) from mid
+            (c.in-Broken.ensures.behind.stopped refl));
+      };
+      answer = search rules;
     }
 
-pub returns-in-Broken-put-clause-behind : goal.returns-in-Broken-put-clause-behind
-returns-in-Broken-put-clause-behind g c =
-    let keys = pushed_full c.args.self.now c.args.key c.requires.absent c.requires.full in
+pub returns-in-Broken-put-clause-puts : goal.returns-in-Broken-put-clause-puts
+returns-in-Broken-put-clause-puts g c =
+    let old = c.args.self.now in
+    let d = c.destage_last.ensures in
+    let step = g.B.Backing.puts in
+    let stop = g.B.Backing.breaks in
+    let from = c.args.backing.now in
+    let mid = c.destage_last.new.backing in
     record {
-      present = λ is. absurd (false≢true (rw c.requires.absent at is));
-      put = λ done. cc;
-      stopped = λ lost.
-          subst (λ ks. StopsInTurn g.B.Backing.puts g.B.Backing.breaks (ks ++ c.args.key ∷ []) c.args.backing.now
-          c.put.new.self) (sym keys) (
-          let old = c.args.self.now in
-          let d = c.destage_last.ensures in
-          let step = g.B.Backing.puts in
-          let f = g.B.Backing.block_at c.args.backing.now in
-          let h = g.B.Backing.block_at c.destage_last.new.backing in
-          stops_then step g.B.Backing.breaks (last_keys old.entries) c.args.key [] c.args.backing.now
-          c.destage_last.new.backing c.put.new.self
-          (in_turn_last step c.destage_last.result old.entries f h c.args.backing.now c.destage_last.new.backing
-          c.in_default.not-Broken d.behind.given d.behind.put d.behind.quiet)
-          (c.in-Broken-put.ensures.breaks refl));
+      seen = search rules;
+      entries = search rules;
+      behind = record {
+        present = λ is. absurd (false≢true (rw c.requires.absent at is));
+        put = λ done. cc;
+        stopped = λ lost.
+            subst (λ ks. StopsInTurn step stop (ks ++ c.args.key ∷ []) from c.put.new.self)
+            (sym (pushed_full old c.args.key c.requires.absent c.requires.full))
+            (stops_then step stop (last_keys old.entries) c.args.key [] from mid c.put.new.self
+            (in_turn_last step c.destage_last.result old.entries (g.B.Backing.block_at from) (g.B.Backing.block_at mid)
+            from mid c.in_default.not-Broken d.behind.given d.behind.put d.behind.quiet)
+            (c.in-Broken-put.ensures.breaks refl));
+      };
+      answer = search rules;
     }
