@@ -18,12 +18,13 @@ use Rattle.ar_book.specs.Tables.{Tables, level, free_groups}
 use Rattle.ar_book.specs.Changes.{stamped}
 use Rattle.ar_book.proofs.AfterStamp.{stamped_level}
 use Rattle.ar_store.specs.Store.{StoreState}
-use Rattle.ar_store.specs.Placing.{HasNoHole, Puts, is_in_place_at, is_put_in_place}
+use Rattle.ar_store.specs.Placing.{HasNoHole, after_put, case_level, is_in_place_at, is_put_in_place}
+use Rattle.ar_store.specs.Placing.{BySqueeze, InPlace}
 use Rattle.ar_store.specs.Plans.{MakesAccesses}
 use Rattle.ar_store.proofs.Gaps.{lacks_of}
 use Rattle.ar_store.proofs.PutCosts.{put_to_mirrored, put_to_parity}
 use Rattle.ar_store.proofs.SqueezeCosts.{made_none, made_then}
-use Rattle.ar_store.proofs.Ways.{parity_not_mirrored, unplaced_not_parity}
+use Rattle.ar_store.proofs.Ways.{in_place_case, stamped_in_place}
 use Rattle.ar_cache.specs.Backing.{InTurn}
 use Rattle.ar_cache.specs.Cache.{CacheState, same_key, cached, with_room, without_key, last_keys}
 use Rattle.ar_cache.specs.Cache.{giving_way, pushed_out, put_through}
@@ -95,7 +96,7 @@ still_through a k b through put none =
 
 -- Puts without a read before them that leave the tables but for the block's stamp, and cost the same each.
 module _ (P : Tables → Key → Type 0) (kinds : List AccessKind)
-    (stamps : (t : Tables) (k : Key) (new : Tables) → P t k → Puts t k new → new ≡ stamped t k)
+    (stamps : (t : Tables) (k : Key) (new : Tables) → P t k → new ≡ after_put t k → new ≡ stamped t k)
     (stays : (t : Tables) (k j : Key) → P t j → P (stamped t k) j)
     (makes : (a b : StoreState) (k : Key) → a.disks.health ≡ Whole → NoneFaults a.disks b.disks → P a.book k
     → PutsStored a k b
@@ -180,11 +181,14 @@ through_in_place : (a : ArrayState) (k : Key) → WritesThrough a → is_put_in_
     → in_place_at a k ≡ true
 through_in_place a k through is = ap (λ n. (n == 0) && is_put_in_place a.store.book k) through.capacity ∙ is
 
--- and so is a mirrored one
+-- and so is a mirrored one, which a put overwrites in place
+high_in_place : (t : Tables) (k : Key) → level t k ≡ MirroredLevel → is_put_in_place t k ≡ true
+high_in_place t k at = ap (λ (l : Level). is_in_place_at l t) at
+
 mirrored_in_place : (a : ArrayState) (k : Key) → WritesThrough a → level a.store.book k ≡ MirroredLevel
     → in_place_at a k ≡ true
 mirrored_in_place a k through at =
-    through_in_place a k through (ap (λ (l : Level). is_in_place_at l a.store.book) at)
+    through_in_place a k through (high_in_place a.store.book k at)
 
 -- mirrored blocks stay mirrored, and each costs two writes, whether it is given whole or in part
 pub mirrored_write : (addr : Addr) (lba count : ℕ) (fua : Bool) (old new : ArrayState)
@@ -195,9 +199,10 @@ pub mirrored_write : (addr : Addr) (lba count : ℕ) (fua : Bool) (old new : Arr
     new.store.disks
 mirrored_write addr lba count fua old new =
     through_write (λ t k. level t k ≡ MirroredLevel) (Write ∷ Write ∷ [])
-    (λ t k new at puts. puts.mirrored at)
+    (λ t k new at puts. puts ∙ stamped_in_place t k (high_in_place t k at))
     (λ t k j at. stamped_level t k j ∙ at)
-    (λ a b k whole none at put. put_to_mirrored a b k whole none put.plan (record { way = λ low full few. low at }))
+    (λ a b k whole none at put. put_to_mirrored a b k none put.plan.plan whole
+    (ap (case_level a.book k) (in_place_case a.book k (high_in_place a.book k at)) ∙ at))
     addr lba count fua old new
     (λ a k through at. ap (λ b. is_whole (geometry_of old) lba count k || b) (mirrored_in_place a k through at)
     ∙ either_true (is_whole (geometry_of old) lba count k))
@@ -208,10 +213,8 @@ record StaysLow (t : Tables) (k : Key) : Type 0 where
   none : HasNoHole t Mirrored
   few : free_groups t < 2
 
-low_in_place : (a : ArrayState) (k : Key) → WritesThrough a → StaysLow a.store.book k → in_place_at a k ≡ true
-low_in_place a k through low =
-    through_in_place a k through
-    (ap (λ (l : Level). is_in_place_at l a.store.book) low.at_level ∙ lacks_of a.store.book low.none low.few)
+low_in_place : (t : Tables) (k : Key) → StaysLow t k → is_put_in_place t k ≡ true
+low_in_place t k low = ap (λ (l : Level). is_in_place_at l t) low.at_level ∙ lacks_of t low.none low.few
 
 stamped_none : (t : Tables) (k : Key) → HasNoHole t Mirrored → HasNoHole (stamped t k) Mirrored
 stamped_none t k none = record {
@@ -227,18 +230,20 @@ pub parity_write : (addr : Addr) (lba count : ℕ) (fua : Bool) (old new : Array
     old.store.disks new.store.disks
 parity_write addr lba count fua old new stores calm through stay =
     through_write StaysLow (Read ∷ Read ∷ Write ∷ Write ∷ [])
-    (λ t k new low puts. puts.parity low.at_level low.none low.few)
+    (λ t k new low puts. puts ∙ stamped_in_place t k (low_in_place t k low))
     (λ t k j low. record {
       at_level = stamped_level t k j
           ∙ low.at_level;
       none = stamped_none t k low.none;
       few = low.few;
     })
-    (λ a b k healthy none low put. put_to_parity a b k healthy none put.plan
-    (record { low = λ high. parity_not_mirrored (sym low.at_level ∙ high); none = low.none; few = low.few })
-    (record { way = λ unplaced n full few. unplaced_not_parity (sym unplaced ∙ low.at_level) }))
+    (λ a b k healthy none low put.
+    let is = in_place_case a.book k (low_in_place a.book k low) in
+    put_to_parity a b k none put.plan.plan healthy (ap (case_level a.book k) is ∙ low.at_level)
+    (λ squeeze. (let clash : InPlace ≡ BySqueeze = sym is ∙ squeeze in cc)))
     addr lba count fua old new
-    (λ a k through low. ap (λ b. is_whole (geometry_of old) lba count k || b) (low_in_place a k through low)
+    (λ a k through low. ap (λ b. is_whole (geometry_of old) lba count k || b)
+    (through_in_place a k through (low_in_place a.store.book k low))
     ∙ either_true (is_whole (geometry_of old) lba count k)) stores calm through
     (λ i d lt. record {
       at_level = stay.at_level i d lt;

@@ -1,20 +1,18 @@
 -- What a WRITE costs where no disk faults: the reads of the blocks that it covers in part and doesn't overwrite in
 -- place, and the puts of those that are destaged.
-use Rattle.std.proofs.Common.{◌≡◌, inl, inr, ℕ, ◌≤◌, ◌||◌, Bool, true, false, Option, Some, None, is_some}
+use Rattle.std.proofs.Common.{◌≡◌, ℕ, ◌≤◌, ◌||◌, Bool, true, false, Option, Some, None, is_some}
 use Rattle.std.proofs.Common.{List, [], ◌∷◌, ◌++◌, refl, sym, ap, ◌∙◌, arith}
 use Rattle.std.proofs.lemmas.List.{append-nil, append_assoc}
 use Rattle.std.proofs.lemmas.Option.{none-some}
 use Rattle.ar_disks.specs.declared.address.Addr.{Addr}
 use Rattle.ar_disks.specs.declared.address.Key.{Key}
 use Rattle.ar_disks.specs.declared.geometry.Geometry.{Geometry}
-use Rattle.ar_extents.specs.declared.health.Health.TheVariants.{Broken as AllBroken}
 use Rattle.ar_extents.specs.declared.log.RowAccess.{RowAccess}
-use Rattle.ar_extents.specs.Changes.{is_broken_set}
 use Rattle.ar_extents.specs.Set.{SetState, faults_of}
 use Rattle.ar_extents.specs.Plans.{NoneFaults, planned}
 use Rattle.ar_extents.proofs.Plans.{planned_made}
 use Rattle.ar_store.specs.Store.{StoreState}
-use Rattle.ar_store.specs.Plans.{CarriesOutPlan}
+use Rattle.ar_store.specs.Plans.{put_plan}
 use Rattle.ar_cache.specs.Backing.{InTurn}
 use Rattle.ar_cache.specs.Cache.{cached}
 use Rattle.ar_volume.specs.Following.{PutsStored}
@@ -81,28 +79,18 @@ module _ (S X : Type 0) (disks : S → SetState) (step : S → X → S → Type 
         health = last.health ∙ first.health;
       }
 
--- one put of a block into the store: it carried out a plan, as the array hasn't failed
-pub put_by : (a b : StoreState) (k : Key) → PutsStored a k b → CarriesOutPlan a k b
-put_by a b k put = elim put.plan.one [
-  | inl was ↦ absurd (
-      let lost : b.disks.health ≡ AllBroken = ap (λ (s : StoreState). s.disks.health) was.same ∙ was.was in
-      let clash : true ≡ false = sym (ap is_broken_set lost) ∙ put.sound in
-      cc)
-  | inr by ↦ by
-]
-
+-- one put of a block into the store
 pub put_grows : (a : StoreState) (k : Key) (b : StoreState) → PutsStored a k b → Grow a.disks b.disks
-put_grows a k b put = let by = put_by a b k put in faults_grow by.plan a.disks b.disks by.carried
+put_grows a k b put = faults_grow (put_plan a k) a.disks b.disks put.plan.plan
 
 pub put_costs : (a : StoreState) (k : Key) (b : StoreState) → PutsStored a k b → NoneFaults a.disks b.disks
     → CostsExactly (PutMakes a k b) a.disks b.disks
 put_costs a k b put none =
-    let by = put_by a b k put in
-    let health = calm_health by.plan a.disks b.disks by.carried none in
+    let health = calm_health (put_plan a k) a.disks b.disks put.plan.plan none in
     record {
-      made = planned by.plan a.disks.health;
-      is_made = record { put = put; plan = by.plan; is_plan = by.is_plan; made_is = refl; health = health };
-      log = planned_made by.plan a.disks b.disks by.carried none;
+      made = planned (put_plan a k) a.disks.health;
+      is_made = record { put = put; made_is = refl; health = health };
+      log = planned_made (put_plan a k) a.disks b.disks put.plan.plan none;
       health = health;
     }
 

@@ -6,13 +6,13 @@ use Rattle.ar_extents.specs.declared.health.Health.TheVariants.{Whole}
 use Rattle.ar_extents.specs.declared.log.AccessKind.{AccessKind}
 use Rattle.ar_extents.specs.declared.log.RowAccess.{RowAccess}
 use Rattle.ar_extents.specs.Set.{SetState}
-use Rattle.ar_extents.specs.Plans.{AccessPlan, planned}
+use Rattle.ar_extents.specs.Plans.{planned}
 use Rattle.ar_book.specs.declared.class.Class.TheVariants.{Mirrored}
 use Rattle.ar_book.specs.declared.class.Level.TheVariants.{Mirrored as MirroredLevel, Parity as ParityLevel}
 use Rattle.ar_book.specs.Tables.{Tables, level, free_groups}
 use Rattle.ar_store.specs.Store.{StoreState}
 use Rattle.ar_store.specs.Placing.{HasNoHole}
-use Rattle.ar_store.specs.Plans.{IsPutPlan}
+use Rattle.ar_store.specs.Plans.{put_plan}
 use Rattle.ar_cache.specs.Cache.{cached}
 use Rattle.ar_volume.specs.Following.{PutsStored}
 use Rattle.ar_volume.specs.Image.{ArrayState, geometry_of}
@@ -35,12 +35,10 @@ MakesInTurn {S} makes (this ∷ rest) from to made =
     (next : S) × (first : List RowAccess) × (more : List RowAccess)
     × makes from this next first × MakesInTurn makes rest next to more × (made ≡ first ++ more)
 
--- One block was put into a store by these accesses: those that the plan of its case makes where none faults.
+-- One block was put into a store by these accesses: those that its plan makes where none faults.
 pub record PutMakes (old : StoreState) (key : Key) (new : StoreState) (made : List RowAccess) : Type 0 where
   pub put : PutsStored old key new
-  pub plan : AccessPlan
-  pub is_plan : IsPutPlan old key plan
-  pub made_is : made ≡ planned plan old.disks.health
+  pub made_is : made ≡ planned (put_plan old key) old.disks.health
   pub health : new.disks.health ≡ old.disks.health
 
 -- One block was read by these accesses: those of its home's read, none if it has no home or is cached.

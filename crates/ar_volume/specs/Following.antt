@@ -6,7 +6,7 @@ use Rattle.ar_extents.specs.Changes.{is_broken_set}
 use Rattle.ar_extents.specs.Follows.{Keeps, Anywhere}
 use Rattle.ar_extents.specs.Plans.{CarriesOut}
 use Rattle.ar_store.specs.Store.{StoreState}
-use Rattle.ar_store.specs.Placing.{Puts}
+use Rattle.ar_store.specs.Placing.{after_put}
 use Rattle.ar_store.specs.Plans.{get_plan, CarriesOutPut}
 use Rattle.ar_store.specs.Calls.{StoreFollows, BreaksPut, LeavesZeros}
 use Rattle.ar_volume.specs.Image.{ArrayState}
@@ -21,10 +21,10 @@ pub record ReadsStored (old : StoreState) (key : Key) (new : StoreState) : Type 
   pub reads : StoreReads old new
   pub plan : CarriesOut (get_plan old key) old.disks new.disks
 
--- One block was put into a store, and the array hasn't failed: the block went where `Puts` states, and exactly the
--- accesses of that case were made; a squeeze leaves zeros in the slots after the block's own.
+-- One block was put into a store, and the array hasn't failed: the block went where `put_case` states, and exactly
+-- the accesses of that case were made; a squeeze leaves zeros in the slots after the block's own.
 pub record PutsStored (old : StoreState) (key : Key) (new : StoreState) : Type 0 where
-  pub tables : Puts old.book key new.book
+  pub tables : new.book ≡ after_put old.book key
   pub plan : CarriesOutPut old key new
   pub zeros : LeavesZeros old key new
   pub sound : is_broken_set new.disks.health ≡ false

@@ -19,15 +19,15 @@ returns g c =
     record {
       answer = answer;
       content = got.given;
-      blocks = λ done. record { same = λ k. got.stands.blocks (sound done) k };
+      blocks = λ done. record { same = λ k. got.keeps.stands.blocks (sound done) k };
       keeps =
           keeps_store (λ (b : Behind g.row.D.Denot). b.store) c.args.self.now _
           (record {
-            units = units_same old.book new.book got.book;
+            units = units_same old.book new.book got.keeps.book;
             accessed = get_accessed old c.args.key new.disks got.plan;
           });
       gets = record {
-        reads = record { tables = got.book; rows = get_keeps old c.args.key new.disks got.plan };
+        reads = record { tables = got.keeps.book; rows = get_keeps old c.args.key new.disks got.plan };
         plan = got.plan;
       };
     }

@@ -7,7 +7,7 @@ use Rattle.ar_volume.proofs.behind.BehindBacking.put.Goals as goal
 
 pub returns-clause-breaks : goal.returns-clause-breaks
 returns-clause-breaks g c = λ lost.
-    let put = c.put.ensures in
+    let put = c.put.ensures.done in
     let new = c.put.new.self in
     record {
       breaks = put.breaks lost;
@@ -17,4 +17,5 @@ returns-clause-breaks g c = λ lost.
     }
 
 pub returns-clause-keeps : goal.returns-clause-keeps
-returns-clause-keeps g c = keeps_store (λ (b : Behind g.row.D.Denot). b.store) c.args.self.now _ c.put.ensures.follows
+returns-clause-keeps g c =
+    keeps_store (λ (b : Behind g.row.D.Denot). b.store) c.args.self.now _ c.put.ensures.done.follows

@@ -7,7 +7,7 @@ use Rattle.ar_volume.proofs.behind.BehindBacking.put_part.Goals as goal
 
 pub returns-clause-whole : goal.returns-clause-whole
 returns-clause-whole g c = λ done.
-    let put = c.put_part.ensures in
+    let put = c.put_part.ensures.done in
     let old = c.args.self.now.store in
     let new = c.put_part.new.self in
     let now : is_broken_set new.disks.health ≡ false =
@@ -19,7 +19,7 @@ returns-clause-whole g c = λ done.
 
 pub returns-clause-breaks : goal.returns-clause-breaks
 returns-clause-breaks g c = λ lost.
-    let put = c.put_part.ensures in
+    let put = c.put_part.ensures.done in
     let new = c.put_part.new.self in
     record {
       breaks = put.breaks lost;
@@ -30,4 +30,4 @@ returns-clause-breaks g c = λ lost.
 
 pub returns-clause-keeps : goal.returns-clause-keeps
 returns-clause-keeps g c =
-    keeps_store (λ (b : Behind g.row.D.Denot). b.store) c.args.self.now _ c.put_part.ensures.follows
+    keeps_store (λ (b : Behind g.row.D.Denot). b.store) c.args.self.now _ c.put_part.ensures.done.follows

@@ -15,7 +15,7 @@ pub returns-clause-seen : goal.returns-clause-seen
 returns-clause-seen g c = λ done.
     let old : ArrayState = record { store = c.self.inside.behind.store; cache = c.self.inside.cache } in
     let new : ArrayState = record { store = c.flush_all.new.backing.store; cache = c.flush_all.new.self } in
-    subst (λ (s : ArrayState). SameSeen s new) c.self.view_is (seen_kept old new (c.flush_all.ensures.seen done))
+    subst (λ (s : ArrayState). SameSeen s new) c.self.view_is (seen_kept old new (c.flush_all.ensures.rest.seen done))
 
 pub returns-clause-emptied : goal.returns-clause-emptied
 returns-clause-emptied g c = λ done.
@@ -61,7 +61,7 @@ returns-clause-quiet g c =
     (λ none.
     let store = ap (λ (b : Behind g.row.D.Denot). b.store) (call.emptied.quiet none) in
     let cache = emptied_same c.flush_all.result (is_broken old) (is_broken new) c.self.inside.cache c.flush_all.new.self
-    call.answer sound
+    call.rest.answer sound
     (ap (λ s. is_broken (record { store = s; cache = c.flush_all.new.self })) store) call.emptied.entries none in
     ap (λ s. (let made : ArrayState = record { store = s; cache = c.flush_all.new.self } in made)) store
     ∙ ap (λ e. (let made : ArrayState = record { store = old.store; cache = e } in made)) cache)

@@ -10,7 +10,7 @@ pub returns-clause-seen : goal.returns-clause-seen
 returns-clause-seen g c = λ done.
     let old : ArrayState = record { store = c.self.inside.behind.store; cache = c.self.inside.cache } in
     let new : ArrayState = record { store = c.flush_key.new.backing.store; cache = c.flush_key.new.self } in
-    subst (λ (s : ArrayState). SameSeen s new) c.self.view_is (seen_kept old new (c.flush_key.ensures.seen done))
+    subst (λ (s : ArrayState). SameSeen s new) c.self.view_is (seen_kept old new (c.flush_key.ensures.rest.seen done))
 
 pub returns-clause-breaks : goal.returns-clause-breaks
 returns-clause-breaks g c = λ lost.

@@ -14,7 +14,7 @@ returns-clause-flushes g c =
     (flushed_one (λ (b : Behind g.row.D.Denot). b.store) c.flush_one.result c.self.inside.behind c.flush_one.new.backing
     c.self.inside.cache c.flush_one.new.self
     (ap is_broken c.self.view_is ∙ sym c.is_broken.ensures.broken ∙ c.if-is_broken.false) call.entries call.idle
-    call.behind.given call.behind.put call.behind.stopped call.behind.quiet call.answer call.keeps.joined)
+    call.behind.given call.behind.put call.behind.stopped call.behind.quiet call.rest.answer call.rest.keeps.joined)
 
 pub returns-clause-seen : goal.returns-clause-seen
 returns-clause-seen g c = λ sound.
@@ -22,5 +22,5 @@ returns-clause-seen g c = λ sound.
     let new : ArrayState = record { store = c.flush_one.new.backing.store; cache = c.flush_one.new.self } in
     subst (λ (s : ArrayState). SameSeen s new) c.self.view_is
     (seen_kept old new
-    (c.flush_one.ensures.seen
-    (flush_done c.flush_one.result (is_broken old) (is_broken new) c.flush_one.ensures.answer sound)))
+    (c.flush_one.ensures.rest.seen
+    (flush_done c.flush_one.result (is_broken old) (is_broken new) c.flush_one.ensures.rest.answer sound)))

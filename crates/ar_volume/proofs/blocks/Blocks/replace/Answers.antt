@@ -10,4 +10,4 @@ returns-clause-seen g c = λ sound.
     let old : ArrayState = record { store = c.self.inside.behind.store; cache = c.self.inside.cache } in
     let new : ArrayState = record { store = c.replace.new.self; cache = c.self.inside.cache } in
     subst (λ (s : ArrayState). SameSeen s new) c.self.view_is
-    (all_seen old new refl (c.replace.ensures.stands.blocks (not_broken new.store.disks.health sound)))
+    (all_seen old new refl (c.replace.ensures.keeps.stands.blocks (not_broken new.store.disks.health sound)))

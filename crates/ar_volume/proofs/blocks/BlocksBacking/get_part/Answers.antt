@@ -19,7 +19,7 @@ returns-clause-blocks g c = λ done.
     let old : ArrayState = record { store = c.self.inside.behind.store; cache = c.self.inside.cache } in
     let new : ArrayState = record { store = c.get_part.new.backing.store; cache = c.self.inside.cache } in
     subst (λ (s : ArrayState). SameBlocks (seen_at s) (seen_at new)) c.self.view_is
-    (seen_read old new refl (c.get_part.ensures.blocks done))
+    (seen_read old new refl (c.get_part.ensures.behind.blocks done))
 
 pub returns-then-is_broken-clause-gets : goal.returns-then-is_broken-clause-gets
 returns-then-is_broken-clause-gets g c =

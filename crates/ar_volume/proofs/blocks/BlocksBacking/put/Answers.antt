@@ -12,17 +12,17 @@ returns-clause-written g c = λ done.
     let old : ArrayState = record { store = c.self.inside.behind.store; cache = c.self.inside.cache } in
     let new : ArrayState = record { store = c.put.new.backing.store; cache = c.put.new.self } in
     subst (λ (s : ArrayState). WritesKey (seen_at s) (seen_at new) c.args.key c.args.from.now) c.self.view_is
-    (seen_put old new c.args.key c.args.from.now (c.put.ensures.seen done).sees)
+    (seen_put old new c.args.key c.args.from.now (c.put.ensures.puts.seen done).sees)
 
 pub returns-clause-puts : goal.returns-clause-puts
 returns-clause-puts g c = λ done.
     let new : ArrayState = record { store = c.put.new.backing.store; cache = c.put.new.self } in
+    let put = c.put.ensures.puts in
     subst (λ (s : ArrayState). PutsBlock s c.args.key new) c.self.view_is
     (put_stored (λ (b : Behind g.row.D.Denot). b.store) c.self.inside.behind c.put.new.backing c.self.inside.cache
     c.put.new.self c.args.key c.args.from.now
-    (c.put.ensures.seen done).sees c.put.ensures.entries.present (λ none. c.put.ensures.entries.absent none done)
-    c.put.ensures.entries.fits
-    (c.put.ensures.behind.put done))
+    (put.seen done).sees put.entries.present (λ none. put.entries.absent none done) put.entries.fits
+    (put.behind.put done))
 
 pub returns-then-is_broken-clause-breaks : goal.returns-then-is_broken-clause-breaks
 returns-then-is_broken-clause-breaks g c =
@@ -35,5 +35,5 @@ returns-clause-breaks g c = λ lost.
     subst (λ (s : ArrayState). BreaksBlock s c.args.key new) c.self.view_is
     (breaks_block (λ (b : Behind g.row.D.Denot). b.store) c.self.inside.behind c.put.new.backing c.self.inside.cache
     c.put.new.self c.args.key c.put.result lost sound
-    (c.put.ensures.entries.broken lost) (λ some. (c.put.ensures.behind.present some).0)
-    (c.put.ensures.behind.stopped lost))
+    (c.put.ensures.puts.entries.broken lost) (λ some. (c.put.ensures.puts.behind.present some).0)
+    (c.put.ensures.puts.behind.stopped lost))

@@ -20,7 +20,7 @@ returns-clause-written g c = λ done.
     (with_sectors b c.args.first c.args.from.now)) (sym (seen_by old c.args.key))
     (seen_put old new c.args.key
     (with_sectors (seen old.cache (stands old.store) c.args.key) c.args.first c.args.from.now)
-    (c.put_part.ensures.seen done).sees))
+    (c.put_part.ensures.puts.seen done).sees))
 
 pub returns-clause-puts : goal.returns-clause-puts
 returns-clause-puts g c = λ done.
@@ -30,9 +30,9 @@ returns-clause-puts g c = λ done.
     (put_stored (λ (b : Behind g.row.D.Denot). b.store) c.self.inside.behind c.put_part.new.backing c.self.inside.cache
     c.self.inside.cache c.args.key
     (with_sectors (seen old.cache (stands old.store) c.args.key) c.args.first c.args.from.now)
-    (c.put_part.ensures.seen done).sees c.put_part.ensures.entries.present
-    (λ none. c.put_part.ensures.entries.absent none done) c.put_part.ensures.entries.fits
-    (c.put_part.ensures.behind.put done))
+    (c.put_part.ensures.puts.seen done).sees c.put_part.ensures.puts.entries.present
+    (λ none. c.put_part.ensures.puts.entries.absent none done) c.put_part.ensures.puts.entries.fits
+    (c.put_part.ensures.puts.behind.put done))
 
 pub returns-then-is_broken-clause-breaks : goal.returns-then-is_broken-clause-breaks
 returns-then-is_broken-clause-breaks g c =
@@ -45,4 +45,4 @@ returns-clause-breaks g c = λ lost.
     subst (λ (s : ArrayState). BreaksBlock s c.args.key new) c.self.view_is
     (breaks_block (λ (b : Behind g.row.D.Denot). b.store) c.self.inside.behind c.put_part.new.backing
     c.self.inside.cache c.self.inside.cache c.args.key c.put_part.result lost sound
-    refl (λ some. (c.put_part.ensures.behind.present some).0) (c.put_part.ensures.behind.stopped lost))
+    refl (λ some. (c.put_part.ensures.puts.behind.present some).0) (c.put_part.ensures.puts.behind.stopped lost))
