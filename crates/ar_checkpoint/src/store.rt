@@ -1,6 +1,7 @@
 // A journal, and the records that wait for the next commit.
 ghost use Rattle.std.specs.Prelude.{◌≡◌, ◌≤◌, ◌++◌, ◌∷◌, [], OnOk, IfErr, IfOk, IsTrue, false, true, length};
 ghost use Rattle.ar_log.specs.Failure.{is_final};
+ghost use Rattle.ar_journal.specs.Joins.{IsNamedCopy, KeepsJournal};
 ghost use Rattle.ar_journal.specs.Journal.{IsReady};
 ghost use Rattle.ar_checkpoint.specs.Gradual.{HasFirstBatch, IsReplaced, LeavesLogs};
 ghost use Rattle.ar_checkpoint.specs.Store.{AppendsOrKeeps, KeepsMedia, KeepsRecords, KeepsStoredUnits, MayLeave};
@@ -8,9 +9,10 @@ ghost use Rattle.ar_checkpoint.specs.Store.{RecordStore, Waits, closed_store, is
 
 use crate::{CheckpointError, GradualCheckpoint, make_piece};
 use ar_compaction::StoreHead;
+use ar_copies::CopiedMedia;
 use ar_journal::Journal;
 use ar_log::LogError;
-use ar_media::Media;
+use ar_media::{Media, MediaError};
 use std::alloc::Global;
 use std::marker::Model;
 
@@ -178,5 +180,70 @@ impl<M: Media + Drop> Store<M> {
         let checkpoint = self.checkpoint.take();
         self.checkpoint = make_piece(alloc, &mut self.journal, checkpoint, head)?;
         Ok(self.checkpoint.is_none())
+    }
+}
+
+impl<M: Media + Drop> Store<M> {
+    /// Whether the store has two copies, and neither is lost.
+    pub fn has_two<F: Media + Drop>(&self) -> bool
+    where
+        M: CopiedMedia<F>,
+        ensures { result ≡ true → M.has_copy self.now.journal.active.media ≡ true }
+    {
+        self.journal.active.media.has_two()
+    }
+
+    /// Whether its second log is the one that is appended to.
+    pub fn is_second(&self) -> bool {
+        self.journal.is_second
+    }
+
+    /// Begins a second copy of the store, in place of one that is lost or beside the only one: `copy` is that of the
+    /// log which isn't appended to, and on which the next checkpoint writes a successor, in both copies. Both are
+    /// emptied. The log is synced before, and keeps its batches.
+    ///
+    /// `Closed` while a checkpoint is made. After `Failed` the store may be given up.
+    pub fn begin_copy<F: Media + Drop>(&mut self, copy: F) -> Result<(), LogError>
+    where
+        M: CopiedMedia<F>,
+        ensures units { KeepsStoredUnits M.seen M.is_clean self.old self.new }
+        ensures journal { KeepsJournal M.seen M.may_leave M.moment M.left_since M.is_clean self.old.journal
+            self.new.journal }
+    {
+        if self.checkpoint.is_some() {
+            return Err(LogError::Closed);
+        }
+        self.journal.settle()?;
+        self.journal.join_spare(copy)
+    }
+
+    /// Completes a copy, once a checkpoint has written it: `log` is the copy of the log that was replaced, and
+    /// `selector` that of the selector, which names the new log. From then on either copy is a store by itself.
+    ///
+    /// `Closed` while a checkpoint is made, and where the copy of the log is lost: the selector's isn't written then.
+    pub fn complete_copy<F: Media + Drop>(&mut self, selector: F, log: F) -> Result<(), LogError>
+    where
+        M: CopiedMedia<F>,
+        ensures units { KeepsStoredUnits M.seen M.is_clean self.old self.new }
+        ensures journal { KeepsJournal M.seen M.may_leave M.moment M.left_since M.is_clean self.old.journal
+            self.new.journal }
+        ensures log { OnOk result (M.has_copy self.new.journal.active.media ≡ true) }
+        ensures named { OnOk result (IsNamedCopy M.has_copy M.copy_leaves self.new.journal.is_second
+            self.new.journal.selector) }
+    {
+        if self.checkpoint.is_some() || !self.has_two::<F>() {
+            return Err(LogError::Closed);
+        }
+        self.journal.join_spare(log)?;
+        self.journal.join_selector(selector)
+    }
+
+    /// Ends a copy that was begun: `Ok` where the store has two now. Otherwise why not: it isn't complete (`Closed`), or
+    /// was lost meanwhile.
+    pub fn end_copy<F: Media + Drop>(&self, is_complete: bool) -> Result<(), MediaError>
+    where
+        M: CopiedMedia<F>,
+    {
+        self.journal.active.media.end_copy(is_complete)
     }
 }

@@ -229,10 +229,8 @@ impl<'a, M: Media + Drop> Media for CopiedFile<'a, M> {
     }
 }
 
-impl<'a, M: Media + Drop> CopiedMedia for CopiedFile<'a, M> {
+impl<'a, M: Media + Drop> CopiedMedia<M> for CopiedFile<'a, M> {
     ghost use Rattle.ar_copies.specs.Copies.{CopyLeaves, is_other_in_use};
-
-    type File = M;
 
     ghost has_copy = { λ c. is_other_in_use c.copies.other };
 
@@ -251,7 +249,7 @@ impl<'a, M: Media + Drop> CopiedMedia for CopiedFile<'a, M> {
         self.copies.has_two() && self.losses.lost().is_none()
     }
 
-    fn end_copy(&self, is_whole: bool) -> bool {
+    fn end_copy(&self, is_whole: bool) -> Result<(), MediaError> {
         self.losses.end(is_whole)
     }
 }

@@ -4,11 +4,8 @@ ghost use Rattle.ar_media.specs.Media.{Elapses};
 
 use ar_media::{Media, MediaError};
 
-/// A file in copies, whose lost copy may be replaced while it is in use.
-pub trait CopiedMedia: Media {
-    /// A copy of the file.
-    type File: Media + Drop;
-
+/// A file in copies, each an `F`, whose lost copy may be replaced while it is in use.
+pub trait CopiedMedia<F: Media + Drop>: Media {
     /// Whether a second copy is in use.
     ghost has_copy: { Self → Bool };
 
@@ -21,22 +18,22 @@ pub trait CopiedMedia: Media {
     ///
     /// The first file of a store that a copy joins begins to make one. Until `end_copy` that is the copy which is lost
     /// where a call of either fails.
-    fn join(&mut self, copy: Self::File) -> Result<(), MediaError>
+    fn join(&mut self, copy: F) -> Result<(), MediaError>
         ensures same { Self.seen self.new ≡ Self.seen self.old }
         ensures crash { OnOk result ((x : List ℕ) → Self.may_leave self.new x
-            → Self.may_leave self.old x ⊎ Self.File.may_leave copy x) }
+            → Self.may_leave self.old x ⊎ F.may_leave copy x) }
         ensures time { Elapses (Self.moment self.old) (Self.moment self.new) (Self.left_since self.old)
             (Self.left_since self.new) (Self.may_leave self.new) }
         ensures clean { IsTrue (Self.is_clean self.new) → IsTrue (Self.is_clean self.old) }
         ensures joined { OnOk result (has_copy self.new ≡ true) }
-        ensures copy { OnOk result ((x : List ℕ) → copy_leaves self.new x → Self.File.may_leave copy x) }
+        ensures copy { OnOk result ((x : List ℕ) → copy_leaves self.new x → F.may_leave copy x) }
         ensures none { OnErr result (self.new ≡ self.old) };
 
     /// Whether two copies are in use, and neither is lost.
     fn has_two(&self) -> bool
         ensures { result ≡ true → has_copy self.now ≡ true };
 
-    /// Ends a copy that was begun, and returns whether the store has both now: false where the new one isn't whole or
-    /// was lost meanwhile.
-    fn end_copy(&self, is_whole: bool) -> bool;
+    /// Ends a copy that was begun: `Ok` where the store has both now. Otherwise why not: the new one isn't whole
+    /// (`Closed`), or was lost meanwhile.
+    fn end_copy(&self, is_whole: bool) -> Result<(), MediaError>;
 }

@@ -33,6 +33,8 @@ pub struct Losses {
     shown: AtomicU64,
     // The copy that is being made: 0 for none, 1 for the first, 2 for the second.
     making: AtomicU64,
+    // How many copies were made.
+    made: AtomicU64,
 }
 
 // The causes that have a number of their own, which is their place. Any other one is stored as the last.
@@ -58,6 +60,7 @@ impl Losses {
             loss: AtomicU64::new(0),
             shown: AtomicU64::new(0),
             making: AtomicU64::new(0),
+            made: AtomicU64::new(0),
         }
     }
 
@@ -88,21 +91,30 @@ impl Losses {
         self.loss.store(0, Ordering::SeqCst);
     }
 
-    /// Ends a copy that was begun, and returns whether the store has both now: false where the new one isn't whole or
-    /// was lost meanwhile.
-    pub fn end(&self, is_whole: bool) -> bool {
+    /// Ends a copy that was begun: `Ok` where the store has both now. Otherwise why not: the new one isn't whole
+    /// (`Closed`), or was lost meanwhile.
+    pub fn end(&self, is_whole: bool) -> Result<(), MediaError> {
         let Some(copy) = self.making() else {
-            return false;
+            return Err(MediaError::Closed);
         };
         if !is_whole {
             self.note(copy, MediaError::Closed);
         }
-        let has_both = self.lost().is_none();
-        if has_both {
+        let lost = self.cause(copy);
+        if lost.is_none() {
             self.shown.store(0, Ordering::SeqCst);
+            self.made.fetch_add(1, Ordering::SeqCst);
         }
         self.making.store(0, Ordering::SeqCst);
-        has_both
+        match lost {
+            None => Ok(()),
+            Some(cause) => Err(cause),
+        }
+    }
+
+    /// Whether a new copy was made, which no folder of the start has.
+    pub fn has_new_copy(&self) -> bool {
+        self.made.load(Ordering::SeqCst) != 0
     }
 
     /// Whether the store has lost a copy, and no new one is whole.

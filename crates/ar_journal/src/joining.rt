@@ -13,7 +13,7 @@ use ar_log::LogError;
 use ar_media::{Media, MediaError};
 
 // Empties a file and a copy, which joins it.
-fn join_empty<M: CopiedMedia>(file: &mut M, copy: M::File) -> Result<(), MediaError>
+fn join_empty<F: Media + Drop, M: CopiedMedia<F>>(file: &mut M, copy: F) -> Result<(), MediaError>
     ensures empty { OnOk result (M.seen file.new ≡ []) }
     ensures durable { OnOk result (Only [] (M.may_leave file.new)) }
     ensures clean { IsTrue (M.is_clean file.new) → IsTrue (M.is_clean file.old) }
@@ -43,10 +43,12 @@ impl<M: Media> Journal<M> {
     }
 }
 
-impl<M: CopiedMedia + Drop> Journal<M> {
+impl<M: Media + Drop> Journal<M> {
     /// Joins a copy to the spare. Both are emptied. `Closed` while the spare is out, and of a closed journal. The other
     /// files aren't touched.
-    pub fn join_spare(&mut self, copy: M::File) -> Result<(), LogError>
+    pub fn join_spare<F: Media + Drop>(&mut self, copy: F) -> Result<(), LogError>
+    where
+        M: CopiedMedia<F>,
         ensures others { self.new ≡ record self.old { spare = self.new.spare } }
         ensures clean { SpareStaysClean M.is_clean self.old.spare self.new.spare }
         ensures ready { IsReady M.seen M.may_leave M.is_clean self.old
@@ -67,7 +69,9 @@ impl<M: CopiedMedia + Drop> Journal<M> {
     }
 
     /// Names the active log in a copy of the selector, which then joins the selector. An error changes nothing.
-    pub fn join_selector(&mut self, copy: M::File) -> Result<(), LogError>
+    pub fn join_selector<F: Media + Drop>(&mut self, copy: F) -> Result<(), LogError>
+    where
+        M: CopiedMedia<F>,
         ensures keeps { KeepsJournal M.seen M.may_leave M.moment M.left_since M.is_clean self.old self.new }
         ensures others { self.new ≡ record self.old { selector = self.new.selector } }
         // What a crash leaves of the copy alone names the log.
