@@ -42,8 +42,10 @@ pub fn recover<D: Disk + Drop>(
         Ok(recovery) => recovery,
         Err(fault) => return Err(RecoveryFault::Disks(fault)),
     };
-    redo_all(&mut recovery, records)?;
-    Ok(recovery.finish())
+    match redo_all(&mut recovery, records) {
+        Ok(()) => Ok(recovery.finish()),
+        Err(fault) => Err(fault),
+    }
 }
 
 // Executes records again, in order.

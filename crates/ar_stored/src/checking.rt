@@ -4,7 +4,7 @@ use crate::fault::{StoreCause, StoreFault};
 use ar_compaction::StoreHead;
 use ar_core::Array;
 use ar_disks::{Addr, Disk, Host};
-use ar_operator::Fuse;
+use ar_fuses::Fuse;
 use std::alloc::Global;
 use std::io;
 

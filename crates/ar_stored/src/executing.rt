@@ -10,10 +10,11 @@ use crate::source::FusedSource;
 use ar_checkpoint::Store;
 use ar_compaction::{Makes, StoreHead};
 use ar_folder::open_in;
+use ar_fuses::{Fuse, FusedDisk};
 use ar_journal::JournalReader;
 use ar_live::LiveArray;
 use ar_media::Media;
-use ar_operator::{Fuse, FusedDisk, FusedMaker, start_fused};
+use ar_operator::{FusedMaker, start_fused};
 use ar_recovery::{replay, restart};
 use std::alloc::Global;
 
@@ -43,7 +44,10 @@ pub fn restart_store<'a, M: Media + Drop>(
     requires head { IsTrue (M.is_clean reader.active) → IsHeadAlone (batches_read M.seen reader) }
     ensures { IfOk result (λ done. AreRecords M.seen M.is_clean done.store done.live.history) }
 {
-    let array = start_fused(alloc, setup_in(&head, cache), fuses).map_err(|_| StoreCause::Start)?;
+    let array = match start_fused(alloc, setup_in(&head, cache), fuses) {
+        Ok(array) => array,
+        Err(_) => return Err(StoreCause::Start),
+    };
     let mut source = FusedSource::new(FusedMaker::new(fuses));
     let mut makes = head.makes;
     let (live, store, records) = restart(alloc, reader, array, &mut source, &mut makes)?;
@@ -74,7 +78,10 @@ pub fn read_store<'a>(
     fuses: &'a [Fuse; 12],
 ) -> Result<ReadStore<'a>, StoreCause> {
     let (head, mut reader) = open_in(rt, alloc, folder)?;
-    let array = start_fused(alloc, setup_in(&head, 0), fuses).map_err(|_| StoreCause::Start)?;
+    let array = match start_fused(alloc, setup_in(&head, 0), fuses) {
+        Ok(array) => array,
+        Err(_) => return Err(StoreCause::Start),
+    };
     let mut source = FusedSource::new(FusedMaker::new(fuses));
     let mut makes = head.makes;
     let (live, records) = replay(alloc, &mut reader, array, &mut source, &mut makes)?;

@@ -1,9 +1,9 @@
 // What the command line asks of a store, and what the store's head says.
 use crate::fault::StoreCause;
+use ar_answers::Setup;
 use ar_command_line::{ShapeOptions, StoreOptions};
 use ar_compaction::StoreHead;
 use ar_folder::StoreFolders;
-use ar_script::Setup;
 
 /// The configuration of a store's array, with a cache of this size in blocks.
 pub fn setup_in(head: &StoreHead, cache: u32) -> Setup {

@@ -1,6 +1,7 @@
 // The disks that records add.
 use ar_disks::Geometry;
-use ar_operator::{DiskMaker, FusedDisk, FusedMaker};
+use ar_fuses::FusedDisk;
+use ar_operator::{DiskMaker, FusedMaker};
 use ar_recovery::DiskSource;
 use std::alloc::Global;
 
