@@ -1,11 +1,11 @@
 // The host's side of a session: sends the commands of a script one at a time, each after the reply to the one before.
 use crate::fault::Failure;
 use crate::prompt::Prompt;
+use ar_answers::write_outcome;
 use ar_core::OutcomeOf;
 use ar_disks::Host;
 use ar_frames::{AskFault, Sink, Source, ask, hello};
 use ar_language::{Action, Data, FaultKind, Lines, Notation, Order, next_line, order_in};
-use ar_script::write_outcome;
 use ar_scsi::Reply;
 use std::alloc::Global;
 use std::io::{BufWriter, Read, Write};

@@ -87,11 +87,11 @@ fn run<I: Read + Drop, O: Write + Drop>(
     let mut client = Client::log_in(alloc, host, reader, writer)?;
     let mut recent = Recent::new(alloc);
     let done = client.run(Remembered::new(input, &mut recent), output, prompt);
-    explained(alloc, done, &recent)
+    explained(alloc, done, &mut recent)
 }
 
 // How a session ended: a fault of a line together with what is wrong with it.
-fn explained(alloc: Global, done: Result<(), Failure>, recent: &Recent) -> Result<(), Failure> {
+fn explained(alloc: Global, done: Result<(), Failure>, recent: &mut Recent) -> Result<(), Failure> {
     let Err(Failure::Line(fault)) = done else {
         return done;
     };

@@ -4,5 +4,6 @@ pub mod Left
 pub mod Lines
 pub mod Notations
 pub mod Parts
+pub mod Queries
 pub mod Texts
 pub mod Words

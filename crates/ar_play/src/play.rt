@@ -45,7 +45,7 @@ fn run_plain(rt: &HostRuntime, setup: Setup) -> Result<(), PlayFault> {
     let mut recent = Recent::new(rt.alloc());
     let reader = Remembered::new(rt.stdin(), &mut recent);
     let end = run_script(rt.alloc(), reader, rt.stdout(), setup).end;
-    explained(rt.alloc(), end, &recent)
+    explained(rt.alloc(), end, &mut recent)
 }
 
 // Runs a script, and draws the array after it. It is drawn also if a fault has ended the script; that fault takes
@@ -62,7 +62,7 @@ fn play_and_draw(
         Some(file) => draw(rt, runner, file.as_str()),
         None => Ok(()),
     };
-    explained(rt.alloc(), ended, &recent)?;
+    explained(rt.alloc(), ended, &mut recent)?;
     drawn.map_err(PlayFault::Drawing)
 }
 
@@ -81,7 +81,11 @@ fn play<I: Read + Drop>(
 }
 
 // How a script ended: a fault of a line together with what is wrong with it.
-fn explained(alloc: Global, ended: Result<(), Fault>, recent: &Recent) -> Result<(), PlayFault> {
+fn explained(
+    alloc: Global,
+    ended: Result<(), Fault>,
+    recent: &mut Recent,
+) -> Result<(), PlayFault> {
     let Err(fault) = ended else {
         return Ok(());
     };

@@ -9,8 +9,10 @@ use Rattle.ar_language.specs.declared.order.Order.{Order}
 use Rattle.ar_language.specs.declared.order.Order.TheVariants.{Act}
 use Rattle.ar_language.specs.Forms.{ReadsLine}
 use Rattle.ar_language.specs.Lines.{IsLine}
-use Rattle.ar_script.specs.Answers.{AnswersLine, AppendsAnswer}
-use Rattle.ar_script.specs.Orders.{Acts, IsOrderFault, Leaves, MeetsParsed}
+use Rattle.ar_answers.specs.Answers.{AppendsAnswer}
+use Rattle.ar_answers.specs.Orders.{Acts, IsOrderFault, Leaves}
+use Rattle.ar_script.specs.Answers.{AnswersLine}
+use Rattle.ar_script.specs.Orders.{MeetsParsed}
 
 -- an action that was done stays done where its answer could not be written
 pub acted : (action : Action) (old new : ArrayState) (r : Result (Unit {0}) FaultKind)

@@ -1,9 +1,5 @@
 pub mod AnswerLemmas
 pub mod Appending
-pub mod Counting
 pub mod Ending
-pub mod FaultLemmas
 pub mod Playing
-pub mod Printing
-pub mod RunLengths
 pub mod StartLemmas

@@ -21,10 +21,12 @@ use Rattle.std.specs.Io.KnownBytes.{Appends}
 use Rattle.ar_book.specs.Tables.{room}
 use Rattle.ar_core.specs.Views.{home_of, use_of}
 use Rattle.ar_language.specs.Notations.{notation_in}
-use Rattle.ar_script.specs.Answers.{IsAnsweredBy, IsAnswerTo}
-use Rattle.ar_script.specs.Orders.{event_in, Acts, IsOrderFault, Leaves, Looks, MeetsParsed, TakesMemory}
-use Rattle.ar_script.specs.Texts.{groups_text, health_text, home_text, levels_text, line as line_of, outcome_text}
-use Rattle.ar_script.specs.Texts.{row_text}
+use Rattle.ar_answers.specs.Answers.{IsAnswerTo}
+use Rattle.ar_answers.specs.Orders.{event_in, Acts, IsOrderFault, Leaves, Looks, TakesMemory}
+use Rattle.ar_answers.specs.Texts.{groups_text, health_text, home_text, levels_text, line as line_of, outcome_text}
+use Rattle.ar_answers.specs.Texts.{row_text}
+use Rattle.ar_script.specs.Answers.{IsAnsweredBy}
+use Rattle.ar_script.specs.Orders.{MeetsParsed}
 use Rattle.ar_script.proofs.Appending.{appends_none}
 use Rattle.ar_script.specs.Plays.{ExecutesLine, HasNoOrder, AreMet, IsLostAt, Plays}
 

@@ -19,9 +19,9 @@ use Rattle.ar_language.specs.Forms.{ReadsLine}
 use Rattle.ar_language.specs.Left.{EndsReading}
 use Rattle.ar_language.specs.Lines.{is_write_fault, line_fault, line_at, IsLine, IsOfStream, Took}
 use Rattle.ar_language.specs.Notations.{notation_in}
-use Rattle.ar_script.specs.Answers.{IsAnswerTo}
-use Rattle.ar_script.specs.Orders.{event_in, Looks, TakesMemory}
-use Rattle.ar_script.specs.Texts.{outcome_text}
+use Rattle.ar_answers.specs.Answers.{IsAnswerTo}
+use Rattle.ar_answers.specs.Orders.{event_in, Looks, TakesMemory}
+use Rattle.ar_answers.specs.Texts.{outcome_text}
 
 -- the order is executed in this step of a run, to this state, and answered by this text: an action as its event, a
 -- query as a look at what it asks for alone

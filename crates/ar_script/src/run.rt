@@ -15,26 +15,13 @@ ghost use Rattle.ar_script.specs.Orders.{MeetsLine};
 ghost use Rattle.ar_script.specs.Plays.{SaysWrong, IsUnanswered, IsLineThere, IsReportedAt, IsReportedOf, PlaysScript};
 ghost use Rattle.ar_script.specs.Plays.{PlaysTo};
 ghost use Rattle.ar_script.specs.Plays.{AnswersScript, HasPlayed, HasAnswered};
-ghost use Rattle.ar_script.specs.Setups.{disks_of};
+ghost use Rattle.ar_answers.specs.Setups.{disks_of};
 
 use crate::runner::Runner;
-use ar_disks::Geometry;
+use ar_answers::Setup;
 use ar_language::{Fault, FaultKind, Lines, next_line, order_in};
 use std::alloc::Global;
 use std::io::{BufWriter, Read, Write};
-
-/// The configuration of a new array.
-#[derive(Clone, Copy, Debug, PartialEq, Eq)]
-pub struct Setup {
-    /// The geometry of the disks.
-    pub geometry: Geometry,
-    /// The number of disks, 4 to 12.
-    pub disks: u8,
-    /// Extents of each disk, 1 to 1,024.
-    pub extents: u16,
-    /// The capacity of the cache in blocks, 0 to 65,536. With 0 each block is written through.
-    pub cache: u32,
-}
 
 /// How a script ended, and the writer that has its answers.
 #[derive(Drop)]

@@ -5,26 +5,20 @@ ghost use Rattle.ar_extents.specs.Changes.{start_fault};
 ghost use Rattle.ar_volume.specs.Start.{IsStarted};
 ghost use Rattle.ar_core.specs.Step.{Steps};
 ghost use Rattle.ar_picture.specs.Writing.{AddsBytes, AddsSome};
-ghost use Rattle.ar_script.specs.Answers.{AppendsAnswer};
-ghost use Rattle.ar_script.specs.Orders.{event_in, Looks, TakesMemory, HasAnswer, IsOrderFault, Leaves};
-ghost use Rattle.ar_script.specs.Pictures.{IsPicture};
-ghost use Rattle.ar_script.specs.Setups.{disks_of, new_disk, new_disk_for};
+ghost use Rattle.ar_answers.specs.Answers.{AppendsAnswer};
+ghost use Rattle.ar_answers.specs.Orders.{event_in, Looks, TakesMemory, HasAnswer, IsOrderFault, Leaves};
+ghost use Rattle.ar_answers.specs.Pictures.{IsPicture};
+ghost use Rattle.ar_answers.specs.Setups.{disks_of, new_disk_for};
 
-use crate::Setup;
-use crate::drawing::picture_of;
 use crate::filled::Filled;
-use crate::question::write_answer;
-use crate::text::{write_outcome, write_row};
+use ar_answers::{Setup, new_disk, picture_of, write_answer, write_outcome, write_row};
 use ar_core::{Array, CAPACITY_LIMIT, Event, EventOf, NewDisk, Outcome};
-use ar_disks::{Block, Geometry, MemDisk};
+use ar_disks::{Block, MemDisk};
 use ar_language::{Action, Fault, FaultKind, Order, Question};
 use ar_picture::Picture;
 use std::alloc::{AllocError, Global};
 use std::io::Write;
 use std::marker::Model;
-
-/// The value of every byte of a new disk.
-const NEW_BYTE: u8 = 0xEE;
 
 /// An array on disks in memory, with a buffer for one of their rows and the data of the last command. In contracts a
 /// runner is its array.
@@ -55,7 +49,7 @@ impl Runner {
         ensures taken { OnOk result (start_fault (disks_of setup) ≡ None) }
         ensures started { IfOk result (IsStarted (disks_of setup) setup.cache) }
     {
-        let filled = Filled::new();
+        let filled = Filled::new(alloc);
         let row = Block::new(alloc, setup.geometry).map_err(|_| Fault::Start)?;
         let array = start_array(alloc, setup)?;
         Ok(Runner { array, row, filled })
@@ -197,11 +191,4 @@ fn new_disks(alloc: Global, setup: Setup) -> Result<Vec<MemDisk>, AllocError>
         disks.push(new_disk(alloc, setup.geometry, setup.extents)?)?;
     }
     Ok(disks)
-}
-
-/// A new disk, which is filled with one byte. Fails only when out of memory.
-pub fn new_disk(alloc: Global, geometry: Geometry, extents: u16) -> Result<MemDisk, AllocError>
-    ensures { IfOk result (λ disk. disk ≡ new_disk geometry extents) }
-{
-    MemDisk::filled(alloc, geometry, extents, NEW_BYTE)
 }

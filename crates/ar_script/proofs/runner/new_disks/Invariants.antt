@@ -1,5 +1,5 @@
 use Rattle.std.proofs.Common.{◌≡◌, replicate}
-use Rattle.ar_script.specs.Setups.{new_disk}
+use Rattle.ar_answers.specs.Setups.{new_disk}
 use Rattle.ar_script.proofs.runner.new_disks.Given as goal
 
 abbrev pub invariant-loop : goal.invariant-loop

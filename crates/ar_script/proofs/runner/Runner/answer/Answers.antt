@@ -2,12 +2,12 @@ use Rattle.std.proofs.Common.{◌≡◌, IfErr, OnOk, refl, sym, subst, rules}
 use Rattle.std.proofs.lemmas.Result.{IfOk-at_ok, on_ok_weaker}
 use Rattle.ar_language.specs.declared.fault.FaultKind.TheVariants.{WriteFault}
 use Rattle.ar_language.specs.declared.order.Order.{Order}
-use Rattle.ar_script.proofs.FaultLemmas.{ok_before}
+use Rattle.ar_answers.proofs.FaultLemmas.{ok_before}
 use Rattle.std.specs.Io.KnownBytes.{Appends}
 use Rattle.ar_language.specs.Notations.{notation_in}
-use Rattle.ar_script.specs.Answers.{AppendsAnswer}
-use Rattle.ar_script.specs.Orders.{Acts, Leaves}
-use Rattle.ar_script.specs.Texts.{outcome_text}
+use Rattle.ar_answers.specs.Answers.{AppendsAnswer}
+use Rattle.ar_answers.specs.Orders.{Acts, Leaves}
+use Rattle.ar_answers.specs.Texts.{outcome_text}
 use Rattle.ar_script.proofs.AnswerLemmas.{acted}
 use Rattle.ar_script.proofs.runner.Runner.answer.Goals as goal
 

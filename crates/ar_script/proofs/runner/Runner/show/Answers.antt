@@ -4,9 +4,9 @@ use Rattle.std.specs.Io.KnownBytes.{Appends}
 use Rattle.ar_disks.specs.declared.address.Place.{Place}
 use Rattle.ar_language.specs.declared.order.Order.TheVariants.{Ask}
 use Rattle.ar_language.specs.declared.order.Question.{Question}
-use Rattle.ar_script.specs.Answers.{AppendsAnswer}
-use Rattle.ar_script.specs.Orders.{ReadsRow}
-use Rattle.ar_script.specs.Texts.{row_text}
+use Rattle.ar_answers.specs.Answers.{AppendsAnswer}
+use Rattle.ar_answers.specs.Orders.{ReadsRow}
+use Rattle.ar_answers.specs.Texts.{row_text}
 use Rattle.ar_script.proofs.Appending.{appends_as}
 use Rattle.ar_script.proofs.runner.Runner.show.Goals as goal
 

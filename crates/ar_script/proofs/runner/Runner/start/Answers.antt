@@ -1,8 +1,8 @@
 use Rattle.std.proofs.Common.{◌∙◌, ap, sym}
 use Rattle.std.proofs.lemmas.Result.{IfOk-at_ok}
 use Rattle.ar_disks.specs.Geometry.{block_len_of}
-use Rattle.ar_script.proofs.FaultLemmas.{ok_before}
-use Rattle.ar_script.specs.Setups.{new_disk}
+use Rattle.ar_answers.proofs.FaultLemmas.{ok_before}
+use Rattle.ar_answers.specs.Setups.{new_disk}
 use Rattle.ar_script.proofs.StartLemmas.{started_geometry}
 use Rattle.ar_script.proofs.runner.Runner.start.Goals as goal
 

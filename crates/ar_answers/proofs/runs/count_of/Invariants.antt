@@ -1,0 +1,6 @@
+-- The bytes before the place are this one.
+use Rattle.std.proofs.Common.{◌≡◌, ◌<◌, ℕ, get_or}
+use Rattle.ar_answers.proofs.runs.count_of.Given as goal
+
+abbrev pub invariant-loop-place : goal.invariant-loop-place
+invariant-loop-place l = (k : ℕ) → k < l.place → get_or l.bytes k 0 ≡ l.byte

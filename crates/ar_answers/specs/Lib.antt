@@ -1,0 +1,5 @@
+pub mod Answers
+pub mod Orders
+pub mod Pictures
+pub mod Setups
+pub mod Texts
