@@ -1,5 +1,4 @@
 pub mod Answering
-pub mod Auditing
 pub mod Changing
 pub mod Commands
 pub mod Memory

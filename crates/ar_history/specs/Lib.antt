@@ -1,6 +1,6 @@
-pub mod Audit
 pub mod Recording
 -- definitions of lower crates that contracts of this crate cite
+pub use Rattle.ar_audit.specs.Audit
 pub use Rattle.ar_live.specs.Live
 pub use Rattle.ar_served.specs.Counts
 pub use Rattle.ar_served.specs.History

@@ -10,6 +10,5 @@ mod kept;
 mod operate;
 mod served_array;
 
-pub use audit::{Mismatch, Report, first_difference};
 pub use host::Served;
 pub use kept::Kept;

@@ -8,8 +8,8 @@ use Rattle.ar_extents.specs.declared.health.Health.{Health}
 use Rattle.ar_extents.specs.declared.refusal.DiskRefusal.{DiskRefusal}
 use Rattle.ar_language.specs.declared.order.Action.{Action}
 use Rattle.ar_language.specs.declared.order.Action.TheVariants.{AddDisk, DiskOut, Replace}
-use Rattle.ar_script.specs.Setups.{new_disk_for}
-use Rattle.ar_script.specs.Texts.{done_text}
+use Rattle.ar_answers.specs.Setups.{new_disk_for}
+use Rattle.ar_answers.specs.Texts.{done_text}
 use Rattle.ar_volume.specs.Image.{ArrayState}
 use Rattle.ar_volume.specs.declared.refusal.Refusal.TheVariants as refusals
 use Rattle.ar_operator.specs.declared.early.EarlyRefusal.{EarlyRefusal}

@@ -8,14 +8,15 @@ use Rattle.ar_language.specs.declared.order.Action.{Action}
 use Rattle.ar_language.specs.declared.order.Action.TheVariants.{DiskOut}
 use Rattle.ar_language.specs.declared.order.Order.TheVariants as orders
 use Rattle.ar_language.specs.Notations.{notation_in}
-use Rattle.ar_script.specs.Answers.{AppendsAnswer}
-use Rattle.ar_script.specs.Orders.{IsView, event_in}
-use Rattle.ar_script.specs.Texts.{outcome_text}
+use Rattle.ar_language.specs.Queries.{IsView}
+use Rattle.ar_answers.specs.Answers.{AppendsAnswer}
+use Rattle.ar_answers.specs.Orders.{event_in}
+use Rattle.ar_answers.specs.Texts.{outcome_text}
 use Rattle.ar_operator.specs.Early.{early_refusal, early_text}
-use Rattle.ar_operator.specs.Orders.{IsOperatorAction}
+use Rattle.ar_conversation.specs.Orders.{IsOperatorAction}
 use Rattle.ar_operator.specs.declared.early.EarlyRefusal.{EarlyRefusal}
-use Rattle.ar_operator.specs.declared.order.OperatorOrder.{OperatorOrder}
-use Rattle.ar_operator.specs.declared.order.OperatorOrder.TheVariants.{Act, Ask, ForceOut}
+use Rattle.ar_conversation.specs.declared.order.OperatorOrder.{OperatorOrder}
+use Rattle.ar_conversation.specs.declared.order.OperatorOrder.TheVariants.{Act, Ask, ForceOut}
 
 -- an operator's order on the array
 abbrev pub IsArrayOrder : OperatorOrder → Type 0

@@ -3,10 +3,10 @@
 ghost use Rattle.std.specs.Prelude.{◌≡◌, ◌++◌, OnOk};
 ghost use Rattle.ar_operator.specs.Early.{added_early, breaks_health, early_refusal, early_text, replaced_early};
 
+use ar_answers::write_outcome;
 use ar_core::{Array, DiskRefusal, Health, OutcomeOf, Refusal};
 use ar_disks::Disk;
 use ar_language::{Action, Notation};
-use ar_script::write_outcome;
 use std::alloc::AllocError;
 use std::io::Write;
 

@@ -1,16 +1,16 @@
 // An operator's order on an array with its history: an action is exactly one event, a query changes nothing. The answer
 // is written by the functions that scripts use.
 ghost use Rattle.std.specs.Prelude.{◌≡◌, IfOk, OnErr, length};
-ghost use Rattle.ar_script.specs.Setups.{new_disk, new_disk_for};
-ghost use Rattle.ar_operator.specs.Orders.{IsOperatorAction};
+ghost use Rattle.ar_answers.specs.Setups.{new_disk, new_disk_for};
+ghost use Rattle.ar_conversation.specs.Orders.{IsOperatorAction};
 ghost use Rattle.ar_operator.specs.Executing.{Executes, ExecutesAction, IsArrayOrder, Operated};
 
-use crate::OperatorOrder;
 use crate::early::{early_refusal, write_refusal};
+use ar_answers::{write_answer, write_outcome};
+use ar_conversation::OperatorOrder;
 use ar_core::{Array, Health, Outcome, OutcomeOf};
 use ar_disks::{Disk, Geometry, MemDisk};
 use ar_language::Action;
-use ar_script::{write_answer, write_outcome};
 use ar_served::{OperableArray, Task};
 use std::alloc::{AllocError, Global};
 use std::sync::ledger::Ledger;

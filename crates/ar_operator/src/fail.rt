@@ -3,11 +3,11 @@
 ghost use Rattle.std.specs.Prelude.{◌≡◌, OnOk, Some};
 ghost use Rattle.ar_picture.specs.Writing.{AddsSome};
 
-use crate::Fuse;
+use ar_answers::write_outcome;
 use ar_core::{Array, DiskRefusal, OutcomeOf, Refusal};
 use ar_disks::Disk;
+use ar_fuses::Fuse;
 use ar_language::Notation;
-use ar_script::write_outcome;
 use std::alloc::AllocError;
 
 /// Lets the disk of a number pass this many more accesses and fault at the next one, or pass all if None, and appends

@@ -1,13 +1,14 @@
 // New disks that are made before the array's lock is taken: to allocate one of 256 MiB takes about a second.
 ghost use Rattle.std.specs.Prelude.{◌≡◌};
-ghost use Rattle.ar_script.specs.Setups.{new_disk};
+ghost use Rattle.ar_answers.specs.Setups.{new_disk};
 
+use crate::DiskMaker;
 use crate::early::early_refusal;
-use crate::{DiskMaker, OperatorOrder};
+use ar_answers::new_disk;
+use ar_conversation::OperatorOrder;
 use ar_core::Array;
 use ar_disks::{Disk, Geometry, MemDisk};
 use ar_language::Action;
-use ar_script::new_disk;
 use std::alloc::{AllocError, Global};
 
 /// The shape of the new disk that an order is done with.

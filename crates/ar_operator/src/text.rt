@@ -76,36 +76,6 @@ pub fn write_session<W: Write>(
     }
 }
 
-/// Writes an iSCSI session, as a line: its number, its host, or that it is for discovery, the port of 127.0.0.1 that it
-/// comes from, if it has one, and its initiator's name.
-pub fn write_initiator<W: Write>(
-    out: &mut W,
-    number: u64,
-    host: Option<u8>,
-    peer: Option<u16>,
-    name: &[u8],
-) -> io::Result<()> {
-    write!(out, "iscsi {number} ")?;
-    write_purpose(out, host)?;
-    write_peer(out, peer)?;
-    out.write_all(name)?;
-    out.write_all(b"\n")
-}
-
-fn write_purpose<W: Write>(out: &mut W, host: Option<u8>) -> io::Result<()> {
-    match host {
-        Some(host) => write!(out, "host {host} "),
-        None => out.write_all(b"discovery "),
-    }
-}
-
-fn write_peer<W: Write>(out: &mut W, peer: Option<u16>) -> io::Result<()> {
-    match peer {
-        Some(port) => write!(out, "127.0.0.1:{port} "),
-        None => Ok(()),
-    }
-}
-
 /// Writes what was counted since the start: a line for each host, and one for each kind of maintenance.
 pub fn write_counts<W: Write>(out: &mut W, counts: &Counts) -> io::Result<()>
     ensures adds { OnOk result (AddsSome (W.contents out.old) (W.contents out.new)) }

@@ -1,9 +1,9 @@
 -- How a service that has ended ends the program.
 use Rattle.std.specs.Prelude.{◌≡◌, ⊤, ℕ, true, false, if◌then◌else◌, List, Result, Ok, Err, codes}
 use Rattle.ar_cli.specs.Exit.{status_after}
-use Rattle.ar_service.specs.declared.service.Closing.{Closing}
-use Rattle.ar_service.specs.declared.service.ServiceFault.{ServiceFault}
-use Rattle.ar_service.specs.declared.service.ServiceFault.TheVariants as faults
+use Rattle.ar_plan.specs.declared.plan.Closing.{Closing}
+use Rattle.ar_plan.specs.declared.plan.ServiceFault.{ServiceFault}
+use Rattle.ar_plan.specs.declared.plan.ServiceFault.TheVariants as faults
 use Rattle.ar_server.specs.declared.serve.ServeFault.{ServeFault}
 use Rattle.ar_server.specs.declared.serve.ServeFault.TheVariants as failures
 

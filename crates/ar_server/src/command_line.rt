@@ -1,9 +1,10 @@
 // From the options of the command line to what the libraries take.
 use crate::makes::{makes_of, numbers_of};
+use ar_answers::Setup;
+use ar_attached::IscsiPort;
 use ar_command_line::{ArrayOptions, OperatorDoor, ServeOptions, UnitOption};
-use ar_script::Setup;
-use ar_service::{HttpPort, IscsiPort, NewUnit, OperatorListener, OperatorPlace, Plan};
-use ar_sessions::Timeouts;
+use ar_doors::Timeouts;
+use ar_plan::{HttpPort, NewUnit, OperatorListener, OperatorPlace, Plan};
 use ar_status::ArrayName;
 use std::alloc::{AllocError, Global};
 use std::hash::RandomState;

@@ -2,7 +2,7 @@
 use ar_compaction::Makes;
 use ar_core::Array;
 use ar_disks::{Addr, Disk, Host};
-use ar_service::NewUnit;
+use ar_plan::NewUnit;
 
 /// Those of a new array, once these units are created.
 pub fn makes_of(units: &[NewUnit]) -> Makes {

@@ -2,8 +2,8 @@
 // socket here, by the runtime's own type: that of the log makes no sockets with files.
 use crate::serve::ServeFault;
 use ar_command_line::OperatorDoor;
-use ar_service::OperatorListener;
-use ar_sessions::SocketFile;
+use ar_doors::SocketFile;
+use ar_plan::OperatorListener;
 use std::alloc::Global;
 
 /// The operators' door before the service begins.

@@ -4,12 +4,14 @@ ghost use Rattle.ar_server.specs.Ends.{EndsWell, ExitsBy, IsFailureOf, stop_answ
 
 use crate::command_line::{RandomNumbers, Service};
 use crate::operators::{OperatorsEntry, remove_file};
+use ar_audit::Mismatch;
 use ar_cli::ExitStatus;
 use ar_command_line::Audit;
 use ar_core::Refusal;
-use ar_history::Mismatch;
-use ar_operator::{Fuse, FusedDisk, FusedMaker, start_fused};
-use ar_service::{Closing, ServiceFault, ServiceRuntime, TcpStops, serve};
+use ar_fuses::{Fuse, FusedDisk};
+use ar_operator::{FusedMaker, start_fused};
+use ar_plan::{Closing, ServiceFault, ServiceRuntime};
+use ar_service::{TcpStops, serve};
 use std::alloc::{AllocError, Global};
 use std::io;
 use std::marker::Brand;

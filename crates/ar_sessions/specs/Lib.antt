@@ -3,7 +3,6 @@ pub mod Desk
 pub mod Discarding
 pub mod Ends
 pub mod Flushing
-pub mod Limits
 pub mod Port
 pub mod Refusing
 -- definitions of lower crates that clauses of this crate cite

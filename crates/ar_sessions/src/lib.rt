@@ -5,33 +5,19 @@
 #![tactic(auto)]
 
 mod background;
-mod crowd;
 mod desk;
 mod discarding;
-mod door;
 mod flushing;
-mod limits;
-mod listener;
 mod notes;
-mod polling;
 mod pool;
 mod port;
-mod refusals;
 mod refusing;
 mod sessions;
-mod socket;
-mod socket_file;
-mod tcp;
 mod timing;
 
 pub use background::run_background;
 pub use desk::{Desk, Receipt, SeatDesk, SeatSlot, SessionCounts};
-pub use door::{Door, MemDoor};
 pub use pool::{Handler, MOST_AT_ONCE, SharedDoor, Starter, run_pool, start_pool};
 pub use port::LockPort;
-pub use refusals::Refusals;
 pub use sessions::{ConnectionEnd, NoMemory, run_beside_background, run_sessions};
-pub use socket::{SocketReader, SocketWriter};
-pub use socket_file::SocketFile;
-pub use tcp::{ANY_NUMBER, ListenFault, Protocol, TcpDoor, TcpReader, TcpWriter, Timeouts};
 pub use timing::CommandTime;

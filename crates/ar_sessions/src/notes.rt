@@ -1,6 +1,7 @@
 // The log of sessions: a line for each start and each end, where the level `Info` is logged, and a warning for each
 // refusal.
-use crate::{Receipt, Refusals};
+use crate::Receipt;
+use ar_doors::Refusals;
 use ar_frames::{EndReason, SessionEnd};
 use log::{Log, info};
 use std::time::{Clock, Duration, Instant};

@@ -5,7 +5,8 @@ ghost use Rattle.ar_sessions.specs.Ends.{GivesBack, HandlesNext, TakesNext};
 
 use crate::notes::note_refusal;
 use crate::sessions::{Connection, Shared};
-use crate::{Desk, Door, NoMemory, Receipt, Refusals};
+use crate::{Desk, NoMemory, Receipt};
+use ar_doors::{Door, Refusals};
 use ar_frames::{Gate, NoGate, SessionEnd, Sink, Source};
 use ar_served::ServedArray;
 use log::Log;

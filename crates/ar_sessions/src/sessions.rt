@@ -8,7 +8,8 @@ ghost use Rattle.ar_sessions.specs.Ends.{IsServedOver, IsPromised, GivesBack, Le
 ghost use Rattle.ar_sessions.specs.Ends.{ConnectionEnds, EndOf};
 
 use crate::notes::{note_end, note_start};
-use crate::{Desk, Door, LockPort, Receipt, Refusals, run_background};
+use crate::{Desk, LockPort, Receipt, run_background};
+use ar_doors::{Door, Refusals};
 use ar_frames::{EndReason, Gate, SessionEnd, Sink, Source, serve_gated};
 use ar_served::ServedArray;
 use log::Log;

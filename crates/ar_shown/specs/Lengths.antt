@@ -2,7 +2,7 @@
 use Rattle.std.specs.Prelude.{ℕ, ◌+◌, List, [], ◌∷◌, Option}
 use Rattle.ar_book.specs.Tables.{Tables}
 use Rattle.ar_core.specs.Views.{sectors_at}
-use Rattle.ar_script.specs.Pictures.{addr_at}
+use Rattle.ar_answers.specs.Pictures.{addr_at}
 
 -- the sectors of the unit with a place, if there is one
 abbrev pub unit_size : Tables → ℕ → Option ℕ

@@ -1,6 +1,6 @@
 // The lengths of an array's units, of which it knows the number of sectors without a look at their blocks.
 ghost use Rattle.std.specs.Prelude.{◌≡◌, ◌<◌};
-ghost use Rattle.ar_script.specs.Pictures.{addr_at};
+ghost use Rattle.ar_answers.specs.Pictures.{addr_at};
 ghost use Rattle.ar_shown.specs.Lengths.{lengths_from, lengths_in, unit_size};
 
 use ar_core::Array;

@@ -1,11 +1,7 @@
-// What the pages show of an array with its history: numbers, and its picture.
-ghost use Rattle.std.specs.Prelude.{◌≡◌, ◌-◌, ◌++◌, IfOk, OnOk, None, Some, true, false, if◌then◌else◌, length, map};
-ghost use Rattle.std.specs.Prelude.{option_map};
+// What the pages show of an array with its history, in numbers.
+ghost use Rattle.std.specs.Prelude.{◌≡◌, ◌-◌, ◌++◌, None, length, map, option_map};
 ghost use Rattle.std.specs.List.{range_with_len};
 ghost use Rattle.ar_served.specs.declared.counts.HostCounts.{HostCounts};
-ghost use Rattle.ar_operator.specs.Executing.{Executes, IsArrayOrder};
-ghost use Rattle.ar_picture.specs.Writing.{AddsSome};
-ghost use Rattle.ar_script.specs.Pictures.{IsPicture};
 ghost use Rattle.ar_shown.specs.Shown.{IsStatusOf, SeesArray, counters_watched, health_watched, host_watched};
 ghost use Rattle.ar_shown.specs.Shown.{lost_watched, operations_watched, replies_watched, steps_watched};
 ghost use Rattle.ar_shown.specs.Shown.{store_health_watched, store_watched};
@@ -13,24 +9,16 @@ ghost use Rattle.ar_shown.specs.Shown.{store_health_watched, store_watched};
 use crate::lengths::lengths_of;
 use ar_core::{Array, Counters, Health};
 use ar_disks::Disk;
+use ar_fuses::DiskCounts;
 use ar_latency::CommandLatencies;
-use ar_operator::{
-    DiskCounts, DiskMaker, Fuse, Inventory, OperatorOrder, Prepared, SpareDisk, UnitNames,
-    WantedDisk, execute, set_fuse, wanted_disk,
-};
-use ar_picture::Picture;
-use ar_script::picture_of;
 use ar_served::{
-    Counts, HostCounts, OperableArray, OperationCounts, ReplyCounts, ServedArray, StoreState,
-    StoreStatus, TaskCounts,
+    Counts, HostCounts, OperationCounts, ReplyCounts, StoreState, StoreStatus, TaskCounts,
 };
 use ar_status::{
     ArrayCounters, ArrayHealth, ArrayName, ArrayStatus, DiskCounters, DiskList, EventLog,
     HostCounters, MaintenanceSteps, OperationCounters, RecentEvents, RecentSamples, RefusedLogins,
     ReplyCounters, SessionNumbers, StoreHealth, StoreNumbers,
 };
-use std::alloc::{AllocError, Global};
-use std::sync::ledger::Ledger;
 
 /// Bytes that an entry takes in the list of the history.
 const ENTRY_LEN: u64 = 136;
@@ -55,131 +43,9 @@ pub struct Beside {
     pub samples: RecentSamples,
 }
 
-/// A served array, as operators use it and the pages show it, whatever its disks are. `M` makes its new disks.
-pub trait ControlledArray<L: Ledger, M>: ServedArray<L> {
-    /// Returns the shape of its disks.
-    fn disk_shape(&self) -> WantedDisk;
-
-    /// Returns which new disk an order wants (`ar_operator::wanted_disk`).
-    fn wanted_disk(&self, order: OperatorOrder) -> Option<WantedDisk>;
-
-    /// Executes an order and appends its answer to `out` (`ar_operator::execute`). A new disk is the spare one, if that
-    /// has its shape.
-    fn execute(
-        &mut self,
-        alloc: Global,
-        disks: &mut M,
-        spare: &mut Option<SpareDisk>,
-        order: OperatorOrder,
-        out: &mut Vec<u8>,
-    ) -> Result<(), AllocError>
-        requires { IsArrayOrder order }
-        ensures { Executes order (Self.state self.old) out.old.items result out.new.items (Self.state self.new) };
-
-    /// Sets the fuse of a disk, and appends the answer (`ar_operator::set_fuse`).
-    fn set_fuse(
-        &self,
-        fuses: &[Fuse; 12],
-        disk: u8,
-        accesses: Option<u64>,
-        out: &mut Vec<u8>,
-    ) -> Result<(), AllocError>
-        ensures { OnOk result (AddsSome (Some out.old.items) (Some out.new.items)) };
-
-    /// Compares the array with how it was seen last, and lists what has happened.
-    fn see(&self, seconds: u64, log: &mut EventLog)
-        ensures { SeesArray seconds (Self.state self.now).array log.old log.new };
-
-    /// Returns the status of the array with these events, its store, if there is one, and what is shown beside it.
-    fn status(
-        &self,
-        store: Option<StoreStatus>,
-        events: RecentEvents,
-        beside: &Beside,
-    ) -> ArrayStatus
-        ensures { IsStatusOf (Self.state self.now).array (Self.state self.now).counts
-            (if Self.stores then length (Self.state self.now).history else 0) store events beside.now result };
-
-    /// Returns the data of the array's picture. It fails only when out of memory.
-    fn picture(&self, alloc: Global) -> Result<Picture, AllocError>
-        ensures { IfOk result (IsPicture (Self.state self.now).array) };
-
-    /// Returns what operators are shown of the array (`ar_operator::Inventory`). It fails only when out of memory.
-    fn inventory(
-        &self,
-        alloc: Global,
-        fuses: &[Fuse; 12],
-        names: Option<UnitNames>,
-    ) -> Result<Inventory, AllocError>;
-}
-
-impl<A: OperableArray<L>, L: Ledger, M: DiskMaker<A::Disk>> ControlledArray<L, M> for A {
-    fn disk_shape(&self) -> WantedDisk {
-        WantedDisk::of(self.array())
-    }
-
-    fn wanted_disk(&self, order: OperatorOrder) -> Option<WantedDisk> {
-        wanted_disk(self.array(), order)
-    }
-
-    fn execute(
-        &mut self,
-        alloc: Global,
-        disks: &mut M,
-        spare: &mut Option<SpareDisk>,
-        order: OperatorOrder,
-        out: &mut Vec<u8>,
-    ) -> Result<(), AllocError> {
-        execute(alloc, self, &mut Prepared::new(disks, spare), order, out)
-    }
-
-    fn set_fuse(
-        &self,
-        fuses: &[Fuse; 12],
-        disk: u8,
-        accesses: Option<u64>,
-        out: &mut Vec<u8>,
-    ) -> Result<(), AllocError> {
-        set_fuse(self.array(), fuses, disk, accesses, out)
-    }
-
-    fn see(&self, seconds: u64, log: &mut EventLog) {
-        see_array(self.array(), seconds, log);
-    }
-
-    fn status(
-        &self,
-        store: Option<StoreStatus>,
-        events: RecentEvents,
-        beside: &Beside,
-    ) -> ArrayStatus {
-        status_with(
-            self.array(),
-            &self.counts(),
-            (self.stored_entries(), self.stored_room()),
-            store,
-            events,
-            beside,
-        )
-    }
-
-    fn picture(&self, alloc: Global) -> Result<Picture, AllocError> {
-        picture_of(alloc, self.array())
-    }
-
-    fn inventory(
-        &self,
-        alloc: Global,
-        fuses: &[Fuse; 12],
-        names: Option<UnitNames>,
-    ) -> Result<Inventory, AllocError> {
-        Inventory::of(alloc, self.array(), fuses, names)
-    }
-}
-
-// The status of an array with this many entries of its history stored, and memory for that many, and with a store,
-// perhaps.
-fn status_with<D: Disk>(
+/// Returns the status of an array with this many entries of its history stored, and memory for that many, and with a
+/// store, perhaps.
+pub fn status_with<D: Disk>(
     array: &Array<D>,
     counts: &Counts,
     stored: (usize, usize),
@@ -198,8 +64,8 @@ fn status_with<D: Disk>(
     }
 }
 
-// Compares an array with how it was seen last.
-fn see_array<D: Disk>(array: &Array<D>, seconds: u64, log: &mut EventLog)
+/// Compares an array with how it was seen last, and lists what has happened.
+pub fn see_array<D: Disk>(array: &Array<D>, seconds: u64, log: &mut EventLog)
     ensures { SeesArray seconds array.now log.old log.new }
 {
     log.see(seconds, health_of(array.health()), array.disks());

@@ -9,15 +9,15 @@ use ar_compaction::StoreHead;
 use ar_copies::Losses;
 use ar_disks::Disk;
 use ar_durable::{CommitPolicy, DurableArray};
+use ar_fuses::{Fuse, FusedDisk};
 use ar_live::LiveArray;
 use ar_media::Media;
-use ar_operator::{DiskMaker, Fuse, FusedDisk, FusedMaker};
+use ar_operator::{DiskMaker, FusedMaker};
+use ar_plan::{Closing, OperatorListener, Plan, ServiceFault, ServiceRuntime};
 use ar_server::{
     OperatorsEntry, RandomNumbers, Service, conclude, makes_with, numbers_of, remove_file,
 };
-use ar_service::{
-    Closing, OperatorListener, Plan, ServiceFault, ServiceRuntime, TcpStops, serve_lasting,
-};
+use ar_service::{Begun, TcpStops, begin_lasting, end_lasting, serve_array};
 use ar_status::ArrayName;
 use ar_stored::{StoreFile, TakenUp, compact, folders_of, setup_in, take_up};
 use std::alloc::Global;
@@ -100,8 +100,9 @@ fn serve_by<'s, R: ServiceRuntime + Sync>(
     Ok((stops, served))
 }
 
-// Serves an array that was taken up, with its store. (The parameters stand as those of `serve_lasting`, by whose places
-// threads know them.)
+// Serves an array that was taken up, with its store. (Three calls, since the check of one that takes the array by all
+// of its traits meets the limit of steps. The parameters stand as those of `serve_array`, by whose places threads know
+// them.)
 fn serve_taken_up<
     's,
     D: Disk + Drop + Send,
@@ -125,7 +126,7 @@ fn serve_taken_up<
     requires records { AreRecords M.seen M.is_clean taken_up.2 taken_up.0.history }
 {
     let (live, head, store) = taken_up;
-    let (durable, seats) = DurableArray::<'s, D, L, M, R>::resume(
+    let (mut durable, seats) = DurableArray::<'s, D, L, M, R>::resume(
         rt,
         alloc,
         blank,
@@ -134,9 +135,15 @@ fn serve_taken_up<
         store,
         policy,
     );
-    serve_lasting::<DurableArray<'s, D, L, M, R>, L, C, R>(
-        rt, alloc, durable, seats, disks, stop, plan,
-    )
+    let (made, log) = begin_lasting::<DurableArray<'s, D, L, M, R>, L>(&mut durable, plan.units);
+    let is_made = made.is_ok();
+    let begun = Begun { made, seats, log };
+    let (stops, served, durable, desk) = serve_array::<DurableArray<'s, D, L, M, R>, L, C, R>(
+        rt, alloc, durable, begun, disks, stop, plan,
+    );
+    drop(desk);
+    let (ended, closing) = end_lasting::<DurableArray<'s, D, L, M, R>, L>(durable, is_made);
+    (stops, ended.and(served).map(|()| closing))
 }
 
 // When records are committed.

@@ -4,8 +4,8 @@ use Rattle.std.proofs.lemmas.Result.{IfOk-at_ok}
 use Rattle.ar_disks.specs.Disk.{DiskState}
 use Rattle.ar_extents.specs.Changes.{start_fault}
 use Rattle.ar_volume.specs.Start.{IsStarted}
-use Rattle.ar_script.proofs.FaultLemmas.{ok_before}
-use Rattle.ar_script.specs.Setups.{disks_of}
+use Rattle.ar_answers.proofs.FaultLemmas.{ok_before}
+use Rattle.ar_answers.specs.Setups.{disks_of}
 use Rattle.ar_operator.proofs.fused.start_fused.Goals as goal
 
 -- the disks that the array was given are those of the setup

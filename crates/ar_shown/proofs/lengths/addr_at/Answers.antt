@@ -1,7 +1,7 @@
 use Rattle.std.proofs.Common.{◌%◌, ◌∙◌, sym, refl, arith, mod-eq_of_lt}
 use Rattle.ar_disks.specs.declared.address.Addr.{Addr}
 use Rattle.ar_disks.proofs.Addresses.{same_host, make_addr}
-use Rattle.ar_script.specs.Pictures.{addr_at}
+use Rattle.ar_answers.specs.Pictures.{addr_at}
 use Rattle.ar_shown.proofs.lengths.addr_at.Goals as goal
 
 pub returns : goal.returns

@@ -3,8 +3,8 @@ use Rattle.std.specs.Prelude.{All, OnOk, IfOk, count_by, ◌≡◌, sum}
 use Rattle.ar_served.specs.declared.entry.Entry.{Entry}
 use Rattle.ar_served.specs.History.{IsLegal, is_command}
 use Rattle.ar_served.specs.Kept.{KeptState}
-use Rattle.ar_history.specs.Audit.{IsTranscriptIsolated}
-use Rattle.ar_history.proofs.Auditing.{all_isolated, none_else}
+use Rattle.ar_audit.specs.Audit.{IsTranscriptIsolated}
+use Rattle.ar_audit.proofs.Auditing.{all_isolated, none_else}
 use Rattle.ar_history.proofs.kept.Kept.close.Goals as goal
 
 pub returns-clause-isolated : goal.returns-clause-isolated

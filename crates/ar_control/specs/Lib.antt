@@ -1,0 +1,3 @@
+pub mod Control
+-- definitions of lower crates that clauses of this crate cite
+pub use Rattle.ar_operator.specs.Executing

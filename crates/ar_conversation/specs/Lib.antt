@@ -1,0 +1,5 @@
+pub mod Controller
+pub mod Faults
+pub mod Lines
+pub mod Orders
+pub mod Talk

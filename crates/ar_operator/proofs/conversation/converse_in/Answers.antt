@@ -1,7 +1,0 @@
-use Rattle.ar_operator.proofs.Talking.{heard}
-use Rattle.ar_operator.proofs.conversation.converse_in.Goals as goal
-
-pub returns : goal.returns
-returns g c =
-    heard g.C.Controller.answers c.new-piece.result c.answer_lines.new.piece _ _ _ _ _ _ c.answer_lines.result
-    c.new-piece.ensures c.answer_lines.ensures

@@ -1,7 +1,0 @@
-use Rattle.std.proofs.Common.{◌∙◌, ap, take}
-use Rattle.std.proofs.lemmas.List.{take-map}
-use Rattle.ar_shown.specs.Names.{shown_byte}
-use Rattle.ar_shown.proofs.initiator_name.InitiatorName.shown.Goals as goal
-
-pub returns : goal.returns
-returns c = ap (take c.args.self.count) c.show.ensures ∙ take-map shown_byte c.args.self.count c.args.self.bytes
