@@ -2,8 +2,8 @@
 use crate::cost::Round;
 use crate::stage::Size;
 use crate::workload::Workload;
+use ar_answers::Setup;
 use ar_disks::Geometry;
-use ar_script::Setup;
 use std::alloc::Global;
 use std::io;
 use std::io::Write;

@@ -1,8 +1,9 @@
 // Scripts whose input, output or array fails, lines and answers that are long, and texts that no script meets.
+use ar_answers::{Setup, write_health, write_outcome};
 use ar_core::{Balance, Health, OutcomeOf, Rebuild, Refusal, UnitRefusal};
 use ar_disks::Geometry;
 use ar_language::{Fault, FaultKind, Notation};
-use ar_script::{Setup, run_script, write_health, write_outcome};
+use ar_script::run_script;
 use ar_scsi::Reply;
 use bytes::Bytes;
 use std::fmt::Debug;

@@ -1,6 +1,6 @@
 // Tables of calls, played by way of the hosts' seats.
 use crate::rig::Rig;
-use ar_history::Report;
+use ar_audit::Report;
 use std::process::Abort;
 use std::sync::ledger::Ledger;
 use test_support::{Row, Shape, event, returned};

@@ -1,8 +1,8 @@
 // Transcripts that were tampered with, beside the history of which they were a part.
 use crate::calls::{After, plays_rows};
 use crate::rig::{Play, Rig, plays};
+use ar_audit::first_difference;
 use ar_disks::Host;
-use ar_history::first_difference;
 use ar_scsi::{Reply, Sense};
 use ar_served::{Entry, Exchange};
 use std::process::Abort;

@@ -216,7 +216,8 @@ fn a_lost_copy_is_made_again(rt: HostRuntime) -> Result<(), AllocError> {
     begin(&rt, &mut file, file_of(&rt, b"", u64::MAX)?);
     play(&rt, &mut file, &CALLS);
     assert!(rt; losses.is_degraded(), "until the copy is whole");
-    assert!(rt; file.end_copy(true) && !losses.is_degraded());
+    assert!(rt; file.end_copy(true) == Ok(()) && !losses.is_degraded());
+    assert!(rt; losses.has_new_copy());
     hold(&rt, &file, b"QbXY", b"QbXY");
     drop(file);
     Ok(())
@@ -253,7 +254,8 @@ fn the_only_copy_fails_while_another_is_made(rt: HostRuntime) -> Result<(), Allo
         ],
     );
     hold(&rt, &file, b"QbX", b"abXY");
-    assert!(rt; !file.end_copy(true) && !losses.is_degraded());
+    assert!(rt; file.end_copy(true) == Err(MediaError::Full) && !losses.is_degraded());
+    assert!(rt; !losses.has_new_copy());
     drop(file);
     Ok(())
 }

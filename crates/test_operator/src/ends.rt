@@ -2,8 +2,8 @@
 ghost use Rattle.std.specs.Prelude.{None};
 
 use crate::rig::{Play, Taker, is_end, plays, says};
+use ar_conversation::{Controller, OperatorEnd, OperatorOrder, converse};
 use ar_frames::Source;
-use ar_operator::{Controller, OperatorEnd, OperatorOrder, converse};
 use std::alloc::AllocError;
 
 #[test]

@@ -1,6 +1,6 @@
 // The faults of a line. Those of its bytes end the conversation, the others don't.
 use crate::rig::{Play, Row, plays};
-use ar_operator::OperatorEnd;
+use ar_conversation::OperatorEnd;
 use std::alloc::Global;
 use std::process::Abort;
 

@@ -1,15 +1,17 @@
 // A kept array on fuses, and its controller.
 ghost use Rattle.std.specs.Prelude.{◌≡◌, [], None};
 
+use ar_answers::Setup;
+use ar_conversation::{Controller, OperatorEnd, OperatorOrder, converse};
 use ar_core::Array;
 use ar_disks::Geometry;
 use ar_frames::{MemSource, Sink};
+use ar_fuses::{Fuse, FusedDisk};
 use ar_history::Kept;
+use ar_inventory::{Inventory, UnitNames};
 use ar_operator::{
-    Controller, Fuse, FusedDisk, FusedMaker, Inventory, OperatorEnd, OperatorOrder, UnitNames,
-    converse, execute, set_fuse, start_fused, write_counts, write_help, write_version,
+    FusedMaker, execute, set_fuse, start_fused, write_counts, write_help, write_version,
 };
-use ar_script::Setup;
 use ar_served::Seat;
 use bytes::Bytes;
 use std::alloc::{AllocError, Global};

@@ -3,8 +3,9 @@
 ghost use Rattle.std.specs.Prelude.{true, ⊤};
 
 use crate::rig::{Play, Rig, plays};
+use ar_doors::Door;
 use ar_frames::{EndReason, MemSink, MemSource, NoGate, SessionEnd};
-use ar_sessions::{ConnectionEnd, Door, run_beside_background};
+use ar_sessions::{ConnectionEnd, run_beside_background};
 use log::Log;
 use std::alloc::Global;
 use std::process::Abort;

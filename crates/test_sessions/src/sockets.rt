@@ -4,9 +4,10 @@ ghost use Rattle.ar_frames.specs.Frame.{most_data};
 
 use crate::frames::{LOGINS, TUR};
 use crate::rig::{Play, Rig, plays};
+use ar_doors::{Door, ListenFault, TcpDoor};
 use ar_frames::{EndReason, Linked, NoGate, Progress, SessionEnd, Sink, Source, ask, hello};
 use ar_scsi::{Reply, Status};
-use ar_sessions::{ConnectionEnd, Door, ListenFault, TcpDoor, run_beside_background};
+use ar_sessions::{ConnectionEnd, run_beside_background};
 use log::Log;
 use std::alloc::Global;
 use std::io::{Read, Write};

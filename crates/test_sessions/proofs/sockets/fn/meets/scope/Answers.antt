@@ -11,8 +11,8 @@ use Rattle.std.specs.contracts.impls.GlobalAllocator.TheImpl as allocator
 use Rattle.ar_disks.proofs.fuse.FuseDisk.TheSendSync as fuse
 use Rattle.ar_frames.proofs.linked.Linked.TheSendSync as linked
 use Rattle.ar_history.proofs.kept.Kept.TheSendSync as kept
-use Rattle.ar_sessions.specs.contracts.socket.SocketReader as reader
-use Rattle.ar_sessions.proofs.socket.SocketReader.TheSendSync as socket
+use Rattle.ar_doors.specs.contracts.socket.SocketReader as reader
+use Rattle.ar_doors.proofs.socket.SocketReader.TheSendSync as socket
 use Rattle.test_sessions.proofs.sockets.fn.meets.scope.Goals as goal
 
 pub run_beside_background-requires-send-A : goal.run_beside_background-requires-send-A
