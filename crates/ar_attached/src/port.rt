@@ -1,4 +1,4 @@
-// Where initiators connect, and what they are told.
+// Where initiators connect, and what is reported to them.
 /// The door of initiators, and what is reported to them of the array.
 #[derive(Clone, Copy)]
 pub struct IscsiPort {

@@ -238,8 +238,8 @@ impl<M: Media + Drop> Store<M> {
         self.journal.join_selector(selector)
     }
 
-    /// Ends a copy that was begun: `Ok` where the store has two now. Otherwise why not: it isn't complete (`Closed`), or
-    /// was lost meanwhile.
+    /// Ends a copy that was begun: `Ok` where the store has two now. Otherwise why not: it isn't complete (`Closed`),
+    /// or was lost meanwhile.
     pub fn end_copy<F: Media + Drop>(&self, is_complete: bool) -> Result<(), MediaError>
     where
         M: CopiedMedia<F>,

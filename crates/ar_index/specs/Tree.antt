@@ -120,7 +120,7 @@ pub record IsRight (place : Addr → ℕ) (t : TreeState) : Type 0 where
   pub joined : AreJoinedBut place t.size t.nodes 0
   pub behind : (i : ℕ) → t.size + t.count ≤ i → node_at t.nodes i ≡ None
 
--- the steps that setting a leaf adds to a count, one for each node joined: each below the last has changed, none above has
+-- the steps of setting a leaf, one for each node that is joined: each below the last has changed, none above it has
 pub record CountsJoins (old new : TreeState) (leaf before after : ℕ) : Type 0 where
   pub on : before ≤ after
   pub changed : HaveChanged old.nodes new.nodes (old.size + leaf) 0 (after - before)

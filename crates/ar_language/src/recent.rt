@@ -1,6 +1,6 @@
 // Remembers what was read last, so that a faulty line can be looked at as it was: two pieces, of which the second has
-// room for more until it is longer than a line, and the older is dropped whole. A line of at most 4,096 bytes is in them
-// while the reader above is in the piece that ends it.
+// room for more until it is longer than a line, and the older is dropped whole. A line of at most 4,096 bytes is in
+// them while the reader above is in the piece that ends it.
 use crate::explain::{Explanation, explanation_of};
 use crate::scan::line_feeds;
 use crate::{Fault, FaultKind};

@@ -97,8 +97,8 @@ pub record CarriesOutDemotion (old new : StoreState) : Type 0 where
   pub made : (key : Key) (group : ℕ) → IsOldestMirrored old.book key → HasNoHole old.book Parity
       → 2 ≤ free_groups old.book → IsLowestFree old.book group → OpensThenMoves key group old new
 
--- A demotion returned, whatever the rule chose. Exactly the rule's move was carried out, and no block has changed; where
--- it returns `Broken`, the group that the rule opens is open.
+-- A demotion returned, whatever the rule chose. Exactly the rule's move was carried out, and no block has changed;
+-- where it returns `Broken`, the group that the rule opens is open.
 pub record DemotionDone (old : StoreState) (result : Move) (new : StoreState) : Type 0 where
   pub broken : (result ≡ Broken) ↔ (new.disks.health ≡ AllBroken)
   pub opened : result ≡ Broken → MayHaveOpened old.book new.book
